@@ -1,0 +1,38 @@
+-- A table of payments, and the rows of a window.
+--     Table              three columns: day, first account, second account. Row numbers start at 0
+--     size t             the number of rows
+--     dayOf t j          the day of row j
+--     firstOf, secondOf  its two accounts
+--     inWindow s e d     day d lies in the window [s, e]
+--     windowRows t s e   the rows that the window [s, e] takes
+use Prim.Native.Nat.{ℕ}
+use mathlib.Core.Bool.{Bool}
+use mathlib.Core.List.{List}
+use lib.ListN.{length}
+use lib.Dec.{leb}
+use Rattle.rings.specs.Words.{_and_, at, run}
+
+-- 01: "A row is one payment: a day and two accounts. A table is three lent columns of 16-bit numbers." A temporal graph, a row a temporal edge (001, section II)
+pub record Table : Type 0 where
+  pub days : List ℕ
+  pub first : List ℕ
+  pub second : List ℕ
+
+unfoldable pub size : Table → ℕ
+size t = length (t .days)
+
+unfoldable pub dayOf : Table → ℕ → ℕ
+dayOf t j = at (t .days) j
+
+unfoldable pub firstOf : Table → ℕ → ℕ
+firstOf t j = at (t .first) j
+
+unfoldable pub secondOf : Table → ℕ → ℕ
+secondOf t j = at (t .second) j
+
+unfoldable pub inWindow : ℕ → ℕ → ℕ → Bool
+inWindow s e d = leb s d and leb d e
+
+-- 01: "A window [s, e] takes the rows with s ≤ day ≤ e"
+unfoldable pub windowRows : Table → ℕ → ℕ → List Bool
+windowRows t s e = run (λ j. inWindow s e (dayOf t j)) 0 (size t)

@@ -1,0 +1,55 @@
+-- Minimal windows, and recall from a list of them.
+--     Window             a start and an end
+--     windows lo hi      all windows inside the range [lo, hi], by start, then end
+--     Entry              a row with a window: an entry of a minimal-window list
+--     smaller s e s' e'  the window [s', e'] lies inside [s, e] and is not [s, e]
+--     minimal t q j s e  [s, e] is a minimal window of row j (001, Definition 5: minimal core window)
+--     minimalWindows t q lo hi   all entries of the range, by row, then start
+--     entries r s e      the entries that three columns hold
+--     recalled es s e j  row j has a listed window inside [s, e]
+use Prim.Native.Nat.{ℕ, suc, _-_}
+use mathlib.Core.Bool.{Bool}
+use mathlib.Core.List.{List, map}
+use lib.ListN.{length}
+use lib.Dec.{leb, eqb}
+use Rattle.rings.specs.Words.{_and_, no, at, every, run, joined, chosen, oneOf}
+use Rattle.rings.specs.Table.{Table, size}
+use Rattle.rings.specs.Ring.{inRing}
+use Rattle.rings.specs.declared.Query.{Query}
+
+pub record Window : Type 0 where
+  pub start : ℕ
+  pub end : ℕ
+
+unfoldable pub windowsFrom : ℕ → ℕ → List Window
+windowsFrom hi s = run (λ e. record { start = s; end = e }) s (suc hi - s)
+
+unfoldable pub windows : ℕ → ℕ → List Window
+windows lo hi = joined (run (windowsFrom hi) lo (suc hi - lo))
+
+pub record Entry : Type 0 where
+  pub row : ℕ
+  pub start : ℕ
+  pub end : ℕ
+
+unfoldable pub smaller : ℕ → ℕ → ℕ → ℕ → Bool
+smaller s e s′ e′ = leb s s′ and leb s′ e′ and leb e′ e and no (eqb s s′ and eqb e e′)
+
+-- 01: "a window whose ring has the row, while no smaller window inside it does"
+unfoldable pub minimal : Table → Query → ℕ → ℕ → ℕ → Bool
+minimal t q j s e = inRing t q s e j and every (λ s′. every (λ e′. no (smaller s e s′ e′ and inRing t q s′ e′ j)) (suc e)) (suc e)
+
+-- the minimal windows of row j inside the range, by start
+unfoldable pub minimalOf : Table → Query → ℕ → ℕ → ℕ → List Entry
+minimalOf t q lo hi j = map (λ w. record { row = j; start = w .start; end = w .end }) (chosen (λ w. minimal t q j (w .start) (w .end)) (windows lo hi))
+
+-- 01: "columns row, start, end, ordered by row, then start"
+unfoldable pub minimalWindows : Table → Query → ℕ → ℕ → List Entry
+minimalWindows t q lo hi = joined (run (minimalOf t q lo hi) 0 (size t))
+
+unfoldable pub entries : List ℕ → List ℕ → List ℕ → List Entry
+entries rows starts ends = run (λ i. record { row = at rows i; start = at starts i; end = at ends i }) 0 (length rows)
+
+-- 01: "marks 1 each row with a listed window inside [s, e]"
+unfoldable pub recalled : List Entry → ℕ → ℕ → ℕ → Bool
+recalled es s e j = oneOf (λ x. eqb (x .row) j and leb s (x .start) and leb (x .end) e) es

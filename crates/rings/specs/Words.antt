@@ -1,0 +1,74 @@
+-- Words on truth values, lists and counts that the definitions share. Each computes, and each stays shut until a proof opens it.
+--     _and_, _or_, no    both; one or the other; not
+--     at xs i            the number at place i of a list, 0 past its end
+--     marked m j         row j belongs to the row set m: a row set is a list of marks, one for each row
+--     some p n           p holds of a number below n
+--     every p n          p holds of each number below n
+--     count p n          how many numbers below n have p
+--     run f i n          the list f i, f (i + 1), .., n entries long
+--     joined xss         the lists of a list, one after the other
+--     chosen p xs        the entries of a list that have p, in their order
+--     oneOf p xs         an entry of a list has p
+use Prim.Native.Nat.{ℕ, zero, suc}
+use mathlib.Core.Bool.{Bool, true, false}
+use mathlib.Core.List.{List, [], _∷_, _++_}
+use lib.ListN.{getD}
+
+infixr 40 _and_
+infixr 35 _or_
+
+unfoldable pub _and_ : Bool → Bool → Bool
+true and b = b
+false and b = false
+
+unfoldable pub _or_ : Bool → Bool → Bool
+true or b = true
+false or b = b
+
+unfoldable pub no : Bool → Bool
+no true = false
+no false = true
+
+unfoldable pub at : List ℕ → ℕ → ℕ
+at xs i = getD xs i 0
+
+unfoldable pub marked : List Bool → ℕ → Bool
+marked m j = getD m j false
+
+unfoldable pub some : (ℕ → Bool) → ℕ → Bool
+some p zero = false
+some p (suc n) = p n or some p n
+
+unfoldable pub every : (ℕ → Bool) → ℕ → Bool
+every p zero = true
+every p (suc n) = p n and every p n
+
+-- n, or one more where the test holds
+unfoldable pub tally : Bool → ℕ → ℕ
+tally true n = suc n
+tally false n = n
+
+unfoldable pub count : (ℕ → Bool) → ℕ → ℕ
+count p zero = 0
+count p (suc n) = tally (p n) (count p n)
+
+unfoldable pub run : {A : Type 0} → (ℕ → A) → ℕ → ℕ → List A
+run f i zero = []
+run f i (suc n) = f i ∷ run f (suc i) n
+
+unfoldable pub joined : {A : Type 0} → List (List A) → List A
+joined [] = []
+joined (xs ∷ xss) = xs ++ joined xss
+
+-- xs, with x before it where the test holds
+unfoldable pub kept : {A : Type 0} → Bool → A → List A → List A
+kept true x xs = x ∷ xs
+kept false x xs = xs
+
+unfoldable pub chosen : {A : Type 0} → (A → Bool) → List A → List A
+chosen p [] = []
+chosen p (x ∷ xs) = kept (p x) x (chosen p xs)
+
+unfoldable pub oneOf : {A : Type 0} → (A → Bool) → List A → Bool
+oneOf p [] = false
+oneOf p (x ∷ xs) = p x or oneOf p xs
