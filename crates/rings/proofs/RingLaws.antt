@@ -66,13 +66,18 @@ pub touch-second : (t : Table) (j : ℕ) → touches t j (secondOf t j) ≡ true
 unfolding touches
 touch-second t j = or-r (eqb (firstOf t j) (secondOf t j)) (eqb (secondOf t j) (secondOf t j)) (eq-eqb (secondOf t j) (secondOf t j) refl)
 
+pub joins-cases : (t : Table) (j u v : ℕ) → joins t j u v ≡ true → ((firstOf t j ≡ u) × (secondOf t j ≡ v)) ⊎ ((firstOf t j ≡ v) × (secondOf t j ≡ u))
+unfolding joins
+joins-cases t j u v h =
+    ⊎-elim (λ a. _⊎_.inl (eqb-true (firstOf t j) u (and-l (eqb (firstOf t j) u) (eqb (secondOf t j) v) a), eqb-true (secondOf t j) v (and-r (eqb (firstOf t j) u) (eqb (secondOf t j) v) a)))
+    (λ a. _⊎_.inr (eqb-true (firstOf t j) v (and-l (eqb (firstOf t j) v) (eqb (secondOf t j) u) a), eqb-true (secondOf t j) u (and-r (eqb (firstOf t j) v) (eqb (secondOf t j) u) a)))
+    (or-e (eqb (firstOf t j) u and eqb (secondOf t j) v) (eqb (firstOf t j) v and eqb (secondOf t j) u) h)
+
 -- a payment between u and v has both
 pub joins-touch : (t : Table) (j u v : ℕ) → joins t j u v ≡ true → (touches t j u ≡ true) × (touches t j v ≡ true)
-unfolding joins touches
 joins-touch t j u v h =
-    ⊎-elim (λ a. (or-l (eqb (firstOf t j) u) (eqb (secondOf t j) u) (and-l (eqb (firstOf t j) u) (eqb (secondOf t j) v) a), or-r (eqb (firstOf t j) v) (eqb (secondOf t j) v) (and-r (eqb (firstOf t j) u) (eqb (secondOf t j) v) a)))
-    (λ a. (or-r (eqb (firstOf t j) u) (eqb (secondOf t j) u) (and-r (eqb (firstOf t j) v) (eqb (secondOf t j) u) a), or-l (eqb (firstOf t j) v) (eqb (secondOf t j) v) (and-l (eqb (firstOf t j) v) (eqb (secondOf t j) u) a)))
-    (or-e (eqb (firstOf t j) u and eqb (secondOf t j) v) (eqb (firstOf t j) v and eqb (secondOf t j) u) h)
+    ⊎-elim (λ e. (subst (λ (a : ℕ). touches t j a ≡ true) (e .0) (touch-first t j), subst (λ (a : ℕ). touches t j a ≡ true) (e .1) (touch-second t j)))
+    (λ e. (subst (λ (a : ℕ). touches t j a ≡ true) (e .1) (touch-second t j), subst (λ (a : ℕ). touches t j a ≡ true) (e .0) (touch-first t j))) (joins-cases t j u v h)
 
 pub met-i : (t : Table) (m : List Bool) (j u : ℕ) → j < size t → marked m j ≡ true → touches t j u ≡ true → met t m u ≡ true
 unfolding met
