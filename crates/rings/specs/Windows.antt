@@ -4,15 +4,20 @@
 --     Entry              a row with a window: an entry of a minimal-window list
 --     smaller s e s' e'  the window [s', e'] lies inside [s, e] and is not [s, e]
 --     minimal t q j s e  [s, e] is a minimal window of row j (001, Definition 5: minimal core window)
+--     IsMinimal t q j s e      the same in words
 --     minimalWindows t q lo hi   all entries of the range, by row, then start
+--     Listed t q lo hi x       the entry x is a minimal window of its row inside the range
+--     IsMinimalList t q lo hi es    es holds exactly these, each once, by row, then start: `minimalWindows` is the only such list (proofs/WindowLaws.antt)
 --     entries r s e      the entries that three columns hold
 --     recalled es s e j  row j has a listed window inside [s, e]
-use Prim.Native.Nat.{ℕ, suc, _-_}
-use mathlib.Core.Bool.{Bool}
-use mathlib.Core.List.{List, map}
+use Prim.Native.Nat.{ℕ, suc, _-_, _≤_, _<_}
+use mathlib.Core.Path.{_≡_}
+use mathlib.Core.Logic.{_⊎_}
+use mathlib.Core.Bool.{Bool, true, false}
+use mathlib.Core.List.{List, map, List·Memᴰ as Mem}
 use lib.ListN.{length}
 use lib.Dec.{leb, eqb}
-use Rattle.rings.specs.Words.{_and_, no, at, every, run, joined, chosen, oneOf}
+use Rattle.rings.specs.Words.{_and_, no, at, every, run, joined, chosen, oneOf, Pairwise}
 use Rattle.rings.specs.Table.{Table, size}
 use Rattle.rings.specs.Ring.{inRing}
 use Rattle.rings.specs.declared.Query.{Query}
@@ -39,6 +44,11 @@ smaller s e s′ e′ = leb s s′ and leb s′ e′ and leb e′ e and no (eqb 
 unfoldable pub minimal : Table → Query → ℕ → ℕ → ℕ → Bool
 minimal t q j s e = inRing t q s e j and every (λ s′. every (λ e′. no (smaller s e s′ e′ and inRing t q s′ e′ j)) (suc e)) (suc e)
 
+-- 001, Definition 5: "(1) e is in the k-core of G[ts, te]; and (2) e is not in the k-core of G[ts', te'] for any [ts', te'] ⊂ [ts, te]"
+pub record IsMinimal (t : Table) (q : Query) (j s e : ℕ) : Type 0 where
+  pub has : inRing t q s e j ≡ true
+  pub none-smaller : (s′ e′ : ℕ) → s ≤ s′ → s′ ≤ e′ → e′ ≤ e → ((s ≡ s′) × (e ≡ e′) → ⊥) → inRing t q s′ e′ j ≡ false
+
 -- the minimal windows of row j inside the range, by start
 unfoldable pub minimalOf : Table → Query → ℕ → ℕ → ℕ → List Entry
 minimalOf t q lo hi j = map (λ w. record { row = j; start = w .start; end = w .end }) (chosen (λ w. minimal t q j (w .start) (w .end)) (windows lo hi))
@@ -46,6 +56,22 @@ minimalOf t q lo hi j = map (λ w. record { row = j; start = w .start; end = w .
 -- 01: "columns row, start, end, ordered by row, then start"
 unfoldable pub minimalWindows : Table → Query → ℕ → ℕ → List Entry
 minimalWindows t q lo hi = joined (run (minimalOf t q lo hi) 0 (size t))
+
+pub record Listed (t : Table) (q : Query) (lo hi : ℕ) (x : Entry) : Type 0 where
+  pub in-table : x .row < size t
+  pub from : lo ≤ x .start
+  pub order : x .start ≤ x .end
+  pub to : x .end ≤ hi
+  pub is-minimal : IsMinimal t q (x .row) (x .start) (x .end)
+
+-- by row, then start: in one row both start and end rise
+abbrev pub Before : Entry → Entry → Type 0
+Before x y = (x .row < y .row) ⊎ ((x .row ≡ y .row) × (x .start < y .start) × (x .end < y .end))
+
+pub record IsMinimalList (t : Table) (q : Query) (lo hi : ℕ) (es : List Entry) : Type 0 where
+  pub each : (x : Entry) → Mem x es → Listed t q lo hi x
+  pub whole : (x : Entry) → Listed t q lo hi x → Mem x es
+  pub in-order : Pairwise Before es
 
 unfoldable pub entries : List ℕ → List ℕ → List ℕ → List Entry
 entries rows starts ends = run (λ i. record { row = at rows i; start = at starts i; end = at ends i }) 0 (length rows)

@@ -9,9 +9,10 @@
 --     joined xss         the lists of a list, one after the other
 --     chosen p xs        the entries of a list that have p, in their order
 --     oneOf p xs         an entry of a list has p
+--     Pairwise R xs      each entry of a list stands in R to every later one
 use Prim.Native.Nat.{ℕ, zero, suc}
 use mathlib.Core.Bool.{Bool, true, false}
-use mathlib.Core.List.{List, [], _∷_, _++_}
+use mathlib.Core.List.{List, [], _∷_, _++_, List·Memᴰ as Mem}
 use lib.ListN.{getD}
 
 infixr 40 _and_
@@ -72,3 +73,7 @@ chosen p (x ∷ xs) = kept (p x) x (chosen p xs)
 unfoldable pub oneOf : {A : Type 0} → (A → Bool) → List A → Bool
 oneOf p [] = false
 oneOf p (x ∷ xs) = p x or oneOf p xs
+
+pub data Pairwise {A : Type 0} (R : A → A → Type 0) : List A → Type 0 where
+  none : Pairwise R []
+  more : {x : A} {xs : List A} → ((y : A) → Mem y xs → R x y) → Pairwise R xs → Pairwise R (x ∷ xs)

@@ -1,0 +1,290 @@
+-- Minimal windows by core times, 001's Lemma 3, the list, and recall.
+--     minimal-e, minimal-i          the test `minimal` says what `IsMinimal` says
+--     times-of-minimal, minimal-of-times    [s, e] is a minimal window of a row exactly if e is the row's time at s and not its time at s + 1 (001, Lemma 2)
+--     inner-minimal, minimal-inner          a row is in the ring of [s, e] exactly if a minimal window of it lies inside (001, Lemma 3)
+--     windows-e, windows-i, windows-order   the windows of a range
+--     list-is, list-only            `minimalWindows` holds exactly the minimal windows of the range, in order, and is the only such list
+--     recall-ring                   recall from such a list marks the ring of every window inside the range
+-- Assumes nothing.
+use Prim.Native.Nat.{ℕ, zero, suc, _+_, _-_, _≤_, _<_}
+use native.Mathlib.Nat.{le-refl, le-trans, le-antisymm, eq-or-lt-of-le}
+use native.Mathlib.Omega.{arith}
+use mathlib.Core.Path.{_≡_, refl, sym, _∙_, ap, subst}
+use mathlib.Core.Logic.{_⊎_, ⊎-elim}
+use mathlib.Core.Bool.{Bool, true, false}
+use mathlib.Core.List.{List, map, List·Memᴰ as Mem, Memᴰ·cast as mem-cast}
+use lib.Dec.{leb, eqb}
+use borrow.Author.Tests.{leb-true, leb-false, le-leb, eqb-true, eq-eqb}
+use Rattle.rings.specs.Words.{_and_, no, every, run, joined, chosen, oneOf, Pairwise}
+use Rattle.rings.specs.Table.{Table, size, dayOf}
+use Rattle.rings.specs.Ring.{inRing}
+use Rattle.rings.specs.CoreTimes.{never, rowTime}
+use Rattle.rings.specs.Windows.{Window, windowsFrom, windows, Entry, smaller, minimal, IsMinimal, minimalOf, minimalWindows, Listed, Before, IsMinimalList, recalled}
+use Rattle.rings.specs.declared.Query.{Query}
+use Rattle.rings.proofs.WordLaws.{look, clash, and-i, and-l, and-r, no-i, no-e, every-i, every-e, same-truth}
+use Rattle.rings.proofs.ListLaws.{mem-run, run-mem, mem-joined, joined-mem, mem-chosen, chosen-mem, mem-map, map-mem, oneOf-i, oneOf-e, pair-run, pair-joined, pair-chosen, pair-map, pair-weaken, pair-unique}
+use Rattle.rings.proofs.RingLaws.{in-window, in-grows}
+use Rattle.rings.proofs.CoreTimeLaws.{Time, time-day, row-time, row-reach-i, row-reach-e, row-later}
+
+-- ---- smaller windows
+
+pub record Smaller (s e s′ e′ : ℕ) : Type 0 where
+  pub from : s ≤ s′
+  pub order : s′ ≤ e′
+  pub to : e′ ≤ e
+  pub other : (s ≡ s′) × (e ≡ e′) → ⊥
+
+smaller-i : (s e s′ e′ : ℕ) → Smaller s e s′ e′ → smaller s e s′ e′ ≡ true
+unfolding smaller
+smaller-i s e s′ e′ w =
+    and-i (le-leb s s′ (w .from)) (and-i (le-leb s′ e′ (w .order)) (and-i (le-leb e′ e (w .to)) (no-i differ)))
+  where
+    differ : eqb s s′ and eqb e e′ ≡ false
+    differ = ⊎-elim (λ h. absurd (w .other (eqb-true s s′ (and-l (eqb s s′) (eqb e e′) h), eqb-true e e′ (and-r (eqb s s′) (eqb e e′) h)))) (λ h. h) (look (eqb s s′ and eqb e e′))
+
+smaller-e : (s e s′ e′ : ℕ) → smaller s e s′ e′ ≡ true → Smaller s e s′ e′
+unfolding smaller
+smaller-e s e s′ e′ h =
+    let b = leb s′ e′ in
+    let c = leb e′ e in
+    let d = no (eqb s s′ and eqb e e′) in
+    let r = and-r (leb s s′) (b and c and d) h in
+    let r′ = and-r b (c and d) r in
+    record {
+      from = leb-true s s′ (and-l (leb s s′) (b and c and d) h); order = leb-true s′ e′ (and-l b (c and d) r); to = leb-true e′ e (and-l c d r′);
+      other = λ w. clash (and-i (eq-eqb s s′ (w .0)) (eq-eqb e e′ (w .1))) (no-e (eqb s s′ and eqb e e′) (and-r c d r′)) }
+
+module _ (t : Table) (q : Query) where
+  in-order : (s e j : ℕ) → inRing t q s e j ≡ true → s ≤ e
+  in-order s e j h = let w = in-window t q s e j h in le-trans (w .from) (w .to)
+
+  -- ---- the test says what the words say
+
+  none-inside : ℕ → ℕ → ℕ → ℕ → ℕ → Bool
+  none-inside j s e s′ e′ = no (smaller s e s′ e′ and inRing t q s′ e′ j)
+
+  pub minimal-e : (j s e : ℕ) → minimal t q j s e ≡ true → IsMinimal t q j s e
+  unfolding minimal none-inside
+  minimal-e j s e h =
+      let all = every (λ s′. every (none-inside j s e s′) (suc e)) (suc e) in
+      record {
+        has = and-l (inRing t q s e j) all h;
+        none-smaller = λ s′ e′ a b c d.
+          let k = every-e (none-inside j s e s′) (suc e) (every-e (λ s″. every (none-inside j s e s″) (suc e)) (suc e) (and-r (inRing t q s e j) all h) s′ (omega arith)) e′ (omega arith) in
+          ⊎-elim (λ y. clash (and-i (smaller-i s e s′ e′ (record { from = a; order = b; to = c; other = d })) y) (no-e (smaller s e s′ e′ and inRing t q s′ e′ j) k)) (λ y. y) (look (inRing t q s′ e′ j)) }
+
+  pub minimal-i : (j s e : ℕ) → IsMinimal t q j s e → minimal t q j s e ≡ true
+  unfolding minimal none-inside
+  minimal-i j s e m =
+      and-i (m .has)
+      (every-i (λ s′. every (none-inside j s e s′) (suc e)) (suc e)
+      (λ s′ l. every-i (none-inside j s e s′) (suc e)
+      (λ e′ k. no-i (⊎-elim (λ y. let w = smaller-e s e s′ e′ (and-l (smaller s e s′ e′) (inRing t q s′ e′ j) y) in clash (and-r (smaller s e s′ e′) (inRing t q s′ e′ j) y) (m .none-smaller s′ e′ (w .from) (w .order) (w .to) (w .other))) (λ y. y) (look (smaller s e s′ e′ and inRing t q s′ e′ j))))))
+
+  -- ---- by core times
+
+  module _ (hi : ℕ) (fits : hi < never) where
+    pub times-of-minimal : (j s e : ℕ) → e ≤ hi → IsMinimal t q j s e → (rowTime t q hi s j ≡ e) × (rowTime t q hi (suc s) j ≡ e → ⊥)
+    times-of-minimal j s e h m = (now, later)
+      where
+        o : s ≤ e
+        o = in-order s e j (m .has)
+        reached : rowTime t q hi s j ≤ e
+        reached = row-reach-i t q hi s j e o h (m .has)
+        day : (s ≤ rowTime t q hi s j) × (rowTime t q hi s j ≤ hi)
+        day = time-day {s = s} {hi = hi} fits (row-time t q hi s j) (omega (arith, reached))
+        now : rowTime t q hi s j ≡ e
+        now = ⊎-elim (λ a. a) (λ l. clash (row-reach-e t q hi s fits j (rowTime t q hi s j) (day .1) (le-refl (rowTime t q hi s j))) (m .none-smaller s (rowTime t q hi s j) (le-refl s) (day .0) reached (λ w. let x = w .1 in omega (arith, l)))) (eq-or-lt-of-le reached)
+        later : rowTime t q hi (suc s) j ≡ e → ⊥
+        later a =
+            let k = row-reach-e t q hi (suc s) fits j e h (omega arith) in
+            clash k (m .none-smaller (suc s) e (omega arith) (in-order (suc s) e j k) (le-refl e) (λ w. let x = w .0 in omega arith))
+
+    pub minimal-of-times : (j s e : ℕ) → e ≤ hi → rowTime t q hi s j ≡ e → (rowTime t q hi (suc s) j ≡ e → ⊥) → IsMinimal t q j s e
+    minimal-of-times j s e h now later =
+        record { has = row-reach-e t q hi s fits j e h (omega arith); none-smaller = λ s′ e′ a b c d. ⊎-elim (λ y. absurd (inside s′ e′ a b c d y)) (λ y. y) (look (inRing t q s′ e′ j)) }
+      where
+        inside : (s′ e′ : ℕ) → s ≤ s′ → s′ ≤ e′ → e′ ≤ e → ((s ≡ s′) × (e ≡ e′) → ⊥) → inRing t q s′ e′ j ≡ true → ⊥
+        inside s′ e′ a b c d y =
+            ⊎-elim (λ x.
+              let r : rowTime t q hi s j ≤ e′ = row-reach-i t q hi s j e′ (omega arith) (omega arith) (in-grows t q j a (le-refl e′) y) in d (x, omega arith))
+            (λ x.
+              let r : rowTime t q hi (suc s) j ≤ e′ = row-reach-i t q hi (suc s) j e′ (le-trans x b) (omega arith) (in-grows t q j x (le-refl e′) y) in
+              let g : rowTime t q hi s j ≤ rowTime t q hi (suc s) j = row-later t q hi fits (omega arith) j in later (omega arith)) (eq-or-lt-of-le a)
+
+  -- ---- 001, Lemma 3
+
+  pub record Inner (j s e : ℕ) : Type 0 where
+    pub start : ℕ
+    pub end : ℕ
+    pub from : s ≤ start
+    pub order : start ≤ end
+    pub to : end ≤ e
+    pub is-minimal : IsMinimal t q j start end
+
+  pub inner-minimal : (j s e : ℕ) → e < never → inRing t q s e j ≡ true → Inner j s e
+  inner-minimal j s e fits h = go (e - s) s (omega arith) h
+    where
+      -- the last start from which the row is still in the ring that ends on e
+      last : (a : ℕ) → inRing t q a e j ≡ true → inRing t q (suc a) e j ≡ false → Inner j a e
+      last a y n =
+          let o : a ≤ e = in-order a e j y in
+          let r : rowTime t q e a j ≤ e = row-reach-i t q e a j e o (le-refl e) y in
+          let d = time-day {s = a} {hi = e} fits (row-time t q e a j) (omega arith) in
+          record {
+            start = a; end = rowTime t q e a j; from = le-refl a; order = d .0; to = r;
+            is-minimal = minimal-of-times e fits j a (rowTime t q e a j) r refl (λ x. clash (row-reach-e t q e (suc a) fits j e (le-refl e) (omega arith)) n) }
+      wider : (a : ℕ) → Inner j (suc a) e → Inner j a e
+      wider a w = let f = w .from in record { start = w .start; end = w .end; from = omega arith; order = w .order; to = w .to; is-minimal = w .is-minimal }
+      go : (n a : ℕ) → e - a ≤ n → inRing t q a e j ≡ true → Inner j a e
+      go zero a l y = last a y (⊎-elim (λ z. let o : suc a ≤ e = in-order (suc a) e j z in absurd (omega arith)) (λ z. z) (look (inRing t q (suc a) e j)))
+      go (suc n) a l y = ⊎-elim (λ z. wider a (go n (suc a) (omega arith) z)) (λ z. last a y z) (look (inRing t q (suc a) e j))
+
+  pub minimal-inner : (j s e : ℕ) → Inner j s e → inRing t q s e j ≡ true
+  minimal-inner j s e w = in-grows t q j (w .from) (w .to) (w .is-minimal .has)
+
+-- ---- the windows of a range
+
+pub record OfRange (lo hi : ℕ) (w : Window) : Type 0 where
+  pub from : lo ≤ w .start
+  pub order : w .start ≤ w .end
+  pub to : w .end ≤ hi
+
+pub windows-e : (lo hi : ℕ) (w : Window) → Mem w (windows lo hi) → OfRange lo hi w
+unfolding windows windowsFrom
+windows-e lo hi w m =
+    let a = joined-mem (run (windowsFrom hi) lo (suc hi - lo)) m in
+    let b = run-mem (windowsFrom hi) lo (suc hi - lo) (a .is-part) in
+    let c = run-mem (λ e. record { start = b .it; end = e }) (b .it) (suc hi - b .it) (subst (Mem w) (b .is) (a .has)) in
+    let x = b .from in let y = b .below in let u = c .from in let v = c .below in
+    let s : w .start ≡ b .it = ap (λ (z : Window). z .start) (c .is) in
+    let f : w .end ≡ c .it = ap (λ (z : Window). z .end) (c .is) in
+    record { from = omega arith; order = omega arith; to = omega arith }
+
+pub windows-i : (lo hi : ℕ) (w : Window) → OfRange lo hi w → Mem w (windows lo hi)
+unfolding windows windowsFrom
+windows-i lo hi w o =
+    let a = o .from in let b = o .order in let c = o .to in
+    mem-joined (mem-run (windowsFrom hi) lo (suc hi - lo) (w .start) a (omega arith)) (mem-run (λ e. record { start = w .start; end = e }) (w .start) (suc hi - w .start) (w .end) b (omega arith))
+
+-- by start, then end
+abbrev pub Earlier : Window → Window → Type 0
+Earlier v w = (v .start < w .start) ⊎ ((v .start ≡ w .start) × (v .end < w .end))
+
+pub windows-order : (lo hi : ℕ) → Pairwise Earlier (windows lo hi)
+unfolding windows windowsFrom
+windows-order lo hi =
+    pair-joined Earlier (run (windowsFrom hi) lo (suc hi - lo))
+    (λ ws m. let b = run-mem (windowsFrom hi) lo (suc hi - lo) m in subst (Pairwise Earlier) (sym (b .is)) (pair-run Earlier (λ e. record { start = b .it; end = e }) (b .it) (suc hi - b .it) (λ x y l k o. _⊎_.inr (refl, k))))
+    (pair-run (λ xs ys. (x y : Window) → Mem x xs → Mem y ys → Earlier x y) (windowsFrom hi) lo (suc hi - lo)
+    (λ a b l k o x y m n. _⊎_.inl (starts a b x y k (run-mem (λ e. record { start = a; end = e }) a (suc hi - a) m .is) (run-mem (λ e. record { start = b; end = e }) b (suc hi - b) n .is))))
+  where
+    starts : (a b : ℕ) (x y : Window) → a < b → {e f : ℕ} → x ≡ record { start = a; end = e } → y ≡ record { start = b; end = f } → x .start < y .start
+    starts a b x y k p r =
+        let u : x .start ≡ a = ap (λ (z : Window). z .start) p in
+        let v : y .start ≡ b = ap (λ (z : Window). z .start) r in omega arith
+
+-- ---- the list
+
+module _ (t : Table) (q : Query) (lo hi : ℕ) where
+  abbrev entry : ℕ → Window → Entry
+  entry j w = record { row = j; start = w .start; end = w .end }
+
+  abbrev test : ℕ → Window → Bool
+  test j w = minimal t q j (w .start) (w .end)
+
+  of-row-e : (j : ℕ) (x : Entry) → Mem x (minimalOf t q lo hi j) → (x .row ≡ j) × OfRange lo hi (record { start = x .start; end = x .end }) × IsMinimal t q j (x .start) (x .end)
+  unfolding minimalOf
+  of-row-e j x m =
+      let a = map-mem (entry j) (chosen (test j) (windows lo hi)) m in
+      let b = chosen-mem (test j) (windows lo hi) (a .member) in
+      let w = a .it in
+      let ps : w .start ≡ x .start = ap (λ (z : Entry). z .start) (sym (a .is)) in
+      let pe : w .end ≡ x .end = ap (λ (z : Entry). z .end) (sym (a .is)) in
+      (ap (λ (z : Entry). z .row) (a .is), subst (OfRange lo hi) (λ i. record { start = ps i; end = pe i }) (windows-e lo hi w (b .0)), subst (λ (v : Window). IsMinimal t q j (v .start) (v .end)) (λ i. record { start = ps i; end = pe i }) (minimal-e t q j (w .start) (w .end) (b .1)))
+
+  of-row-i : (x : Entry) → OfRange lo hi (record { start = x .start; end = x .end }) → IsMinimal t q (x .row) (x .start) (x .end) → Mem x (minimalOf t q lo hi (x .row))
+  unfolding minimalOf
+  of-row-i x o m =
+      mem-map (entry (x .row)) (chosen (test (x .row)) (windows lo hi))
+      (mem-chosen (test (x .row)) (windows lo hi) (windows-i lo hi (record { start = x .start; end = x .end }) o) (minimal-i t q (x .row) (x .start) (x .end) m))
+
+  -- of two minimal windows of one row the later start has the later end
+  both-rise : (j : ℕ) (v w : Window) → test j v ≡ true → test j w ≡ true → OfRange lo hi w → Earlier v w → (v .start < w .start) × (v .end < w .end)
+  both-rise j v w a b o e =
+      ⊎-elim (λ l. (l, lower l)) (λ r. let x = r .0 in let y = r .1 in clash (minimal-e t q j (v .start) (v .end) a .has) (minimal-e t q j (w .start) (w .end) b .none-smaller (v .start) (v .end) (omega arith) (in-order t q (v .start) (v .end) j (minimal-e t q j (v .start) (v .end) a .has)) (omega arith) (λ z. let u = z .1 in omega arith))) e
+    where
+      lower : v .start < w .start → v .end < w .end
+      lower l =
+          ⊎-elim (λ h. clash (minimal-e t q j (w .start) (w .end) b .has) (minimal-e t q j (v .start) (v .end) a .none-smaller (w .start) (w .end) (omega arith) (o .order) (leb-true (w .end) (v .end) h) (λ z. let u = z .0 in omega arith)))
+          (λ h. leb-false (w .end) (v .end) h) (look (leb (w .end) (v .end)))
+
+  row-order : (j : ℕ) → Pairwise Before (minimalOf t q lo hi j)
+  unfolding minimalOf
+  row-order j =
+      pair-map (entry j) Before (chosen (test j) (windows lo hi))
+      (pair-weaken Earlier (λ v w. Before (entry j v) (entry j w)) (chosen (test j) (windows lo hi)) (pair-chosen Earlier (test j) (windows lo hi) (windows-order lo hi))
+      (λ v w m n e.
+        let a = chosen-mem (test j) (windows lo hi) m in
+        let b = chosen-mem (test j) (windows lo hi) n in
+        let r = both-rise j v w (a .1) (b .1) (windows-e lo hi w (b .0)) e in _⊎_.inr (refl, r .0, r .1)))
+
+  -- the computed list holds exactly the minimal windows of the range, in order
+  pub list-is : IsMinimalList t q lo hi (minimalWindows t q lo hi)
+  unfolding minimalWindows
+  list-is = record { each = each-one; whole = whole-list; in-order = ordered }
+    where
+      rows : List (List Entry)
+      rows = run (minimalOf t q lo hi) 0 (size t)
+      each-one : (x : Entry) → Mem x (joined rows) → Listed t q lo hi x
+      each-one x m =
+          let a = joined-mem rows m in
+          let b = run-mem (minimalOf t q lo hi) 0 (size t) (a .is-part) in
+          let c = of-row-e (b .it) x (subst (Mem x) (b .is) (a .has)) in
+          let l = b .below in
+          let e = c .0 in
+          let o = c .1 in
+          record { in-table = omega arith; from = o .from; order = o .order; to = o .to; is-minimal = subst (λ (j : ℕ). IsMinimal t q j (x .start) (x .end)) (sym e) (c .2) }
+      whole-list : (x : Entry) → Listed t q lo hi x → Mem x (joined rows)
+      whole-list x l =
+          let h = l .in-table in
+          mem-joined (mem-run (minimalOf t q lo hi) 0 (size t) (x .row) (omega arith) (omega arith)) (of-row-i x (record { from = l .from; order = l .order; to = l .to }) (l .is-minimal))
+      ordered : Pairwise Before (joined rows)
+      ordered =
+          pair-joined Before rows (λ xs m. let b = run-mem (minimalOf t q lo hi) 0 (size t) m in subst (Pairwise Before) (sym (b .is)) (row-order (b .it)))
+          (pair-run (λ xs ys. (x y : Entry) → Mem x xs → Mem y ys → Before x y) (minimalOf t q lo hi) 0 (size t)
+          (λ a b l k o x y m n. let u = of-row-e a x m .0 in let v = of-row-e b y n .0 in _⊎_.inl (omega arith)))
+
+  -- and is the only such list
+  pub list-only : (es : List Entry) → IsMinimalList t q lo hi es → es ≡ minimalWindows t q lo hi
+  list-only es l =
+      pair-unique Before strict es (minimalWindows t q lo hi) (l .in-order) (list-is .in-order) (λ x m. list-is .whole x (l .each x m)) (λ x m. l .whole x (list-is .each x m))
+    where
+      strict : (x y : Entry) → Before x y → Before y x → ⊥
+      strict x y (_⊎_.inl a) (_⊎_.inl b) = omega arith
+      strict x y (_⊎_.inl a) (_⊎_.inr b) = let c = b .0 in omega arith
+      strict x y (_⊎_.inr a) (_⊎_.inl b) = let c = a .0 in omega arith
+      strict x y (_⊎_.inr a) (_⊎_.inr b) = let c = a .1 in let d = b .1 in omega arith
+
+  -- recall from such a list marks the ring of every window inside the range
+  pub recall-ring : hi < never → (es : List Entry) → IsMinimalList t q lo hi es → (s e j : ℕ) → lo ≤ s → e ≤ hi → recalled es s e j ≡ inRing t q s e j
+  unfolding recalled
+  recall-ring fits es l s e j h k = same-truth (oneOf inside es) (inRing t q s e j) found kept
+    where
+      inside : Entry → Bool
+      inside x = eqb (x .row) j and leb s (x .start) and leb (x .end) e
+      found : oneOf inside es ≡ true → inRing t q s e j ≡ true
+      found y =
+          let w = oneOf-e inside es y in
+          let x = w .it in
+          let a = and-l (eqb (x .row) j) (leb s (x .start) and leb (x .end) e) (w .has) in
+          let b = and-r (eqb (x .row) j) (leb s (x .start) and leb (x .end) e) (w .has) in
+          in-grows t q j (leb-true s (x .start) (and-l (leb s (x .start)) (leb (x .end) e) b)) (leb-true (x .end) e (and-r (leb s (x .start)) (leb (x .end) e) b))
+          (subst (λ (i : ℕ). inRing t q (x .start) (x .end) i ≡ true) (eqb-true (x .row) j a) (l .each x (w .member) .is-minimal .has))
+      kept : inRing t q s e j ≡ true → oneOf inside es ≡ true
+      kept y =
+          let w = inner-minimal t q j s e (omega arith) y in
+          let a = w .from in let b = w .to in
+          oneOf-i inside es (record { row = j; start = w .start; end = w .end })
+          (l .whole (record { row = j; start = w .start; end = w .end }) (record { in-table = in-window t q s e j y .row; from = omega arith; order = w .order; to = omega arith; is-minimal = w .is-minimal }))
+          (and-i (eq-eqb j j refl) (and-i (le-leb s (w .start) a) (le-leb (w .end) e b)))
