@@ -5,6 +5,7 @@
 --     row-reach-i, -e          e reaches a row's core time exactly if the row is in the ring of [s, e]
 --     row-max                  a row's core time is the greatest of its accounts' and its own day (001, Lemma 1 and Algorithm 2)
 --     row-before, row-after, row-past     a row before s, after hi or outside the table has never
+--     ring-size                a ring has as many rows as have a core time of at most its end
 --     account-later, row-later            core times rise with the start
 -- Assumes nothing.
 use Prim.Native.Nat.{ℕ, zero, suc, _+_, _-_, max, _≤_, _<_}
@@ -13,12 +14,15 @@ use native.Mathlib.Omega.{arith}
 use mathlib.Core.Path.{_≡_, refl, sym, _∙_, ap, subst}
 use mathlib.Core.Logic.{_⊎_, ⊎-elim}
 use mathlib.Core.Bool.{Bool, true, false}
+use lib.Dec.{leb}
+use borrow.Author.Tests.{leb-true, le-leb}
+use Rattle.rings.specs.Words.{marked, count}
 use Rattle.rings.specs.Table.{Table, size, dayOf, firstOf, secondOf}
-use Rattle.rings.specs.Ring.{met, ring, inRing}
+use Rattle.rings.specs.Ring.{met, ring, inRing, members}
 use Rattle.rings.specs.CoreTimes.{never, least, accountTime, rowTime}
 use Rattle.rings.specs.declared.Query.{Query}
-use Rattle.rings.proofs.WordLaws.{look, clash}
-use Rattle.rings.proofs.RingLaws.{Inside, met-mono, in-window, two-met, met-first, met-second, ring-grows, in-grows}
+use Rattle.rings.proofs.WordLaws.{look, clash, same-truth, count-same}
+use Rattle.rings.proofs.RingLaws.{Inside, met-mono, in-window, two-met, met-first, met-second, ring-grows, in-grows, ring-sized, in-marked, marked-in}
 
 -- ---- the least day that has a property
 
@@ -159,6 +163,18 @@ module _ (t : Table) (q : Query) (hi : ℕ) where
     -- a time that is a day of the range is the row's day or later
     pub row-day : hi < never → (j : ℕ) → rowTime t q hi s j ≤ hi → dayOf t j ≤ rowTime t q hi s j
     row-day fits j h = in-window t q s (rowTime t q hi s j) j (row-reach-e fits j (rowTime t q hi s j) h (le-refl (rowTime t q hi s j))) .to
+
+    -- the rows of the ring of [s, e] are those that e reaches
+    pub ring-size : hi < never → (e : ℕ) → s ≤ e → e ≤ hi → members (ring t q s e) ≡ count (λ j. leb (rowTime t q hi s j) e) (size t)
+    unfolding members
+    ring-size fits e l h =
+        ap (count (marked (ring t q s e))) (ring-sized t q s e)
+        ∙ count-same (marked (ring t q s e)) (λ j. leb (rowTime t q hi s j) e) (size t) (λ j o. same-truth (marked (ring t q s e) j) (leb (rowTime t q hi s j) e) (in-row j) (row-in j))
+      where
+        in-row : (j : ℕ) → marked (ring t q s e) j ≡ true → leb (rowTime t q hi s j) e ≡ true
+        in-row j k = le-leb (rowTime t q hi s j) e (row-reach-i j e l h (in-marked t q s e j k))
+        row-in : (j : ℕ) → leb (rowTime t q hi s j) e ≡ true → marked (ring t q s e) j ≡ true
+        row-in j k = marked-in t q s e j (row-reach-e fits j e h (leb-true (rowTime t q hi s j) e k))
 
   -- core times rise with the start: those at s are lower bounds at a later start
   module _ (fits : hi < never) {s s′ : ℕ} (later : s ≤ s′) where

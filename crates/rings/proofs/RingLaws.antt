@@ -176,6 +176,14 @@ module _ (t : Table) (q : Query) where
     pub ring-only : (m : List Bool) → IsRing t q s e m → m ≡ ring t q s e
     ring-only m r = same-marks m (ring t q s e) (r .sized ∙ sym ring-sized) (ring-holds m (r .within) (r .good) .all) (r .greatest-one (ring t q s e) ring-within ring-good .all)
 
+    pub in-marked : (j : ℕ) → marked (ring t q s e) j ≡ true → inRing t q s e j ≡ true
+    unfolding inRing
+    in-marked j h = h
+
+    pub marked-in : (j : ℕ) → inRing t q s e j ≡ true → marked (ring t q s e) j ≡ true
+    unfolding inRing
+    marked-in j h = h
+
     pub in-window : (j : ℕ) → inRing t q s e j ≡ true → Inside t s e j
     unfolding inRing
     in-window j h = window-e t s e j (ring-within .all j h)

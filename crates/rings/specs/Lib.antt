@@ -3,4 +3,12 @@ pub mod Table
 pub mod Ring
 pub mod CoreTimes
 pub mod Windows
-pub mod Try
+pub mod Refusals
+pub mod Checks
+pub mod Buffers
+pub mod TableCheck
+pub mod WindowRingCall
+pub mod CoreTimesCall
+pub mod MinimalWindowsCall
+pub mod RecallCall
+pub mod Compute

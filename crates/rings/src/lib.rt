@@ -1,5 +1,11 @@
 // Rings of a dated payment table.
 
+pub mod refusal;
+
+pub use refusal::Counted;
+pub use refusal::Refusal;
+pub use refusal::Verdict;
+
 // What a query asks of a ring: each account met has at least k distinct others.
 pub struct Query {
     pub k: u16,

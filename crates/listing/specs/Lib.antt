@@ -1,0 +1,5 @@
+pub mod Tight
+pub mod Listing
+pub mod Distinct
+pub mod ListingCall
+pub mod LongestList

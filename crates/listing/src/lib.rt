@@ -1,0 +1,12 @@
+// The listing of a range's rings, and the longest list there can be.
+
+pub use rings::Counted;
+pub use rings::Query;
+pub use rings::Refusal;
+pub use rings::Verdict;
+
+// Listing's answer: how many rings, and the sum of their rows. Longest list answers a `Counted`.
+pub enum Listed {
+    Rings { count: usize, sum: u64 },
+    Refused(Refusal),
+}

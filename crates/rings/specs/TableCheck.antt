@@ -1,0 +1,30 @@
+-- Table check: first in each call that takes a table.
+--     dayBefore t j      the day of the row before row j, 0 before row 0
+--     rowCheck t j       the faults of row j, in their order: 3, 4, 5
+--     tableCheck t       the answer: 1, 2, then the lowest faulty row
+use Prim.Native.Nat.{ℕ, zero, suc}
+use lib.ListN.{length}
+use lib.Dec.{leb, ltb, eqb}
+use Rattle.rings.specs.Words.{_and_, _or_, no, run}
+use Rattle.rings.specs.Table.{Table, size, dayOf, firstOf, secondOf}
+use Rattle.rings.specs.Checks.{_when_, _then_, inOrder}
+use Rattle.rings.specs.declared.refusal.Refusal.the-variants.{Lengths, TooManyRows, Day, Accounts, Order}
+use Rattle.rings.specs.declared.refusal.Verdict.{Verdict}
+
+unfoldable pub dayBefore : Table → ℕ → ℕ
+dayBefore t zero = 0
+dayBefore t (suc j) = dayOf t j
+
+-- 01: "3: day outside 1 to 1,024. 4: second account above 4,095, or first not below second. 5: day below the previous row's"
+unfoldable pub rowCheck : Table → ℕ → Verdict
+rowCheck t j =
+    Day j when no (leb 1 (dayOf t j) and leb (dayOf t j) 1024)
+    then Accounts j when ltb 4095 (secondOf t j) or no (ltb (firstOf t j) (secondOf t j))
+    then Order j when ltb (dayOf t j) (dayBefore t j)
+
+-- 01: "1: column lengths differ. 2: over 16,384 rows. Then the lowest faulty row, by its first fault"
+unfoldable pub tableCheck : Table → Verdict
+tableCheck t =
+    Lengths when no (eqb (length (t .first)) (size t) and eqb (length (t .second)) (size t))
+    then TooManyRows when ltb 16384 (size t)
+    then inOrder (run (rowCheck t) 0 (size t))
