@@ -5,3 +5,5 @@ pub mod RingLaws
 pub mod CoreTimeLaws
 pub mod FixpointLaws
 pub mod WindowLaws
+pub mod CheckLaws
+pub mod TableLaws

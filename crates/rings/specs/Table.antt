@@ -1,5 +1,6 @@
 -- A table of payments, and the rows of a window.
 --     Table              three columns: day, first account, second account. Row numbers start at 0
+--     tableOf d f s      the table of three columns
 --     size t             the number of rows
 --     dayOf t j          the day of row j
 --     firstOf, secondOf  its two accounts
@@ -17,6 +18,9 @@ pub record Table : Type 0 where
   pub days : List ℕ
   pub first : List ℕ
   pub second : List ℕ
+
+abbrev pub tableOf : List ℕ → List ℕ → List ℕ → Table
+tableOf d f s = record { days = d; first = f; second = s }
 
 unfoldable pub size : Table → ℕ
 size t = length (t .days)

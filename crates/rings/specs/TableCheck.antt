@@ -1,6 +1,7 @@
 -- Table check: first in each call that takes a table.
 --     dayBefore t j      the day of the row before row j, 0 before row 0
---     rowCheck t j       the faults of row j, in their order: 3, 4, 5
+--     rowFaults j before day a b    the faults of a row, in their order: 3, 4, 5
+--     rowCheck t j       those of row j of a table
 --     tableCheck t       the answer: 1, 2, then the lowest faulty row
 use Prim.Native.Nat.{ℕ, zero, suc}
 use lib.ListN.{length}
@@ -15,12 +16,16 @@ unfoldable pub dayBefore : Table → ℕ → ℕ
 dayBefore t zero = 0
 dayBefore t (suc j) = dayOf t j
 
+-- the faults of a row by its number, the day before, its day and its accounts
 -- 01: "3: day outside 1 to 1,024. 4: second account above 4,095, or first not below second. 5: day below the previous row's"
+unfoldable pub rowFaults : ℕ → ℕ → ℕ → ℕ → ℕ → Verdict
+rowFaults j before day a b =
+    Day j when no (leb 1 day and leb day 1024)
+    then Accounts j when ltb 4095 b or no (ltb a b)
+    then Order j when ltb day before
+
 unfoldable pub rowCheck : Table → ℕ → Verdict
-rowCheck t j =
-    Day j when no (leb 1 (dayOf t j) and leb (dayOf t j) 1024)
-    then Accounts j when ltb 4095 (secondOf t j) or no (ltb (firstOf t j) (secondOf t j))
-    then Order j when ltb (dayOf t j) (dayBefore t j)
+rowCheck t j = rowFaults j (dayBefore t j) (dayOf t j) (firstOf t j) (secondOf t j)
 
 -- 01: "1: column lengths differ. 2: over 16,384 rows. Then the lowest faulty row, by its first fault"
 unfoldable pub tableCheck : Table → Verdict

@@ -1,10 +1,12 @@
 // Rings of a dated payment table.
 
 pub mod refusal;
+pub mod table;
 
 pub use refusal::Counted;
 pub use refusal::Refusal;
 pub use refusal::Verdict;
+pub use table::check_table;
 
 // What a query asks of a ring: each account met has at least k distinct others.
 pub struct Query {

@@ -1,0 +1,116 @@
+-- The table check, and what an accepted table says.
+--     Passed d f s before j    the loop over rows has passed the rows below j: none has a fault
+--     pass-start, pass-next, pass-refused, pass-end    the loop's laws
+--     Accepted-table d f s     what the checks say of an accepted table
+--     table-accepted           an accepted table says so
+-- Assumes nothing.
+use Prim.Native.Nat.{ℕ, zero, suc, _+_, _≤_, _<_}
+use native.Mathlib.Nat.{le-refl, eq-or-lt-of-le, not-suc-le-zero, zero-add, le-of-suc-le-suc}
+use native.Mathlib.Numerals.{add-one}
+use native.Mathlib.Omega.{arith}
+use mathlib.Core.Path.{_≡_, refl, sym, _∙_, ap, subst}
+use mathlib.Core.Logic.{_⊎_, ⊎-elim}
+use mathlib.Core.Bool.{Bool, true, false}
+use mathlib.Core.List.{List}
+use lib.ListN.{length, getD}
+use lib.Dec.{leb, ltb, eqb}
+use borrow.Author.Tests.{leb-true, ltb-true, ltb-false, eqb-true}
+use Rattle.rings.specs.Words.{_and_, _or_, no, at, run}
+use Rattle.rings.specs.Table.{Table, tableOf, size, dayOf, firstOf, secondOf}
+use Rattle.rings.specs.Checks.{_when_, _then_, inOrder}
+use Rattle.rings.specs.TableCheck.{dayBefore, rowFaults, rowCheck, tableCheck}
+use Rattle.rings.specs.declared.refusal.Refusal.{Refusal}
+use Rattle.rings.specs.declared.refusal.Refusal.the-variants.{Lengths, TooManyRows, Day, Accounts, Order}
+use Rattle.rings.specs.declared.refusal.Verdict.{Verdict}
+use Rattle.rings.specs.declared.refusal.Verdict.the-variants.{Accepted, Refused}
+use Rattle.rings.proofs.WordLaws.{look, clash, and-l, and-r, or-l, or-r, no-i, no-e}
+use Rattle.rings.proofs.CheckLaws.{accepted-left, accepted-right, when-accepted, order-accepted, order-refused, all-accepted}
+
+pub record Passed (d f s : List ℕ) (before j : ℕ) : Type 0 where
+  pub inside : j ≤ length d
+  pub day-before : before ≡ dayBefore (tableOf d f s) j
+  pub passed : (l : ℕ) → l < j → rowCheck (tableOf d f s) l ≡ Accepted
+
+module _ (d f s : List ℕ) where
+  pub pass-start : Passed d f s 0 0
+  unfolding dayBefore
+  pass-start = record { inside = omega arith; day-before = refl; passed = λ l h. absurd (not-suc-le-zero h) }
+
+  pub row-here : (before j : ℕ) {v : Verdict} → Passed d f s before j → v ≡ rowFaults j before (getD d j 0) (getD f j 0) (getD s j 0) → rowCheck (tableOf d f s) j ≡ v
+  unfolding rowCheck dayOf firstOf secondOf at
+  row-here before j p e = sym (rw (← (p .day-before)) e)
+
+  pub pass-next : (before j : ℕ) → Passed d f s before j → j < length d → Accepted ≡ rowFaults j before (getD d j 0) (getD f j 0) (getD s j 0) → Passed d f s (getD d j 0) (j + 1)
+  unfolding dayBefore dayOf at
+  pass-next before j p l e =
+      record {
+        inside = omega arith; day-before = ap (dayBefore (tableOf d f s)) (sym (add-one j));
+        passed = λ i h. ⊎-elim (λ q. subst (λ (x : ℕ). rowCheck (tableOf d f s) x ≡ Accepted) (sym q) (row-here before j p e)) (λ q. p .passed i q) (eq-or-lt-of-le (le-of-suc-le-suc (rw (add-one j) at h))) }
+
+  pub pass-refused : (before j : ℕ) (r : Refusal) → Passed d f s before j → j < length d → Refused r ≡ rowFaults j before (getD d j 0) (getD f j 0) (getD s j 0) → Refused r ≡ inOrder (run (rowCheck (tableOf d f s)) 0 (length d))
+  pass-refused before j r p l e = sym (order-refused (rowCheck (tableOf d f s)) 0 (length d) j (omega arith) (omega arith) (λ i a b. p .passed i b) (row-here before j p e))
+
+  pub pass-end : (before j : ℕ) → Passed d f s before j → length d ≤ j → Accepted ≡ inOrder (run (rowCheck (tableOf d f s)) 0 (length d))
+  pass-end before j p l = sym (order-accepted (rowCheck (tableOf d f s)) 0 (length d) (λ i a b. p .passed i (omega arith)))
+
+-- ---- an accepted table
+
+pub record RowSound (d f s : List ℕ) (j : ℕ) : Type 0 where
+  pub day-from : 1 ≤ getD d j 0
+  pub day-to : getD d j 0 ≤ 1024
+  pub accounts : getD f j 0 < getD s j 0
+  pub account-to : getD s j 0 ≤ 4095
+
+pub record Sound (d f s : List ℕ) : Type 0 where
+  pub firsts : length f ≡ length d
+  pub seconds : length s ≡ length d
+  pub most : length d ≤ 16384
+  pub rows : (j : ℕ) → j < length d → RowSound d f s j
+  pub rising : (j : ℕ) → suc j < length d → getD d j 0 ≤ getD d (suc j) 0
+
+faults-none : (j before day a b : ℕ) → rowFaults j before day a b ≡ Accepted → (1 ≤ day) × (day ≤ 1024) × (a < b) × (b ≤ 4095) × (before ≤ day)
+unfolding rowFaults
+faults-none j before day a b e =
+    let p = no (leb 1 day and leb day 1024) in
+    let q = ltb 4095 b or no (ltb a b) in
+    let r = ltb day before in
+    let rest = Accounts j when q then Order j when r in
+    let e₁ = when-accepted (Day j) p (accepted-left (Day j when p) rest e) in
+    let e′ = accepted-right (Day j when p) rest e in
+    let e₂ = when-accepted (Accounts j) q (accepted-left (Accounts j when q) (Order j when r) e′) in
+    let e₃ = when-accepted (Order j) r (accepted-right (Accounts j when q) (Order j when r) e′) in
+    let both = not-no (leb 1 day and leb day 1024) e₁ in
+    (leb-true 1 day (and-l (leb 1 day) (leb day 1024) both), leb-true day 1024 (and-r (leb 1 day) (leb day 1024) both), ltb-true a b (not-no (ltb a b) (right-false (ltb 4095 b) (no (ltb a b)) e₂)), ltb-false 4095 b (left-false (ltb 4095 b) (no (ltb a b)) e₂), ltb-false day before e₃)
+  where
+    not-no : (x : Bool) → no x ≡ false → x ≡ true
+    not-no x h = ⊎-elim (λ y. y) (λ y. clash (no-i y) h) (look x)
+    left-false : (x y : Bool) → x or y ≡ false → x ≡ false
+    left-false x y h = ⊎-elim (λ z. clash (or-l x y z) h) (λ z. z) (look x)
+    right-false : (x y : Bool) → x or y ≡ false → y ≡ false
+    right-false x y h = ⊎-elim (λ z. clash (or-r x y z) h) (λ z. z) (look y)
+
+row-sound : (d f s : List ℕ) (j : ℕ) → rowCheck (tableOf d f s) j ≡ Accepted → (1 ≤ getD d j 0) × (getD d j 0 ≤ 1024) × (getD f j 0 < getD s j 0) × (getD s j 0 ≤ 4095) × (dayBefore (tableOf d f s) j ≤ getD d j 0)
+unfolding rowCheck dayOf firstOf secondOf at
+row-sound d f s j e = faults-none j (dayBefore (tableOf d f s) j) (getD d j 0) (getD f j 0) (getD s j 0) e
+
+pub table-sound : (d f s : List ℕ) → tableCheck (tableOf d f s) ≡ Accepted → Sound d f s
+unfolding tableCheck size dayBefore dayOf at
+table-sound d f s e =
+    let b = no (eqb (length f) (length d) and eqb (length s) (length d)) in
+    let g = ltb 16384 (length d) in
+    let rest = inOrder (run (rowCheck (tableOf d f s)) 0 (length d)) in
+    let e₁ = when-accepted Lengths b (accepted-left (Lengths when b) (TooManyRows when g then rest) e) in
+    let e′ = accepted-right (Lengths when b) (TooManyRows when g then rest) e in
+    let e₂ = when-accepted TooManyRows g (accepted-left (TooManyRows when g) rest e′) in
+    let e₃ = accepted-right (TooManyRows when g) rest e′ in
+    let both = not-no (eqb (length f) (length d) and eqb (length s) (length d)) e₁ in
+    record {
+      firsts = eqb-true (length f) (length d) (and-l (eqb (length f) (length d)) (eqb (length s) (length d)) both); seconds = eqb-true (length s) (length d) (and-r (eqb (length f) (length d)) (eqb (length s) (length d)) both);
+      most = ltb-false 16384 (length d) e₂;
+      rows = λ j l. let x = row e₃ j l in record { day-from = x .0; day-to = x .1; accounts = x .2; account-to = x .3 };
+      rising = λ j l. row e₃ (suc j) l .4 }
+  where
+    not-no : (x : Bool) → no x ≡ false → x ≡ true
+    not-no x h = ⊎-elim (λ y. y) (λ y. clash (no-i y) h) (look x)
+    row : inOrder (run (rowCheck (tableOf d f s)) 0 (length d)) ≡ Accepted → (j : ℕ) → j < length d → (1 ≤ getD d j 0) × (getD d j 0 ≤ 1024) × (getD f j 0 < getD s j 0) × (getD s j 0 ≤ 4095) × (dayBefore (tableOf d f s) j ≤ getD d j 0)
+    row h j l = row-sound d f s j (all-accepted (rowCheck (tableOf d f s)) 0 (length d) h j (omega arith) (omega arith))

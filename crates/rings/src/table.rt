@@ -1,0 +1,70 @@
+// Table check: the first check of every call that takes a table.
+ghost use mathlib.Core.Path.{_≡_};
+ghost use lib.ListN.{length};
+ghost use Rattle.rings.specs.Words.{run};
+ghost use Rattle.rings.specs.Table.{tableOf};
+ghost use Rattle.rings.specs.Checks.{inOrder};
+ghost use Rattle.rings.specs.TableCheck.{rowFaults, rowCheck, tableCheck};
+
+use crate::refusal::Refusal;
+use crate::refusal::Verdict;
+
+// The faults of one row, in their order.
+fn check_row(j: usize, before: u16, day: u16, a: u16, b: u16) -> Verdict
+    ensures { λ r. ⌜ r ≡ rowFaults j before day a b ⌝ }
+{
+    if day < 1 {
+        return Verdict::Refused(Refusal::Day(j));
+    }
+    if 1024 < day {
+        return Verdict::Refused(Refusal::Day(j));
+    }
+    if 4095 < b {
+        return Verdict::Refused(Refusal::Accounts(j));
+    }
+    if b <= a {
+        return Verdict::Refused(Refusal::Accounts(j));
+    }
+    if day < before {
+        return Verdict::Refused(Refusal::Order(j));
+    }
+    Verdict::Accepted
+}
+
+// The lowest faulty row decides.
+fn check_rows(days: &[u16], first: &[u16], second: &[u16]) -> Verdict
+    requires { ⌜ (length (now first) ≡ length (now days)) × (length (now second) ≡ length (now days)) ⌝ }
+    ensures { λ r. ⌜ r ≡ inOrder (run (rowCheck (tableOf (now (days .entry)) (now (first .entry)) (now (second .entry)))) 0 (length (now (days .entry)))) ⌝ }
+{
+    let mut before: u16 = 0;
+    let mut j = 0;
+    while j < days.len() {
+        let day = days[j];
+        let found = check_row(j, before, day, first[j], second[j]);
+        match found {
+            Verdict::Refused(r) => {
+                return Verdict::Refused(r);
+            }
+            Verdict::Accepted => {
+                before = day;
+                j += 1;
+            }
+        }
+    }
+    Verdict::Accepted
+}
+
+pub fn check_table(days: &[u16], first: &[u16], second: &[u16]) -> Verdict
+    ensures { λ r. ⌜ r ≡ tableCheck (tableOf (now (days .entry)) (now (first .entry)) (now (second .entry))) ⌝ }
+{
+    if first.len() != days.len() {
+        return Verdict::Refused(Refusal::Lengths);
+    }
+    if second.len() != days.len() {
+        return Verdict::Refused(Refusal::Lengths);
+    }
+    if 16384 < days.len() {
+        return Verdict::Refused(Refusal::TooManyRows);
+    }
+    check_rows(days, first, second)
+}
