@@ -156,7 +156,8 @@ module _ (t : Table) (q : Query) where
       let a = p .1 in
       record {
         first = dated s e s (subst (DayRow t (ring t q s e)) (p .1) (first-day t (ring t q s e) (omega arith)));
-        last = dated s e e (subst (DayRow t (ring t q s e)) (p .2) (last-day t (ring t q s e) (j .0) (in-window t q s e (j .0) (j .1) .row) (marked-in t q s e (j .0) (j .1)))) }
+        last = dated s e e (subst (DayRow t (ring t q s e)) (p .2) (last-day t (ring t q s e) (j .0) (in-window t q s e (j .0) (j .1) .row) (marked-in t q s e (j .0) (j .1))));
+      }
 
   pub tight-i : (s e : ℕ) → s ≤ never → Tight s e → tight t q s e ≡ true
   unfolding tight tightest
@@ -226,9 +227,14 @@ module _ (t : Table) (q : Query) where
       let l = le-b s e fits j h j h in
       let k = b-le-e s e fits j h in
       record {
-        start = a s e fits j h; end = b s e fits j h; from = s-le-a s e fits j h; order = le-trans f l; to = k;
+        start = a s e fits j h;
+        end = b s e fits j h;
+        from = s-le-a s e fits j h;
+        order = le-trans f l;
+        to = k;
         is-tight = tight-i (a s e fits j h) (b s e fits j h) (omega arith) (record { first = moved s e fits j h (first-row s e fits j h); last = moved s e fits j h (last-row s e fits j h) });
-        same = same-ring s e fits j h }
+        same = same-ring s e fits j h;
+      }
 
   -- two tight windows with one ring are one
   pub tight-one : (s e s′ e′ : ℕ) → tight t q s e ≡ true → tight t q s′ e′ ≡ true → ring t q s e ≡ ring t q s′ e′ → (s ≡ s′) × (e ≡ e′)
@@ -262,20 +268,24 @@ module _ (t : Table) (q : Query) where
         -- a row whose core time is e and no ring row dated e: the ring would be that of [s, e - 1]
         on : ℕ → Bool
         on j = inRing t q s e j and eqb (dayOf t j) e
+
         last-in : inRing t q s e (w .last) ≡ true
         last-in = row-reach-e t q hi s fits (w .last) e h (let x = w .last-time in omega arith)
+
         found : some on (size t) ≡ true → DatedRow s e e
         found y = let z = some-e on (size t) y in record { row = z .it; in-ring = and-l (inRing t q s e (z .it)) (eqb (dayOf t (z .it)) e) (z .has); dated = eqb-true (dayOf t (z .it)) e (and-r (inRing t q s e (z .it)) (eqb (dayOf t (z .it)) e) (z .has)) }
+
         sooner : some on (size t) ≡ false → (j : ℕ) → inRing t q s e j ≡ true → dayOf t j < e
         sooner n j y =
             ⊎-elim (λ p. clash (and-i y (eq-eqb (dayOf t j) e p)) (some-none on (size t) n j (in-window t q s e j y .row))) (λ l. l) (eq-or-lt-of-le (in-window t q s e j y .to))
+
         ended : DatedRow s e e
         ended =
             ⊎-elim found
             (λ n.
-              let l : dayOf t (w .last) < e = sooner n (w .last) last-in in
-              let f = in-window t q s e (w .last) last-in .from in
-              let x = w .last-time in
-              let within : Within (ring t q s e) (windowRows t s (pred e)) = record { all = λ i m. let k = in-marked t q s e i m in let z = in-window t q s e i k in let y : dayOf t i < e = sooner n i k in window-i t s (pred e) i (record { row = z .row; from = z .from; to = omega arith }) } in
-              let r : rowTime t q hi s (w .last) ≤ pred e = row-reach-i t q hi s (w .last) (pred e) (omega arith) (omega arith) (in-marked t q s (pred e) (w .last) (ring-holds t q s (pred e) (ring t q s e) within (ring-good t q s e) .all (w .last) (marked-in t q s e (w .last) last-in))) in
-              absurd (omega arith)) (look (some on (size t)))
+            let l : dayOf t (w .last) < e = sooner n (w .last) last-in in
+            let f = in-window t q s e (w .last) last-in .from in
+            let x = w .last-time in
+            let within : Within (ring t q s e) (windowRows t s (pred e)) = record { all = λ i m. let k = in-marked t q s e i m in let z = in-window t q s e i k in let y : dayOf t i < e = sooner n i k in window-i t s (pred e) i (record { row = z .row; from = z .from; to = omega arith }) } in
+            let r : rowTime t q hi s (w .last) ≤ pred e = row-reach-i t q hi s (w .last) (pred e) (omega arith) (omega arith) (in-marked t q s (pred e) (w .last) (ring-holds t q s (pred e) (ring t q s e) within (ring-good t q s e) .all (w .last) (marked-in t q s e (w .last) last-in))) in
+            absurd (omega arith)) (look (some on (size t)))

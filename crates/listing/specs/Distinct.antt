@@ -1,4 +1,5 @@
 -- The distinct rings of a range, said without tightest windows: what a listing is to list.
+--     sameMark a b       two marks are equal
 --     sameRows m m'      the row sets m and m' are equal
 --     distinct ms        each row set of a list once, at its last place
 --     ringsOf t q lo hi  the rings of all windows of the range [lo, hi], by start, then end

@@ -3,3 +3,4 @@ pub mod Listing
 pub mod Distinct
 pub mod ListingCall
 pub mod LongestList
+pub mod Examples

@@ -1,8 +1,10 @@
 -- The listing of a range: every ring once, by its tightest window.
 --     ListedRing         an entry: a tightest window and the number of its ring's rows
+--     entryOf t q w      the entry of window w
 --     listing t q lo hi  all entries of the range [lo, hi], by start, then end
 --     rowSum ls          the sum of the rows of a listing
-use Prim.Native.Nat.{ℕ, _+_}
+--     span x             the span of an entry
+use Prim.Native.Nat.{ℕ, _+_, _-_}
 use mathlib.Core.List.{List, [], _∷_, map}
 use Rattle.rings.specs.Words.{chosen}
 use Rattle.rings.specs.Table.{Table}
@@ -17,13 +19,17 @@ pub record ListedRing : Type 0 where
   pub rows : ℕ
 
 -- 01: "A payment count is the number of the ring's rows, equal rows counted each"
-unfoldable pub listedRing : Table → Query → Window → ListedRing
-listedRing t q w = record { start = w .start; end = w .end; rows = members (ring t q (w .start) (w .end)) }
+unfoldable pub entryOf : Table → Query → Window → ListedRing
+entryOf t q w = record { start = w .start; end = w .end; rows = members (ring t q (w .start) (w .end)) }
 
 -- 01: "columns start, end, rows, ordered by start, then end"
 unfoldable pub listing : Table → Query → ℕ → ℕ → List ListedRing
-listing t q lo hi = map (listedRing t q) (chosen (λ w. tight t q (w .start) (w .end)) (windows lo hi))
+listing t q lo hi = map (entryOf t q) (chosen (λ w. tight t q (w .start) (w .end)) (windows lo hi))
 
 unfoldable pub rowSum : List ListedRing → ℕ
 rowSum [] = 0
 rowSum (l ∷ ls) = l .rows + rowSum ls
+
+-- 01: "Span: end minus start"
+unfoldable pub span : ListedRing → ℕ
+span x = x .end - x .start

@@ -1,5 +1,6 @@
 -- Listing (k, Ts, Te): the answer, and each lent buffer at exit. Lent buffers go into the checks by their lengths.
 --     listingChecks      what stops the call, in order
+--     summed v ls        the answer for a listing: its count and its sum where no check refuses
 --     listingAnswer      the answer: the count and the sum of rows
 --     ringColumn         a column at exit, for the part of an entry that it holds
 --     listingStarts, listingEnds, listingRows    the three columns at exit
@@ -10,13 +11,13 @@ use mathlib.Core.List.{List, map}
 use lib.ListN.{length}
 use lib.Dec.{ltb, eqb}
 use Rattle.rings.specs.Words.{_and_, no}
-use Rattle.rings.specs.Table.{Table}
+use Rattle.rings.specs.Table.{Table, size}
 use Rattle.rings.specs.Refusals.{Report, done, refused}
 use Rattle.rings.specs.Checks.{_when_, _then_, queryCheck, rangeCheck, scratchCheck}
 use Rattle.rings.specs.Buffers.{over, cleared, scratchOn}
 use Rattle.rings.specs.TableCheck.{tableCheck}
 use Rattle.rings.specs.declared.Query.{Query}
-use Rattle.rings.specs.declared.refusal.Refusal.the-variants.{BadColumns, NoRoom}
+use Rattle.rings.specs.declared.refusal.Refusal.the-variants.{BadLengths, NoRoom}
 use Rattle.rings.specs.declared.refusal.Verdict.{Verdict}
 use Rattle.listing.specs.Listing.{ListedRing, listing, rowSum}
 use Rattle.listing.specs.declared.Listed.{Listed}
@@ -27,8 +28,8 @@ listingChecks t q lo hi startPlaces endPlaces rowPlaces scratch =
     tableCheck t
     then queryCheck q
     then rangeCheck lo hi
-    then BadColumns when no (eqb endPlaces startPlaces and eqb rowPlaces startPlaces)
-    then scratchCheck t scratch
+    then BadLengths when no (eqb endPlaces startPlaces and eqb rowPlaces startPlaces)
+    then scratchCheck (size t) scratch
     then NoRoom when ltb startPlaces (length (listing t q lo hi))
 
 unfoldable pub summed : Verdict → List ListedRing → Listed

@@ -46,7 +46,7 @@ least-cases p s zero = _⊎_.inl refl
 least-cases p s (suc n) =
     ⊎-elim (λ h. _⊎_.inr (subst (Least p s (suc n)) (sym (least-yes p s n h)) (record { from = le-refl s; below = omega arith; has = h })))
     (λ h. subst (λ (x : ℕ). (x ≡ never) ⊎ Least p s (suc n) x) (sym (least-no p s n h))
-      (⊎-elim _⊎_.inl (λ l. _⊎_.inr (record { from = omega (arith, l .from); below = omega (arith, l .below); has = l .has })) (least-cases p (suc s) n))) (look (p s))
+    (⊎-elim _⊎_.inl (λ l. _⊎_.inr (record { from = omega (arith, l .from); below = omega (arith, l .below); has = l .has })) (least-cases p (suc s) n))) (look (p s))
 
 least-le : (p : ℕ → Bool) (s n e : ℕ) → s ≤ e → e < s + n → p e ≡ true → least p s n ≤ e
 least-le p s zero e h l k = absurd (omega arith)
@@ -139,9 +139,9 @@ module _ (t : Table) (q : Query) (hi : ℕ) where
     row-max fits j i =
         same-time {s = s} {hi = hi} fits (row-time j) (time-max {s = s} {hi = hi} fits (account-time (firstOf t j)) (account-time (secondOf t j)) (i .from) (i .to))
         (λ e l h r. let k = row-reach-e fits j e h r in
-          let a : accountTime t q hi s (firstOf t j) ≤ e = account-reach-i (firstOf t j) e l h (met-first t q s e j k) in
-          let b : accountTime t q hi s (secondOf t j) ≤ e = account-reach-i (secondOf t j) e l h (met-second t q s e j k) in
-          let d : dayOf t j ≤ e = in-window t q s e j k .to in omega arith)
+        let a : accountTime t q hi s (firstOf t j) ≤ e = account-reach-i (firstOf t j) e l h (met-first t q s e j k) in
+        let b : accountTime t q hi s (secondOf t j) ≤ e = account-reach-i (secondOf t j) e l h (met-second t q s e j k) in
+        let d : dayOf t j ≤ e = in-window t q s e j k .to in omega arith)
         (λ e l h r. row-reach-i j e l h (two-met t q s e j (record { row = i .row; from = i .from; to = omega arith }) (account-reach-e fits (firstOf t j) e h (omega arith)) (account-reach-e fits (secondOf t j) e h (omega arith))))
 
     -- 01: "A row before s or after Te has never"
@@ -173,6 +173,7 @@ module _ (t : Table) (q : Query) (hi : ℕ) where
       where
         in-row : (j : ℕ) → marked (ring t q s e) j ≡ true → leb (rowTime t q hi s j) e ≡ true
         in-row j k = le-leb (rowTime t q hi s j) e (row-reach-i j e l h (in-marked t q s e j k))
+
         row-in : (j : ℕ) → leb (rowTime t q hi s j) e ≡ true → marked (ring t q s e) j ≡ true
         row-in j k = marked-in t q s e j (row-reach-e fits j e h (leb-true (rowTime t q hi s j) e k))
 

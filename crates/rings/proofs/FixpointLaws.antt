@@ -1,6 +1,4 @@
 -- The fixpoint on which the engine rests. A guess x gives each account a day or never.
---     supports t x s c u v     a payment of u and v, dated from s to c, with x v at most c
---     supporters t x s c u     how many accounts support u so
 --     Lower t q hi s x         x is at most each account's core time: x u ≤ c wherever u is met in the ring of [s, c]
 --     Closed t q s x u         x u is never, or u has at least k supporters at x u
 --     enough                   where x is lower, an account met in the ring of [s, c] has at least k supporters at c. So an account that has fewer at x u is not met in the ring of [s, x u], and x u may rise and stay lower
@@ -21,20 +19,11 @@ use Rattle.rings.specs.Words.{_and_, _or_, marked, some, count, run}
 use Rattle.rings.specs.Table.{Table, size, dayOf, firstOf, secondOf, windowRows}
 use Rattle.rings.specs.Ring.{joins, neighbour, names, degree, touches, met, Good, Within, ring}
 use Rattle.rings.specs.CoreTimes.{never, accountTime}
+use Rattle.rings.specs.Inner.Support.{backs, supports, supporters}
 use Rattle.rings.specs.declared.Query.{Query}
 use Rattle.rings.proofs.WordLaws.{look, clash, and-i, and-l, and-r, or-e, some-i, some-e, count-mono, count-some, marked-run-e, marked-run-i}
 use Rattle.rings.proofs.RingLaws.{Inside, window-e, window-i, touch-cases, joins-cases, joins-touch, met-i, met-e, met-mono, neighbour-i, neighbour-e, ring-within, ring-degree, ring-holds, ring-grows}
 use Rattle.rings.proofs.CoreTimeLaws.{Time, account-time, account-reach-i, account-reach-e, time-day}
-
--- a row that makes v a supporter of u at c
-unfoldable pub backs : Table → (ℕ → ℕ) → ℕ → ℕ → ℕ → ℕ → ℕ → Bool
-backs t x s c u v j = joins t j u v and leb s (dayOf t j) and leb (dayOf t j) c and leb (x v) c
-
-unfoldable pub supports : Table → (ℕ → ℕ) → ℕ → ℕ → ℕ → ℕ → Bool
-supports t x s c u v = some (backs t x s c u v) (size t)
-
-unfoldable pub supporters : Table → (ℕ → ℕ) → ℕ → ℕ → ℕ → ℕ
-supporters t x s c u = count (supports t x s c u) (names t)
 
 pub record Lower (t : Table) (q : Query) (hi s : ℕ) (x : ℕ → ℕ) : Type 0 where
   pub under : (u c : ℕ) → s ≤ c → c ≤ hi → met t (ring t q s c) u ≡ true → x u ≤ c
@@ -59,10 +48,13 @@ supports-e t x s c u v h =
     let r = and-r (joins t j u v) (leb s (dayOf t j) and leb (dayOf t j) c and leb (x v) c) (w .has) in
     let r′ = and-r (leb s (dayOf t j)) (leb (dayOf t j) c and leb (x v) c) r in
     record {
-      row = j; below = w .below; join = and-l (joins t j u v) (leb s (dayOf t j) and leb (dayOf t j) c and leb (x v) c) (w .has);
+      row = j;
+      below = w .below;
+      join = and-l (joins t j u v) (leb s (dayOf t j) and leb (dayOf t j) c and leb (x v) c) (w .has);
       from = leb-true s (dayOf t j) (and-l (leb s (dayOf t j)) (leb (dayOf t j) c and leb (x v) c) r);
       to = leb-true (dayOf t j) c (and-l (leb (dayOf t j) c) (leb (x v) c) r′);
-      other = leb-true (x v) c (and-r (leb (dayOf t j) c) (leb (x v) c) r′) }
+      other = leb-true (x v) c (and-r (leb (dayOf t j) c) (leb (x v) c) r′);
+    }
 
 pub supports-i : (t : Table) (x : ℕ → ℕ) (s c u v : ℕ) → Backs t x s c u v → supports t x s c u v ≡ true
 unfolding supports backs
@@ -78,11 +70,16 @@ module _ (t : Table) (q : Query) (hi s : ℕ) (x : ℕ → ℕ) where
       le-trans (ring-degree t q s c u m)
       (count-mono (neighbour t (ring t q s c) u) (supports t x s c u) (names t)
       (λ v o n.
-        let y = neighbour-e t (ring t q s c) u v n in
-        let w = window-e t s c (y .row) (ring-within t q s c .all (y .row) (y .has)) in
-        supports-i t x s c u v (record {
-          row = y .row; below = y .below; join = y .join; from = w .from; to = w .to;
-          other = low .under v c l h (met-i t (ring t q s c) (y .row) v (y .below) (y .has) (joins-touch t (y .row) u v (y .join) .1)) })))
+      let y = neighbour-e t (ring t q s c) u v n in
+      let w = window-e t s c (y .row) (ring-within t q s c .all (y .row) (y .has)) in
+      supports-i t x s c u v (record {
+        row = y .row;
+        below = y .below;
+        join = y .join;
+        from = w .from;
+        to = w .to;
+        other = low .under v c l h (met-i t (ring t q s c) (y .row) v (y .below) (y .has) (joins-touch t (y .row) u v (y .join) .1));
+      })))
 
   module _ (fits : hi < never) (closed : (u : ℕ) → Closed t q s x u) where
     -- below never, closed means supporters
@@ -143,10 +140,12 @@ module _ (t : Table) (q : Query) (hi s : ℕ) (x : ℕ → ℕ) where
     core-good : (c : ℕ) → c ≤ hi → Good t q (core c)
     unfolding core
     core-good c h =
-        record { neighbours = λ u m.
-          let y = met-e t (core c) u m in
-          let z = held-e c (y .row) (marked-run-e (held c) (size t) (y .row) (y .has) .1) in
-          core-degree c u h (⊎-elim (λ e. subst (λ (a : ℕ). x a ≤ c) e (z .one)) (λ e. subst (λ (a : ℕ). x a ≤ c) e (z .two)) (touch-cases t (y .row) u (y .touch))) }
+        record {
+          neighbours = λ u m.
+              let y = met-e t (core c) u m in
+              let z = held-e c (y .row) (marked-run-e (held c) (size t) (y .row) (y .has) .1) in
+              core-degree c u h (⊎-elim (λ e. subst (λ (a : ℕ). x a ≤ c) e (z .one)) (λ e. subst (λ (a : ℕ). x a ≤ c) e (z .two)) (touch-cases t (y .row) u (y .touch)));
+        }
 
     -- (B)
     pub closed-met : 1 ≤ q .k → (u : ℕ) → x u ≤ hi → met t (ring t q s (x u)) u ≡ true
@@ -171,6 +170,7 @@ module _ (t : Table) (q : Query) (hi s : ℕ) (x : ℕ → ℕ) where
       where
         a : ℕ
         a = accountTime t q hi s u
+
         go : (x u ≤ hi) ⊎ (x u ≡ never) → Time s hi a → x u ≡ a
         go (_⊎_.inl h) y =
             let r : a ≤ x u = account-reach-i t q hi s u (x u) (closed-from k u h) h (closed-met k u h) in
@@ -185,9 +185,11 @@ module _ (t : Table) (q : Query) (hi s : ℕ) (fits : hi < never) where
 
   pub times-closed : (u : ℕ) → Closed t q s (accountTime t q hi s) u
   times-closed u =
-      record { enough-or-never =
-        ⊎-elim _⊎_.inl (λ d. _⊎_.inr (enough t q hi s (accountTime t q hi s) times-lower u (accountTime t q hi s u) (d .0) (d .1) (account-reach-e t q hi s fits u (accountTime t q hi s u) (d .1) (le-refl (accountTime t q hi s u)))))
-        (account-time t q hi s u) }
+      record {
+        enough-or-never =
+            ⊎-elim _⊎_.inl (λ d. _⊎_.inr (enough t q hi s (accountTime t q hi s) times-lower u (accountTime t q hi s u) (d .0) (d .1) (account-reach-e t q hi s fits u (accountTime t q hi s u) (d .1) (le-refl (accountTime t q hi s u)))))
+            (account-time t q hi s u);
+      }
 
   -- the core times at s are lower at a later start
   pub lower-next : (s′ : ℕ) → s ≤ s′ → Lower t q hi s′ (accountTime t q hi s)

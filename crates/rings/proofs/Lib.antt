@@ -7,3 +7,5 @@ pub mod FixpointLaws
 pub mod WindowLaws
 pub mod CheckLaws
 pub mod TableLaws
+pub mod PairLaws
+pub mod FallLaws

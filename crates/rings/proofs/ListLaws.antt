@@ -145,10 +145,13 @@ module _ {A : Type 0} where
         heads (_⊎_.inl e) h = e
         heads (_⊎_.inr m) (_⊎_.inl e) = sym e
         heads (_⊎_.inr m) (_⊎_.inr n) = absurd (strict y x (b x m) (a y n))
+
         self : (z : A) → R x z → z ≡ x → ⊥
         self z r e = let s : R x x = subst (R x) e r in strict x x s s
+
         self′ : (z : A) → R y z → z ≡ y → ⊥
         self′ z r e = let s : R y y = subst (R y) e r in strict y y s s
+
         cons : x ≡ y → xs ≡ ys → x ∷ xs ≡ y ∷ ys
         cons e r = cc
 

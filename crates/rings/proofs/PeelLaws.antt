@@ -85,10 +85,13 @@ module _ (test : List Bool → ℕ → Bool) where
     where
       dropped : ℕ → Bool
       dropped j = marked m j and no (marked (round test m) j)
+
       less : (j : ℕ) → marked m j ≡ true → marked (round test m) j ≡ false → count (marked (round test m)) (length (round test m)) ≤ n
       less j a b = let f : count (marked (round test m)) (length (round test m)) < count (marked m) (length m) = round-fewer m j a b in omega arith
+
       stays : some dropped (length m) ≡ false → (j : ℕ) → marked m j ≡ true → marked (round test m) j ≡ true
       stays e j a = ⊎-elim (λ b. b) (λ b. clash (and-i a (no-i b)) (some-none dropped (length m) e j (marked-below m j a))) (look (marked (round test m) j))
+
       steady : some dropped (length m) ≡ false → Stable test m
       steady e = record { passes = λ j a. round-passes m j (stays e j a) }
 

@@ -139,17 +139,21 @@ module _ (t : Table) (q : Query) where
 
   good-of-stable : (m : List Bool) → Stable (keep t q) m → Good t q m
   good-of-stable m s =
-      record { neighbours = λ u h.
-        let x = met-e t m u h in
-        let y = keep-e m (x .row) (s .passes (x .row) (x .has)) in
-        ⊎-elim (λ e. subst (λ (a : ℕ). q .k ≤ degree t m a) e (y .0)) (λ e. subst (λ (a : ℕ). q .k ≤ degree t m a) e (y .1)) (touch-cases t (x .row) u (x .touch)) }
+      record {
+        neighbours = λ u h.
+            let x = met-e t m u h in
+            let y = keep-e m (x .row) (s .passes (x .row) (x .has)) in
+            ⊎-elim (λ e. subst (λ (a : ℕ). q .k ≤ degree t m a) e (y .0)) (λ e. subst (λ (a : ℕ). q .k ≤ degree t m a) e (y .1)) (touch-cases t (x .row) u (x .touch));
+      }
 
   stable-of-good : (m : List Bool) → ((j : ℕ) → marked m j ≡ true → j < size t) → Good t q m → Stable (keep t q) m
   stable-of-good m b g =
-      record { passes = λ j h.
-        keep-i m j (g .neighbours (firstOf t j) (met-i t m j (firstOf t j) (b j h) h (touch-first t j))) (g .neighbours (secondOf t j) (met-i t m j (secondOf t j) (b j h) h (touch-second t j))) }
+      record {
+        passes = λ j h.
+            keep-i m j (g .neighbours (firstOf t j) (met-i t m j (firstOf t j) (b j h) h (touch-first t j))) (g .neighbours (secondOf t j) (met-i t m j (secondOf t j) (b j h) h (touch-second t j)));
+      }
 
--- ---- the ring
+  -- ---- the ring
 
   module _ (s e : ℕ) where
     pub ring-sized : length (ring t q s e) ≡ size t
@@ -200,20 +204,25 @@ module _ (t : Table) (q : Query) where
       where
         also : ℕ → Bool
         also n = marked (ring t q s e) n or eqb n j
+
         more : List Bool
         more = run also 0 (size t)
+
         more-within : Within more (windowRows t s e)
         more-within = record { all = λ n h. ⊎-elim (ring-within .all n) (λ p. window-i t s e n (subst (Inside t s e) (sym (eqb-true n j p)) i)) (or-e (marked (ring t q s e) n) (eqb n j) (marked-run-e also (size t) n h .1)) }
+
         fewer : Within (ring t q s e) more
         fewer = record { all = λ n h. marked-run-i also (size t) n (window-e t s e n (ring-within .all n h) .row) (or-l (marked (ring t q s e) n) (eqb n j) h) }
+
         old : (u : ℕ) → met t (ring t q s e) u ≡ true → q .k ≤ degree t more u
         old u h = le-trans (ring-degree u h) (degree-mono t u fewer)
+
         more-good : (u : ℕ) → met t more u ≡ true → q .k ≤ degree t more u
         more-good u h =
             let x = met-e t more u h in
             ⊎-elim (λ p. old u (met-i t (ring t q s e) (x .row) u (x .below) p (x .touch)))
             (λ p. ⊎-elim (λ f. subst (λ (v : ℕ). q .k ≤ degree t more v) (ap (firstOf t) (sym (eqb-true (x .row) j p)) ∙ f) (old (firstOf t j) a))
-                (λ f. subst (λ (v : ℕ). q .k ≤ degree t more v) (ap (secondOf t) (sym (eqb-true (x .row) j p)) ∙ f) (old (secondOf t j) b)) (touch-cases t (x .row) u (x .touch)))
+            (λ f. subst (λ (v : ℕ). q .k ≤ degree t more v) (ap (secondOf t) (sym (eqb-true (x .row) j p)) ∙ f) (old (secondOf t j) b)) (touch-cases t (x .row) u (x .touch)))
             (or-e (marked (ring t q s e) (x .row)) (eqb (x .row) j) (marked-run-e also (size t) (x .row) (x .has) .1))
 
     -- the accounts of a row of the ring are met in it

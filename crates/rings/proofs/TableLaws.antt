@@ -20,7 +20,7 @@ use Rattle.rings.specs.Table.{Table, tableOf, size, dayOf, firstOf, seco
 use Rattle.rings.specs.Checks.{_when_, _then_, inOrder}
 use Rattle.rings.specs.TableCheck.{dayBefore, rowFaults, rowCheck, tableCheck}
 use Rattle.rings.specs.declared.refusal.Refusal.{Refusal}
-use Rattle.rings.specs.declared.refusal.Refusal.the-variants.{Lengths, TooManyRows, Day, Accounts, Order}
+use Rattle.rings.specs.declared.refusal.Refusal.the-variants.{UnequalColumns, TooManyRows, BadDay, BadAccounts, OutOfOrder}
 use Rattle.rings.specs.declared.refusal.Verdict.{Verdict}
 use Rattle.rings.specs.declared.refusal.Verdict.the-variants.{Accepted, Refused}
 use Rattle.rings.proofs.WordLaws.{look, clash, and-l, and-r, or-l, or-r, no-i, no-e}
@@ -44,8 +44,10 @@ module _ (d f s : List ℕ) where
   unfolding dayBefore dayOf at
   pass-next before j p l e =
       record {
-        inside = omega arith; day-before = ap (dayBefore (tableOf d f s)) (sym (add-one j));
-        passed = λ i h. ⊎-elim (λ q. subst (λ (x : ℕ). rowCheck (tableOf d f s) x ≡ Accepted) (sym q) (row-here before j p e)) (λ q. p .passed i q) (eq-or-lt-of-le (le-of-suc-le-suc (rw (add-one j) at h))) }
+        inside = omega arith;
+        day-before = ap (dayBefore (tableOf d f s)) (sym (add-one j));
+        passed = λ i h. ⊎-elim (λ q. subst (λ (x : ℕ). rowCheck (tableOf d f s) x ≡ Accepted) (sym q) (row-here before j p e)) (λ q. p .passed i q) (eq-or-lt-of-le (le-of-suc-le-suc (rw (add-one j) at h)));
+      }
 
   pub pass-refused : (before j : ℕ) (r : Refusal) → Passed d f s before j → j < length d → Refused r ≡ rowFaults j before (getD d j 0) (getD f j 0) (getD s j 0) → Refused r ≡ inOrder (run (rowCheck (tableOf d f s)) 0 (length d))
   pass-refused before j r p l e = sym (order-refused (rowCheck (tableOf d f s)) 0 (length d) j (omega arith) (omega arith) (λ i a b. p .passed i b) (row-here before j p e))
@@ -74,18 +76,20 @@ faults-none j before day a b e =
     let p = no (leb 1 day and leb day 1024) in
     let q = ltb 4095 b or no (ltb a b) in
     let r = ltb day before in
-    let rest = Accounts j when q then Order j when r in
-    let e₁ = when-accepted (Day j) p (accepted-left (Day j when p) rest e) in
-    let e′ = accepted-right (Day j when p) rest e in
-    let e₂ = when-accepted (Accounts j) q (accepted-left (Accounts j when q) (Order j when r) e′) in
-    let e₃ = when-accepted (Order j) r (accepted-right (Accounts j when q) (Order j when r) e′) in
+    let rest = BadAccounts j when q then OutOfOrder j when r in
+    let e₁ = when-accepted (BadDay j) p (accepted-left (BadDay j when p) rest e) in
+    let e′ = accepted-right (BadDay j when p) rest e in
+    let e₂ = when-accepted (BadAccounts j) q (accepted-left (BadAccounts j when q) (OutOfOrder j when r) e′) in
+    let e₃ = when-accepted (OutOfOrder j) r (accepted-right (BadAccounts j when q) (OutOfOrder j when r) e′) in
     let both = not-no (leb 1 day and leb day 1024) e₁ in
     (leb-true 1 day (and-l (leb 1 day) (leb day 1024) both), leb-true day 1024 (and-r (leb 1 day) (leb day 1024) both), ltb-true a b (not-no (ltb a b) (right-false (ltb 4095 b) (no (ltb a b)) e₂)), ltb-false 4095 b (left-false (ltb 4095 b) (no (ltb a b)) e₂), ltb-false day before e₃)
   where
     not-no : (x : Bool) → no x ≡ false → x ≡ true
     not-no x h = ⊎-elim (λ y. y) (λ y. clash (no-i y) h) (look x)
+
     left-false : (x y : Bool) → x or y ≡ false → x ≡ false
     left-false x y h = ⊎-elim (λ z. clash (or-l x y z) h) (λ z. z) (look x)
+
     right-false : (x y : Bool) → x or y ≡ false → y ≡ false
     right-false x y h = ⊎-elim (λ z. clash (or-r x y z) h) (λ z. z) (look y)
 
@@ -99,18 +103,21 @@ table-sound d f s e =
     let b = no (eqb (length f) (length d) and eqb (length s) (length d)) in
     let g = ltb 16384 (length d) in
     let rest = inOrder (run (rowCheck (tableOf d f s)) 0 (length d)) in
-    let e₁ = when-accepted Lengths b (accepted-left (Lengths when b) (TooManyRows when g then rest) e) in
-    let e′ = accepted-right (Lengths when b) (TooManyRows when g then rest) e in
+    let e₁ = when-accepted UnequalColumns b (accepted-left (UnequalColumns when b) (TooManyRows when g then rest) e) in
+    let e′ = accepted-right (UnequalColumns when b) (TooManyRows when g then rest) e in
     let e₂ = when-accepted TooManyRows g (accepted-left (TooManyRows when g) rest e′) in
     let e₃ = accepted-right (TooManyRows when g) rest e′ in
     let both = not-no (eqb (length f) (length d) and eqb (length s) (length d)) e₁ in
     record {
-      firsts = eqb-true (length f) (length d) (and-l (eqb (length f) (length d)) (eqb (length s) (length d)) both); seconds = eqb-true (length s) (length d) (and-r (eqb (length f) (length d)) (eqb (length s) (length d)) both);
+      firsts = eqb-true (length f) (length d) (and-l (eqb (length f) (length d)) (eqb (length s) (length d)) both);
+      seconds = eqb-true (length s) (length d) (and-r (eqb (length f) (length d)) (eqb (length s) (length d)) both);
       most = ltb-false 16384 (length d) e₂;
       rows = λ j l. let x = row e₃ j l in record { day-from = x .0; day-to = x .1; accounts = x .2; account-to = x .3 };
-      rising = λ j l. row e₃ (suc j) l .4 }
+      rising = λ j l. row e₃ (suc j) l .4;
+    }
   where
     not-no : (x : Bool) → no x ≡ false → x ≡ true
     not-no x h = ⊎-elim (λ y. y) (λ y. clash (no-i y) h) (look x)
+
     row : inOrder (run (rowCheck (tableOf d f s)) 0 (length d)) ≡ Accepted → (j : ℕ) → j < length d → (1 ≤ getD d j 0) × (getD d j 0 ≤ 1024) × (getD f j 0 < getD s j 0) × (getD s j 0 ≤ 4095) × (dayBefore (tableOf d f s) j ≤ getD d j 0)
     row h j l = row-sound d f s j (all-accepted (rowCheck (tableOf d f s)) 0 (length d) h j (omega arith) (omega arith))

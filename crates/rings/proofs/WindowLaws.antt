@@ -51,8 +51,11 @@ smaller-e s e s′ e′ h =
     let r = and-r (leb s s′) (b and c and d) h in
     let r′ = and-r b (c and d) r in
     record {
-      from = leb-true s s′ (and-l (leb s s′) (b and c and d) h); order = leb-true s′ e′ (and-l b (c and d) r); to = leb-true e′ e (and-l c d r′);
-      other = λ w. clash (and-i (eq-eqb s s′ (w .0)) (eq-eqb e e′ (w .1))) (no-e (eqb s s′ and eqb e e′) (and-r c d r′)) }
+      from = leb-true s s′ (and-l (leb s s′) (b and c and d) h);
+      order = leb-true s′ e′ (and-l b (c and d) r);
+      to = leb-true e′ e (and-l c d r′);
+      other = λ w. clash (and-i (eq-eqb s s′ (w .0)) (eq-eqb e e′ (w .1))) (no-e (eqb s s′ and eqb e e′) (and-r c d r′));
+    }
 
 module _ (t : Table) (q : Query) where
   in-order : (s e j : ℕ) → inRing t q s e j ≡ true → s ≤ e
@@ -70,8 +73,9 @@ module _ (t : Table) (q : Query) where
       record {
         has = and-l (inRing t q s e j) all h;
         none-smaller = λ s′ e′ a b c d.
-          let k = every-e (none-inside j s e s′) (suc e) (every-e (λ s″. every (none-inside j s e s″) (suc e)) (suc e) (and-r (inRing t q s e j) all h) s′ (omega arith)) e′ (omega arith) in
-          ⊎-elim (λ y. clash (and-i (smaller-i s e s′ e′ (record { from = a; order = b; to = c; other = d })) y) (no-e (smaller s e s′ e′ and inRing t q s′ e′ j) k)) (λ y. y) (look (inRing t q s′ e′ j)) }
+            let k = every-e (none-inside j s e s′) (suc e) (every-e (λ s″. every (none-inside j s e s″) (suc e)) (suc e) (and-r (inRing t q s e j) all h) s′ (omega arith)) e′ (omega arith) in
+            ⊎-elim (λ y. clash (and-i (smaller-i s e s′ e′ (record { from = a; order = b; to = c; other = d })) y) (no-e (smaller s e s′ e′ and inRing t q s′ e′ j) k)) (λ y. y) (look (inRing t q s′ e′ j));
+      }
 
   pub minimal-i : (j s e : ℕ) → IsMinimal t q j s e → minimal t q j s e ≡ true
   unfolding minimal none-inside
@@ -89,12 +93,16 @@ module _ (t : Table) (q : Query) where
       where
         o : s ≤ e
         o = in-order s e j (m .has)
+
         reached : rowTime t q hi s j ≤ e
         reached = row-reach-i t q hi s j e o h (m .has)
+
         day : (s ≤ rowTime t q hi s j) × (rowTime t q hi s j ≤ hi)
         day = time-day {s = s} {hi = hi} fits (row-time t q hi s j) (omega (arith, reached))
+
         now : rowTime t q hi s j ≡ e
         now = ⊎-elim (λ a. a) (λ l. clash (row-reach-e t q hi s fits j (rowTime t q hi s j) (day .1) (le-refl (rowTime t q hi s j))) (m .none-smaller s (rowTime t q hi s j) (le-refl s) (day .0) reached (λ w. let x = w .1 in omega (arith, l)))) (eq-or-lt-of-le reached)
+
         later : rowTime t q hi (suc s) j ≡ e → ⊥
         later a =
             let k = row-reach-e t q hi (suc s) fits j e h (omega arith) in
@@ -107,10 +115,10 @@ module _ (t : Table) (q : Query) where
         inside : (s′ e′ : ℕ) → s ≤ s′ → s′ ≤ e′ → e′ ≤ e → ((s ≡ s′) × (e ≡ e′) → ⊥) → inRing t q s′ e′ j ≡ true → ⊥
         inside s′ e′ a b c d y =
             ⊎-elim (λ x.
-              let r : rowTime t q hi s j ≤ e′ = row-reach-i t q hi s j e′ (omega arith) (omega arith) (in-grows t q j a (le-refl e′) y) in d (x, omega arith))
+            let r : rowTime t q hi s j ≤ e′ = row-reach-i t q hi s j e′ (omega arith) (omega arith) (in-grows t q j a (le-refl e′) y) in d (x, omega arith))
             (λ x.
-              let r : rowTime t q hi (suc s) j ≤ e′ = row-reach-i t q hi (suc s) j e′ (le-trans x b) (omega arith) (in-grows t q j x (le-refl e′) y) in
-              let g : rowTime t q hi s j ≤ rowTime t q hi (suc s) j = row-later t q hi fits (omega arith) j in later (omega arith)) (eq-or-lt-of-le a)
+            let r : rowTime t q hi (suc s) j ≤ e′ = row-reach-i t q hi (suc s) j e′ (le-trans x b) (omega arith) (in-grows t q j x (le-refl e′) y) in
+            let g : rowTime t q hi s j ≤ rowTime t q hi (suc s) j = row-later t q hi fits (omega arith) j in later (omega arith)) (eq-or-lt-of-le a)
 
   -- ---- 001, Lemma 3
 
@@ -132,10 +140,17 @@ module _ (t : Table) (q : Query) where
           let r : rowTime t q e a j ≤ e = row-reach-i t q e a j e o (le-refl e) y in
           let d = time-day {s = a} {hi = e} fits (row-time t q e a j) (omega arith) in
           record {
-            start = a; end = rowTime t q e a j; from = le-refl a; order = d .0; to = r;
-            is-minimal = minimal-of-times e fits j a (rowTime t q e a j) r refl (λ x. clash (row-reach-e t q e (suc a) fits j e (le-refl e) (omega arith)) n) }
+            start = a;
+            end = rowTime t q e a j;
+            from = le-refl a;
+            order = d .0;
+            to = r;
+            is-minimal = minimal-of-times e fits j a (rowTime t q e a j) r refl (λ x. clash (row-reach-e t q e (suc a) fits j e (le-refl e) (omega arith)) n);
+          }
+
       wider : (a : ℕ) → Inner j (suc a) e → Inner j a e
       wider a w = let f = w .from in record { start = w .start; end = w .end; from = omega arith; order = w .order; to = w .to; is-minimal = w .is-minimal }
+
       go : (n a : ℕ) → e - a ≤ n → inRing t q a e j ≡ true → Inner j a e
       go zero a l y = last a y (⊎-elim (λ z. let o : suc a ≤ e = in-order (suc a) e j z in absurd (omega arith)) (λ z. z) (look (inRing t q (suc a) e j)))
       go (suc n) a l y = ⊎-elim (λ z. wider a (go n (suc a) (omega arith) z)) (λ z. last a y z) (look (inRing t q (suc a) e j))
@@ -225,9 +240,9 @@ module _ (t : Table) (q : Query) (lo hi : ℕ) where
       pair-map (entry j) Before (chosen (test j) (windows lo hi))
       (pair-weaken Earlier (λ v w. Before (entry j v) (entry j w)) (chosen (test j) (windows lo hi)) (pair-chosen Earlier (test j) (windows lo hi) (windows-order lo hi))
       (λ v w m n e.
-        let a = chosen-mem (test j) (windows lo hi) m in
-        let b = chosen-mem (test j) (windows lo hi) n in
-        let r = both-rise j v w (a .1) (b .1) (windows-e lo hi w (b .0)) e in _⊎_.inr (refl, r .0, r .1)))
+      let a = chosen-mem (test j) (windows lo hi) m in
+      let b = chosen-mem (test j) (windows lo hi) n in
+      let r = both-rise j v w (a .1) (b .1) (windows-e lo hi w (b .0)) e in _⊎_.inr (refl, r .0, r .1)))
 
   -- the computed list holds exactly the minimal windows of the range, in order
   pub list-is : IsMinimalList t q lo hi (minimalWindows t q lo hi)
@@ -236,6 +251,7 @@ module _ (t : Table) (q : Query) (lo hi : ℕ) where
     where
       rows : List (List Entry)
       rows = run (minimalOf t q lo hi) 0 (size t)
+
       each-one : (x : Entry) → Mem x (joined rows) → Listed t q lo hi x
       each-one x m =
           let a = joined-mem rows m in
@@ -245,10 +261,12 @@ module _ (t : Table) (q : Query) (lo hi : ℕ) where
           let e = c .0 in
           let o = c .1 in
           record { in-table = omega arith; from = o .from; order = o .order; to = o .to; is-minimal = subst (λ (j : ℕ). IsMinimal t q j (x .start) (x .end)) (sym e) (c .2) }
+
       whole-list : (x : Entry) → Listed t q lo hi x → Mem x (joined rows)
       whole-list x l =
           let h = l .in-table in
           mem-joined (mem-run (minimalOf t q lo hi) 0 (size t) (x .row) (omega arith) (omega arith)) (of-row-i x (record { from = l .from; order = l .order; to = l .to }) (l .is-minimal))
+
       ordered : Pairwise Before (joined rows)
       ordered =
           pair-joined Before rows (λ xs m. let b = run-mem (minimalOf t q lo hi) 0 (size t) m in subst (Pairwise Before) (sym (b .is)) (row-order (b .it)))
@@ -273,6 +291,7 @@ module _ (t : Table) (q : Query) (lo hi : ℕ) where
     where
       inside : Entry → Bool
       inside x = eqb (x .row) j and leb s (x .start) and leb (x .end) e
+
       found : oneOf inside es ≡ true → inRing t q s e j ≡ true
       found y =
           let w = oneOf-e inside es y in
@@ -281,6 +300,7 @@ module _ (t : Table) (q : Query) (lo hi : ℕ) where
           let b = and-r (eqb (x .row) j) (leb s (x .start) and leb (x .end) e) (w .has) in
           in-grows t q j (leb-true s (x .start) (and-l (leb s (x .start)) (leb (x .end) e) b)) (leb-true (x .end) e (and-r (leb s (x .start)) (leb (x .end) e) b))
           (subst (λ (i : ℕ). inRing t q (x .start) (x .end) i ≡ true) (eqb-true (x .row) j a) (l .each x (w .member) .is-minimal .has))
+
       kept : inRing t q s e j ≡ true → oneOf inside es ≡ true
       kept y =
           let w = inner-minimal t q j s e (omega arith) y in

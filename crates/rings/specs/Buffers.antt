@@ -1,7 +1,9 @@
 -- What lent buffers hold at exit: the words that the calls share.
+--     mark b             a mark byte
 --     marks m            a row set as mark bytes
 --     over new old       a column with new written from place 0 on
 --     cleared x          as long as x, all 0
+--     clearedIf b x      x, cleared where b holds
 --     scratchOn r x      the scratch x after the refusal r
 --     verdictScratch v x, countedScratch c x    the scratch x at exit, by the answer
 use Prim.Native.Nat.{ℕ}

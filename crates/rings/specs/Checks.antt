@@ -5,13 +5,12 @@
 --     counted v n        the answer of a call that counts: n where no check refuses
 --     queryCheck q       6
 --     rangeCheck s e     7, of a window and of a range
---     scratchCheck t n   9, for a scratch of n numbers
+--     scratchCheck rows n    9, for a table of so many rows and a scratch of n numbers
 use Prim.Native.Nat.{ℕ, _+_, _*_}
 use mathlib.Core.Bool.{Bool, true, false}
 use mathlib.Core.List.{List, [], _∷_}
 use lib.Dec.{leb, ltb}
 use Rattle.rings.specs.Words.{_and_, no}
-use Rattle.rings.specs.Table.{Table, size}
 use Rattle.rings.specs.declared.Query.{Query}
 use Rattle.rings.specs.declared.refusal.Refusal.{Refusal}
 use Rattle.rings.specs.declared.refusal.Refusal.the-variants.{BadK, BadWindow, SmallScratch}
@@ -21,7 +20,7 @@ use Rattle.rings.specs.declared.refusal.Counted.{Counted}
 
 infix 20 _when_
 infixr 15 _then_
-
+-- 01's "7: not .." reads `BadWindow when no ..`
 unfoldable pub _when_ : Refusal → Bool → Verdict
 r when true = Refused r
 r when false = Accepted
@@ -48,5 +47,5 @@ unfoldable pub rangeCheck : ℕ → ℕ → Verdict
 rangeCheck s e = BadWindow when no (leb 1 s and leb s e and leb e 1024)
 
 -- 01: "9: scratch below 8,192 + 4 × rows 16-bit numbers"
-unfoldable pub scratchCheck : Table → ℕ → Verdict
-scratchCheck t scratch = SmallScratch when ltb scratch (8192 + 4 * size t)
+unfoldable pub scratchCheck : ℕ → ℕ → Verdict
+scratchCheck rows scratch = SmallScratch when ltb scratch (8192 + 4 * rows)

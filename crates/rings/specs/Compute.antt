@@ -7,7 +7,7 @@ use Rattle.rings.specs.Windows.{windowsFrom, windows, smaller, minimal, 
 use Rattle.rings.specs.Refusals.{numberOf, placeOf, behindScratch, done, refused, verdictReport, countedReport}
 use Rattle.rings.specs.Checks.{_when_, _then_, inOrder, counted, queryCheck, rangeCheck, scratchCheck}
 use Rattle.rings.specs.Buffers.{mark, marks, over, cleared, clearedIf, scratchOn, verdictScratch, countedScratch}
-use Rattle.rings.specs.TableCheck.{dayBefore, rowCheck, tableCheck}
+use Rattle.rings.specs.TableCheck.{dayBefore, rowFaults, rowCheck, tableCheck}
 use Rattle.rings.specs.WindowRingCall.{ringChecks, ringAnswer, ringMarks}
 use Rattle.rings.specs.CoreTimesCall.{timesAnswer, accountColumn, rowColumn}
 use Rattle.rings.specs.MinimalWindowsCall.{minimalChecks, minimalAnswer, entryColumn, minimalRows, minimalStarts, minimalEnds}
@@ -15,17 +15,17 @@ use Rattle.rings.specs.RecallCall.{entryAt, comesAfter, inPlace, fits, e
 
 unfoldable pub compute : Unit {0}
 unfolding
-  _and_ _or_ no at marked some every tally count run joined kept chosen oneOf
-  size dayOf firstOf secondOf inWindow windowRows
-  joins neighbour greatest names degree touches met keep round rounds peel ring inRing members
-  never least accountTime rowTime
-  windowsFrom windows smaller minimal minimalOf minimalWindows entries recalled
-  numberOf placeOf behindScratch done refused verdictReport countedReport
-  _when_ _then_ inOrder counted queryCheck rangeCheck scratchCheck
-  mark marks over cleared clearedIf scratchOn verdictScratch countedScratch
-  dayBefore rowCheck tableCheck
-  ringChecks ringAnswer ringMarks
-  timesAnswer accountColumn rowColumn
-  minimalChecks minimalAnswer entryColumn minimalRows minimalStarts minimalEnds
-  entryAt comesAfter inPlace fits entryCheck recallAnswer recallMarks
+    _and_ _or_ no at marked some every tally count run joined kept chosen oneOf
+    size dayOf firstOf secondOf inWindow windowRows
+    joins neighbour greatest names degree touches met keep round rounds peel ring inRing members
+    never least accountTime rowTime
+    windowsFrom windows smaller minimal minimalOf minimalWindows entries recalled
+    numberOf placeOf behindScratch done refused verdictReport countedReport
+    _when_ _then_ inOrder counted queryCheck rangeCheck scratchCheck
+    mark marks over cleared clearedIf scratchOn verdictScratch countedScratch
+    dayBefore rowFaults rowCheck tableCheck
+    ringChecks ringAnswer ringMarks
+    timesAnswer accountColumn rowColumn
+    minimalChecks minimalAnswer entryColumn minimalRows minimalStarts minimalEnds
+    entryAt comesAfter inPlace fits entryCheck recallAnswer recallMarks
 compute = tt

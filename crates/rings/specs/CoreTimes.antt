@@ -5,7 +5,6 @@
 --     rowTime t q hi s j        the core time of row j (001, section IV: edge core time)
 use Prim.Native.Nat.{ℕ, zero, suc, _-_}
 use mathlib.Core.Bool.{Bool, true, false}
-use Rattle.rings.specs.Words.{at}
 use Rattle.rings.specs.Table.{Table}
 use Rattle.rings.specs.Ring.{met, ring, inRing}
 use Rattle.rings.specs.declared.Query.{Query}

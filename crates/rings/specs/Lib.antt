@@ -12,3 +12,5 @@ pub mod CoreTimesCall
 pub mod MinimalWindowsCall
 pub mod RecallCall
 pub mod Compute
+pub mod CheckRows
+pub mod Inner

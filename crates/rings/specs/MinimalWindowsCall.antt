@@ -8,13 +8,13 @@ use mathlib.Core.List.{List, map}
 use lib.ListN.{length}
 use lib.Dec.{ltb, eqb}
 use Rattle.rings.specs.Words.{_and_, no}
-use Rattle.rings.specs.Table.{Table}
+use Rattle.rings.specs.Table.{Table, size}
 use Rattle.rings.specs.Windows.{Entry, minimalWindows}
 use Rattle.rings.specs.Checks.{_when_, _then_, counted, queryCheck, rangeCheck, scratchCheck}
 use Rattle.rings.specs.Buffers.{over}
 use Rattle.rings.specs.TableCheck.{tableCheck}
 use Rattle.rings.specs.declared.Query.{Query}
-use Rattle.rings.specs.declared.refusal.Refusal.the-variants.{BadColumns, NoRoom}
+use Rattle.rings.specs.declared.refusal.Refusal.the-variants.{BadLengths, NoRoom}
 use Rattle.rings.specs.declared.refusal.Verdict.{Verdict}
 use Rattle.rings.specs.declared.refusal.Counted.{Counted}
 
@@ -24,8 +24,8 @@ minimalChecks t q lo hi rowPlaces startPlaces endPlaces scratch =
     tableCheck t
     then queryCheck q
     then rangeCheck lo hi
-    then BadColumns when no (eqb startPlaces rowPlaces and eqb endPlaces rowPlaces)
-    then scratchCheck t scratch
+    then BadLengths when no (eqb startPlaces rowPlaces and eqb endPlaces rowPlaces)
+    then scratchCheck (size t) scratch
     then NoRoom when ltb rowPlaces (length (minimalWindows t q lo hi))
 
 -- 01: "columns row, start, end, ordered by row, then start; the count"

@@ -4,6 +4,7 @@
 --     comesAfter x y     y comes after x
 --     inPlace c i        entry i comes after the one before
 --     fits t x           the row of x is in the table, and its window is right for it
+--     entryCheck t c i   14 at entry i
 --     recallAnswer       the answer: what stops the call, in order
 --     recallMarks        the marks at exit
 use Prim.Native.Nat.{ℕ, zero, suc}
@@ -17,7 +18,7 @@ use Rattle.rings.specs.Windows.{Entry, entries, recalled}
 use Rattle.rings.specs.Checks.{_when_, _then_, inOrder, rangeCheck}
 use Rattle.rings.specs.Buffers.{marks}
 use Rattle.rings.specs.TableCheck.{tableCheck}
-use Rattle.rings.specs.declared.refusal.Refusal.the-variants.{BadColumns, BadEntry}
+use Rattle.rings.specs.declared.refusal.Refusal.the-variants.{BadLengths, BadEntry}
 use Rattle.rings.specs.declared.refusal.Verdict.{Verdict}
 
 pub record Columns : Type 0 where
@@ -48,7 +49,7 @@ entryCheck t c i = BadEntry i when no (fits t (entryAt c i) and inPlace c i)
 unfoldable pub recallAnswer : Table → Columns → ℕ → ℕ → ℕ → Verdict
 recallAnswer t c s e markPlaces =
     tableCheck t
-    then BadColumns when no (eqb (length (c .starts)) (length (c .rows)) and eqb (length (c .ends)) (length (c .rows)) and eqb markPlaces (size t))
+    then BadLengths when no (eqb (length (c .starts)) (length (c .rows)) and eqb (length (c .ends)) (length (c .rows)) and eqb markPlaces (size t))
     then inOrder (run (entryCheck t c) 0 (length (c .rows)))
     then rangeCheck s e
 

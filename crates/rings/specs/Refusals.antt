@@ -9,47 +9,47 @@
 use Prim.Native.Nat.{ℕ}
 use mathlib.Core.Bool.{Bool, true, false}
 use Rattle.rings.specs.declared.refusal.Refusal.{Refusal}
-use Rattle.rings.specs.declared.refusal.Refusal.the-variants.{Lengths, TooManyRows, Day, Accounts, Order, BadK, BadWindow, BadColumns, SmallScratch, NoRoom, BadEntry}
+use Rattle.rings.specs.declared.refusal.Refusal.the-variants.{UnequalColumns, TooManyRows, BadDay, BadAccounts, OutOfOrder, BadK, BadWindow, BadLengths, SmallScratch, NoRoom, BadEntry}
 use Rattle.rings.specs.declared.refusal.Verdict.{Verdict}
 use Rattle.rings.specs.declared.refusal.Counted.{Counted}
 
 unfoldable pub numberOf : Refusal → ℕ
-numberOf Lengths = 1
+numberOf UnequalColumns = 1
 numberOf TooManyRows = 2
-numberOf (Day j) = 3
-numberOf (Accounts j) = 4
-numberOf (Order j) = 5
+numberOf (BadDay j) = 3
+numberOf (BadAccounts j) = 4
+numberOf (OutOfOrder j) = 5
 numberOf BadK = 6
 numberOf BadWindow = 7
-numberOf BadColumns = 8
+numberOf BadLengths = 8
 numberOf SmallScratch = 9
 numberOf NoRoom = 10
 numberOf (BadEntry i) = 14
 
 -- 01: "A refusal is a number and a place: a row for 3, 4, 5; a list entry from 0 for 14; .. else 0"
 unfoldable pub placeOf : Refusal → ℕ
-placeOf Lengths = 0
+placeOf UnequalColumns = 0
 placeOf TooManyRows = 0
-placeOf (Day j) = j
-placeOf (Accounts j) = j
-placeOf (Order j) = j
+placeOf (BadDay j) = j
+placeOf (BadAccounts j) = j
+placeOf (OutOfOrder j) = j
 placeOf BadK = 0
 placeOf BadWindow = 0
-placeOf BadColumns = 0
+placeOf BadLengths = 0
 placeOf SmallScratch = 0
 placeOf NoRoom = 0
 placeOf (BadEntry i) = i
 
 -- 01: "a check that stands behind 9"
 unfoldable pub behindScratch : Refusal → Bool
-behindScratch Lengths = false
+behindScratch UnequalColumns = false
 behindScratch TooManyRows = false
-behindScratch (Day j) = false
-behindScratch (Accounts j) = false
-behindScratch (Order j) = false
+behindScratch (BadDay j) = false
+behindScratch (BadAccounts j) = false
+behindScratch (OutOfOrder j) = false
 behindScratch BadK = false
 behindScratch BadWindow = false
-behindScratch BadColumns = false
+behindScratch BadLengths = false
 behindScratch SmallScratch = false
 behindScratch NoRoom = true
 behindScratch (BadEntry i) = false

@@ -1,6 +1,7 @@
 -- The ring of a window: its temporal k-core (001, Definition 2).
 --     joins t j u v      row j is a payment between u and v
 --     neighbour t m u v  v is a neighbour of u in the row set m
+--     greatest xs        the greatest number of a list
 --     names t            one more than the greatest account number of the table
 --     degree t m u       how many distinct neighbours u has in m
 --     touches t j u      u is an account of row j
@@ -9,7 +10,8 @@
 --     Within m m'        each row of m is a row of m'
 --     IsRing t q s e m   m is the ring of [s, e], in 01's words
 --     keep t q m j       both accounts of row j have at least k distinct others in m
---     peel keep m        drop the rows that fail the test, for as many rounds as there are rows
+--     round, rounds      one round of peeling; n of them
+--     peel test m        drop the rows that fail the test, for as many rounds as there are rows
 --     ring t q s e       the ring of [s, e], computed: `IsRing` holds of it and of nothing else (proofs/RingLaws.antt)
 --     inRing t q s e j   row j is in the ring of [s, e]
 --     members m          how many rows a row set has
@@ -20,13 +22,13 @@ use mathlib.Core.List.{List, [], _∷_}
 use lib.ListN.{length}
 use lib.Dec.{leb, eqb}
 use Rattle.rings.specs.Words.{_and_, _or_, marked, some, count, run}
-use Rattle.rings.specs.Table.{Table, size, dayOf, firstOf, secondOf, inWindow, windowRows}
+use Rattle.rings.specs.Table.{Table, size, firstOf, secondOf, windowRows}
 use Rattle.rings.specs.declared.Query.{Query}
 
 unfoldable pub joins : Table → ℕ → ℕ → ℕ → Bool
 joins t j u v = (eqb (firstOf t j) u and eqb (secondOf t j) v) or (eqb (firstOf t j) v and eqb (secondOf t j) u)
 
--- 01: "Two rows of one pair give one neighbour"
+-- 01: "Two rows of one pair give one neighbour". The accounts of a row of an accepted table differ, so v is another account than u
 unfoldable pub neighbour : Table → List Bool → ℕ → ℕ → Bool
 neighbour t m u v = some (λ j. marked m j and joins t j u v) (size t)
 

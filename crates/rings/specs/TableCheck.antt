@@ -9,7 +9,7 @@ use lib.Dec.{leb, ltb, eqb}
 use Rattle.rings.specs.Words.{_and_, _or_, no, run}
 use Rattle.rings.specs.Table.{Table, size, dayOf, firstOf, secondOf}
 use Rattle.rings.specs.Checks.{_when_, _then_, inOrder}
-use Rattle.rings.specs.declared.refusal.Refusal.the-variants.{Lengths, TooManyRows, Day, Accounts, Order}
+use Rattle.rings.specs.declared.refusal.Refusal.the-variants.{UnequalColumns, TooManyRows, BadDay, BadAccounts, OutOfOrder}
 use Rattle.rings.specs.declared.refusal.Verdict.{Verdict}
 
 unfoldable pub dayBefore : Table → ℕ → ℕ
@@ -20,9 +20,9 @@ dayBefore t (suc j) = dayOf t j
 -- 01: "3: day outside 1 to 1,024. 4: second account above 4,095, or first not below second. 5: day below the previous row's"
 unfoldable pub rowFaults : ℕ → ℕ → ℕ → ℕ → ℕ → Verdict
 rowFaults j before day a b =
-    Day j when no (leb 1 day and leb day 1024)
-    then Accounts j when ltb 4095 b or no (ltb a b)
-    then Order j when ltb day before
+    BadDay j when no (leb 1 day and leb day 1024)
+    then BadAccounts j when ltb 4095 b or no (ltb a b)
+    then OutOfOrder j when ltb day before
 
 unfoldable pub rowCheck : Table → ℕ → Verdict
 rowCheck t j = rowFaults j (dayBefore t j) (dayOf t j) (firstOf t j) (secondOf t j)
@@ -30,6 +30,6 @@ rowCheck t j = rowFaults j (dayBefore t j) (dayOf t j) (firstOf t j) (secondOf t
 -- 01: "1: column lengths differ. 2: over 16,384 rows. Then the lowest faulty row, by its first fault"
 unfoldable pub tableCheck : Table → Verdict
 tableCheck t =
-    Lengths when no (eqb (length (t .first)) (size t) and eqb (length (t .second)) (size t))
+    UnequalColumns when no (eqb (length (t .first)) (size t) and eqb (length (t .second)) (size t))
     then TooManyRows when ltb 16384 (size t)
     then inOrder (run (rowCheck t) 0 (size t))

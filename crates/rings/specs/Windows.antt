@@ -1,10 +1,12 @@
 -- Minimal windows, and recall from a list of them.
 --     Window             a start and an end
+--     windowsFrom hi s   the windows that start on s and end by hi
 --     windows lo hi      all windows inside the range [lo, hi], by start, then end
 --     Entry              a row with a window: an entry of a minimal-window list
 --     smaller s e s' e'  the window [s', e'] lies inside [s, e] and is not [s, e]
 --     minimal t q j s e  [s, e] is a minimal window of row j (001, Definition 5: minimal core window)
 --     IsMinimal t q j s e      the same in words
+--     minimalOf t q lo hi j    the minimal windows of row j inside the range, by start
 --     minimalWindows t q lo hi   all entries of the range, by row, then start
 --     Listed t q lo hi x       the entry x is a minimal window of its row inside the range
 --     IsMinimalList t q lo hi es    es holds exactly these, each once, by row, then start: `minimalWindows` is the only such list (proofs/WindowLaws.antt)
@@ -49,7 +51,6 @@ pub record IsMinimal (t : Table) (q : Query) (j s e : ℕ) : Type 0 where
   pub has : inRing t q s e j ≡ true
   pub none-smaller : (s′ e′ : ℕ) → s ≤ s′ → s′ ≤ e′ → e′ ≤ e → ((s ≡ s′) × (e ≡ e′) → ⊥) → inRing t q s′ e′ j ≡ false
 
--- the minimal windows of row j inside the range, by start
 unfoldable pub minimalOf : Table → Query → ℕ → ℕ → ℕ → List Entry
 minimalOf t q lo hi j = map (λ w. record { row = j; start = w .start; end = w .end }) (chosen (λ w. minimal t q j (w .start) (w .end)) (windows lo hi))
 

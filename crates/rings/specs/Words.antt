@@ -4,9 +4,11 @@
 --     marked m j         row j belongs to the row set m: a row set is a list of marks, one for each row
 --     some p n           p holds of a number below n
 --     every p n          p holds of each number below n
+--     tally b n          n, or one more where b holds
 --     count p n          how many numbers below n have p
 --     run f i n          the list f i, f (i + 1), .., n entries long
 --     joined xss         the lists of a list, one after the other
+--     kept b x xs        xs, with x before it where b holds
 --     chosen p xs        the entries of a list that have p, in their order
 --     oneOf p xs         an entry of a list has p
 --     Pairwise R xs      each entry of a list stands in R to every later one
@@ -17,7 +19,6 @@ use lib.ListN.{getD}
 
 infixr 40 _and_
 infixr 35 _or_
-
 unfoldable pub _and_ : Bool → Bool → Bool
 true and b = b
 false and b = false
@@ -44,7 +45,6 @@ unfoldable pub every : (ℕ → Bool) → ℕ → Bool
 every p zero = true
 every p (suc n) = p n and every p n
 
--- n, or one more where the test holds
 unfoldable pub tally : Bool → ℕ → ℕ
 tally true n = suc n
 tally false n = n
@@ -61,7 +61,6 @@ unfoldable pub joined : {A : Type 0} → List (List A) → List A
 joined [] = []
 joined (xs ∷ xss) = xs ++ joined xss
 
--- xs, with x before it where the test holds
 unfoldable pub kept : {A : Type 0} → Bool → A → List A → List A
 kept true x xs = x ∷ xs
 kept false x xs = xs

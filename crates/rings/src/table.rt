@@ -5,7 +5,6 @@ ghost use Rattle.rings.specs.Words.{run};
 ghost use Rattle.rings.specs.Table.{tableOf};
 ghost use Rattle.rings.specs.Checks.{inOrder};
 ghost use Rattle.rings.specs.TableCheck.{rowFaults, rowCheck, tableCheck};
-
 use crate::refusal::Refusal;
 use crate::refusal::Verdict;
 
@@ -14,19 +13,19 @@ fn check_row(j: usize, before: u16, day: u16, a: u16, b: u16) -> Verdict
     ensures { λ r. ⌜ r ≡ rowFaults j before day a b ⌝ }
 {
     if day < 1 {
-        return Verdict::Refused(Refusal::Day(j));
+        return Verdict::Refused(Refusal::BadDay(j));
     }
     if 1024 < day {
-        return Verdict::Refused(Refusal::Day(j));
+        return Verdict::Refused(Refusal::BadDay(j));
     }
     if 4095 < b {
-        return Verdict::Refused(Refusal::Accounts(j));
+        return Verdict::Refused(Refusal::BadAccounts(j));
     }
     if b <= a {
-        return Verdict::Refused(Refusal::Accounts(j));
+        return Verdict::Refused(Refusal::BadAccounts(j));
     }
     if day < before {
-        return Verdict::Refused(Refusal::Order(j));
+        return Verdict::Refused(Refusal::OutOfOrder(j));
     }
     Verdict::Accepted
 }
@@ -58,10 +57,10 @@ pub fn check_table(days: &[u16], first: &[u16], second: &[u16]) -> Verdict
     ensures { λ r. ⌜ r ≡ tableCheck (tableOf (now (days .entry)) (now (first .entry)) (now (second .entry))) ⌝ }
 {
     if first.len() != days.len() {
-        return Verdict::Refused(Refusal::Lengths);
+        return Verdict::Refused(Refusal::UnequalColumns);
     }
     if second.len() != days.len() {
-        return Verdict::Refused(Refusal::Lengths);
+        return Verdict::Refused(Refusal::UnequalColumns);
     }
     if 16384 < days.len() {
         return Verdict::Refused(Refusal::TooManyRows);

@@ -1,0 +1,4 @@
+-- What the inner functions promise one another. No public contract speaks of these.
+pub mod Links
+pub mod Support
+pub mod Peeling

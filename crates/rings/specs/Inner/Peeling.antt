@@ -1,0 +1,120 @@
+-- Peeling by counts: accounts fall where fewer than k neighbours are left, from the last day on. x holds the times of the accounts that fell (0: not yet), d the numbers of neighbours left, w the queue of the fallen whose rows are still to be walked.
+-- A row counts for one of its accounts while it is fresh, has not left (is below r), its other account has not been walked, and the pair of row and account has not been passed.
+--     Lost         what the loss of one neighbour leaves
+--     Setting      the table, the window and the query
+--     Rows         which rows count for which accounts
+--     Queue        who waits to be walked
+--     Degrees      d counts the rows that count, and no account below b that has not fallen has fewer than k
+--     Times        x is a lower bound of the core times, closed at the fallen; no core time that is still open passes e
+--     Fall         all of it
+--     Walk         the same while the rows of the account at the head of the queue are walked
+use Prim.Native.Nat.{ℕ, _+_, _-_, _≤_, _<_}
+use mathlib.Core.Path.{_≡_}
+use mathlib.Core.Logic.{_⊎_}
+use mathlib.Core.Bool.{Bool, true, false}
+use mathlib.Core.List.{List}
+use lib.ListN.{length, getD, set}
+use lib.Dec.{ltb, eqb}
+use Rattle.rings.specs.Words.{_and_, no, count}
+use Rattle.rings.specs.Table.{Table, size, dayOf, firstOf, secondOf}
+use Rattle.rings.specs.Ring.{joins, touches, met, ring}
+use Rattle.rings.specs.CoreTimes.{never}
+use Rattle.rings.specs.Inner.Links.{otherOf, fresh}
+use Rattle.rings.specs.Inner.Support.{supporters}
+use Rattle.rings.specs.declared.Query.{Query}
+
+-- account v loses a neighbour: x are the times (0: it has not fallen), d the numbers of neighbours left, w the queue up to tail
+pub data Lost (k e tail v : ℕ) (x d w x′ d′ w′ : List ℕ) (tail′ : ℕ) : Type 0 where
+  fallen-before : (getD x v 0 ≡ 0 → ⊥) → x′ ≡ x → d′ ≡ d → w′ ≡ w → tail′ ≡ tail → Lost k e tail v x d w x′ d′ w′ tail′
+  stays : getD x v 0 ≡ 0 → k < getD d v 0 → x′ ≡ x → d′ ≡ set d v (getD d v 0 - 1) → w′ ≡ w → tail′ ≡ tail → Lost k e tail v x d w x′ d′ w′ tail′
+  falls : getD x v 0 ≡ 0 → getD d v 0 ≤ k → x′ ≡ set x v e → d′ ≡ set d v (getD d v 0 - 1) → w′ ≡ set w tail v → tail′ ≡ tail + 1 → Lost k e tail v x d w x′ d′ w′ tail′
+
+pub record Setting (t : Table) (q : Query) (s hi lo : ℕ) : Type 0 where
+  pub fits : hi < never
+  pub some-k : 1 ≤ q .k
+  pub from-lo : (j : ℕ) → j < size t → lo ≤ j → s ≤ dayOf t j
+  pub before-lo : (j : ℕ) → j < lo → dayOf t j < s
+  pub rising : (i j : ℕ) → i ≤ j → j < size t → dayOf t i ≤ dayOf t j
+  pub accounts : (j : ℕ) → j < size t → firstOf t j < secondOf t j
+  pub small : (j : ℕ) → j < size t → secondOf t j < 4096
+
+abbrev pub Fell : List ℕ → ℕ → Type 0
+Fell x u = getD x u 0 ≡ 0 → ⊥
+
+-- row j is fresh, has not left, and has the account u
+pub record Here (t : Table) (lo r j u : ℕ) : Type 0 where
+  pub below : j < size t
+  pub before : j < r
+  pub is-fresh : fresh t lo j ≡ true
+  pub touch : touches t j u ≡ true
+
+pub record Rows (t : Table) (lo r : ℕ) (passed : ℕ → ℕ → Bool) (walked : ℕ → Bool) (live : ℕ → ℕ → Bool) : Type 0 where
+  pub live-row : (j u : ℕ) → live j u ≡ true → Here t lo r j u
+  pub live-not : (j u : ℕ) → live j u ≡ true → walked (otherOf t j u) ≡ false
+  pub live-passed : (j u : ℕ) → live j u ≡ true → passed j u ≡ false
+  pub live-all : (j u : ℕ) → Here t lo r j u → walked (otherOf t j u) ≡ false → passed j u ≡ false → live j u ≡ true
+
+pub record Place (w : List ℕ) (head tail u : ℕ) : Type 0 where
+  pub place : ℕ
+  pub from : head ≤ place
+  pub below : place < tail
+  pub is : getD w place 0 ≡ u
+
+-- how many have fallen
+unfoldable pub fallen : List ℕ → ℕ
+fallen x = count (λ u. no (eqb (getD x u 0) 0)) 4096
+
+pub record Queue (head tail : ℕ) (walked : ℕ → Bool) (x w : List ℕ) : Type 0 where
+  pub walked-fell : (u : ℕ) → walked u ≡ true → (u < 4096) × Fell x u
+  pub waits : (u : ℕ) → u < 4096 → Fell x u → walked u ≡ false → Place w head tail u
+  pub waiting-small : (i : ℕ) → head ≤ i → i < tail → getD w i 0 < 4096
+  pub waiting-fell : (i : ℕ) → head ≤ i → i < tail → Fell x (getD w i 0)
+  pub waiting-not : (i : ℕ) → head ≤ i → i < tail → walked (getD w i 0) ≡ false
+  pub apart : (i i′ : ℕ) → head ≤ i → i < i′ → i′ < tail → getD w i 0 ≡ getD w i′ 0 → ⊥
+  pub in-order : head ≤ tail
+  pub tail-is : tail ≡ fallen x
+
+pub record Degrees (t : Table) (q : Query) (b : ℕ) (live : ℕ → ℕ → Bool) (x d : List ℕ) : Type 0 where
+  pub degrees : (u : ℕ) → u < 4096 → getD x u 0 ≡ 0 → getD d u 0 ≡ count (λ j. live j u) (size t)
+  pub enough : (u : ℕ) → u < b → u < 4096 → getD x u 0 ≡ 0 → q .k ≤ getD d u 0
+
+-- the times as a guess of the core times: never past the accounts
+unfoldable pub guess : List ℕ → ℕ → ℕ
+guess x u = getD x u never
+
+pub record Times (t : Table) (q : Query) (s hi e : ℕ) (x : List ℕ) : Type 0 where
+  pub e-pos : 1 ≤ e
+  pub e-day : (e ≤ hi) ⊎ (e ≡ never)
+  pub valued : (u : ℕ) → u < 4096 → Fell x u → (getD x u 0 ≤ hi) ⊎ (getD x u 0 ≡ never)
+  pub above : (u : ℕ) → u < 4096 → Fell x u → e ≤ getD x u 0
+  pub lower : (u c : ℕ) → u < 4096 → Fell x u → s ≤ c → c ≤ hi → met t (ring t q s c) u ≡ true → getD x u 0 ≤ c
+  pub closed : (u : ℕ) → u < 4096 → Fell x u → (getD x u 0 ≡ never) ⊎ (q .k ≤ supporters t (guess x) s (getD x u 0) u)
+  pub backed : (u : ℕ) → u < 4096 → getD x u 0 ≡ 0 → (e ≡ never) ⊎ (q .k ≤ supporters t (guess x) s e u)
+
+pub record Fall (t : Table) (q : Query) (s hi lo b e r head tail : ℕ) (passed : ℕ → ℕ → Bool) (x d w : List ℕ) : Type 0 where
+  pub len-x : length x ≡ 4096
+  pub len-d : length d ≡ 4096
+  pub len-w : length w ≡ 4096
+  pub walked : ℕ → Bool
+  pub live : ℕ → ℕ → Bool
+  pub rows : Rows t lo r passed walked live
+  pub queue : Queue head tail walked x w
+  pub counts : Degrees t q b live x d
+  pub times : Times t q s hi e x
+  -- a pair that was passed, and a row that left, matter to no ring before e
+  pub passed-why : (j u : ℕ) → j < size t → passed j u ≡ true → ((otherOf t j u < 4096) × Fell x (otherOf t j u)) ⊎ (e ≤ dayOf t j)
+  pub left-why : (j : ℕ) → r ≤ j → j < size t → (e ≤ dayOf t j) ⊎ (hi < dayOf t j)
+
+-- no pair has been passed
+abbrev pub nothing : ℕ → ℕ → Bool
+nothing j u = false
+
+-- the rows of u below b have been passed, each for its other account
+unfoldable pub passing : Table → ℕ → ℕ → ℕ → ℕ → Bool
+passing t u b j v = joins t j u v and ltb j b
+
+-- u stands at the head of the queue; its rows below b have been passed
+pub record Walk (t : Table) (q : Query) (s hi lo b e r head tail u : ℕ) (x d w : List ℕ) : Type 0 where
+  pub state : Fall t q s hi lo 4096 e r head tail (passing t u b) x d w
+  pub front : head < tail
+  pub at-front : getD w head 0 ≡ u
