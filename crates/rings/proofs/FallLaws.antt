@@ -22,8 +22,8 @@ use Rattle.rings.specs.Inner.Support.{supports, supporters}
 use Rattle.rings.specs.Inner.Peeling.{Lost, Setting, Fell, Here, Rows, Place, fallen, Queue, Degrees, guess, Times, Fall, nothing, passing, Walk}
 use Rattle.rings.specs.declared.Query.{Query}
 use Rattle.rings.proofs.WordLaws.{look, clash, and-i, and-l, and-r, or-l, or-r, or-e, no-i, no-e, same-truth, count-mono, count-less, count-same, count-le, count-none}
-use Rattle.rings.proofs.RingLaws.{Inside, window-e, joins-touch, touch-cases, met-i, met-e, neighbour-e, ring-within, ring-degree, in-window, in-marked}
-use Rattle.rings.proofs.PairLaws.{Partner, count-inject, count-drop, joins-other, joins-same, joins-swap, fresh-e, fresh-one, first-fresh}
+use Rattle.rings.proofs.RingLaws.{Inside, window-e, joins-touch, touch-cases, touch-first, touch-second, met-i, met-e, neighbour-e, ring-within, ring-degree, in-window, in-marked}
+use Rattle.rings.proofs.PairLaws.{Partner, count-inject, count-drop, other-first, other-second, joins-other, joins-same, joins-swap, joins-ends, fresh-e, fresh-one, first-fresh}
 use Rattle.rings.proofs.FixpointLaws.{Backs, supports-i, supports-e, Lower, Closed, fixpoint, closed-met}
 
 -- ---- one store
@@ -64,6 +64,10 @@ getD-any (y ∷ x) (suc u) a b l = getD-any x u a b (le-of-suc-le-suc l)
 guess-at : (x : List ℕ) (u : ℕ) → length x ≡ 4096 → u < 4096 → guess x u ≡ getD x u 0
 unfolding guess
 guess-at x u n l = getD-any x u never 0 (omega arith)
+
+guess-far : (x : List ℕ) (u : ℕ) → length x ≡ 4096 → 4096 ≤ u → guess x u ≡ never
+unfolding guess
+guess-far x u n l = List·getD-eq-default x never (omega arith)
 
 -- ---- the other account of a row
 
@@ -568,3 +572,214 @@ module _ (t : Table) (q : Query) (s hi lo : ℕ) (S : Setting t q s hi lo) where
 
         not-head : (a : ℕ) → (a ≡ u → ⊥) → (p : Place w head tail a) → head + 1 ≤ p .place
         not-head a n p = ⊎-elim (λ y. absurd (n (sym (p .is) ∙ (ap (λ (c : ℕ). getD w c 0) (sym y) ∙ W .at-front)))) (λ y. omega arith) (eq-or-lt-of-le (p .from))
+
+  -- ---- rows leave from the last on
+
+  -- row j, for which no account that has not fallen counts any more, leaves
+  pub leave-row : {e j head tail : ℕ} {passed : ℕ → ℕ → Bool} {x d w : List ℕ} (F : Fall t q s hi lo 4096 e (suc j) head tail passed x d w) → e ≤ dayOf t j → ((u : ℕ) → u < 4096 → getD x u 0 ≡ 0 → F .live j u ≡ false) → ((i u : ℕ) → passed i u ≡ true → i ≡ j)
+      → Fall t q s hi lo 4096 e j head tail nothing x d w
+  leave-row {e} {j} {head} {tail} {passed} {x} {d} {w} F day gone only =
+      record {
+        len-x = F .len-x; len-d = F .len-d; len-w = F .len-w; walked = F .walked; live = live′; queue = F .queue; times = F .times; passed-why = λ i v k p. clash refl (sym p);
+        left-why = λ i k l. ⊎-elim (λ y. _⊎_.inl (subst (λ (a : ℕ). e ≤ dayOf t a) y day)) (λ y. F .left-why i y l) (eq-or-lt-of-le k);
+        rows = record {
+          live-row = λ i v h. let a = F .rows .live-row i v (old i v h) in record { below = a .below; before = ltb-true i j (and-r (F .live i v) (ltb i j) h); is-fresh = a .is-fresh; touch = a .touch };
+          live-not = λ i v h. F .rows .live-not i v (old i v h); live-passed = λ i v h. refl;
+          live-all = λ i v a c p. let b = a .before in and-i (F .rows .live-all i v (record { below = a .below; before = omega arith; is-fresh = a .is-fresh; touch = a .touch }) c (⊎-elim (λ y. let o = only i v y in absurd (omega arith)) (λ y. y) (look (passed i v)))) (lt-ltb i j b) };
+        counts = record { degrees = λ u k g. F .counts .degrees u k g ∙ count-same (λ i. F .live i u) (λ i. live′ i u) (size t) (λ i o. same-truth (F .live i u) (live′ i u) (new u k g i) (old i u)); enough = F .counts .enough } }
+    where
+      live′ : ℕ → ℕ → Bool
+      live′ i v = F .live i v and ltb i j
+      old : (i v : ℕ) → live′ i v ≡ true → F .live i v ≡ true
+      old i v h = and-l (F .live i v) (ltb i j) h
+      new : (u : ℕ) → u < 4096 → getD x u 0 ≡ 0 → (i : ℕ) → F .live i u ≡ true → live′ i u ≡ true
+      new u k g i h =
+          let b = F .rows .live-row i u h .before in
+          and-i h (lt-ltb i j (⊎-elim (λ y. clash (subst (λ (a : ℕ). F .live a u ≡ true) y h) (gone u k g)) (λ y. y) (eq-or-lt-of-le (le-of-suc-le-suc b))))
+
+  -- nobody waits: who fell was walked
+  stable-walked : {b e r head : ℕ} {passed : ℕ → ℕ → Bool} {x d w : List ℕ} (F : Fall t q s hi lo b e r head head passed x d w) (u : ℕ) → u < 4096 → F .walked u ≡ false → getD x u 0 ≡ 0
+  stable-walked {x = x} F u k h = ⊎-elim (λ z. z) (λ f. let p = F .queue .waits u k f h in let a = p .from in let b = p .below in absurd (omega arith)) (fell-look x u)
+
+  -- a row that is not fresh leaves without a word
+  pub leave-stale : {e j head : ℕ} {x d w : List ℕ} → Fall t q s hi lo 4096 e (suc j) head head nothing x d w → e ≤ dayOf t j → fresh t lo j ≡ false → Fall t q s hi lo 4096 e j head head nothing x d w
+  leave-stale {j = j} F day f = leave-row F day (λ u k g. ⊎-elim (λ h. clash (F .rows .live-row j u h .is-fresh) f) (λ h. h) (look (F .live j u))) (λ i u p. clash p refl)
+
+  -- and so does a row one account of which has fallen
+  pub leave-fell : {e j head : ℕ} {x d w : List ℕ} → Fall t q s hi lo 4096 e (suc j) head head nothing x d w → e ≤ dayOf t j → j < size t → (a : ℕ) → touches t j a ≡ true → Fell x a → Fall t q s hi lo 4096 e j head head nothing x d w
+  leave-fell {e} {j} {head} {x} F day l a touch fell =
+      leave-row F day (λ u k g. ⊎-elim (λ h. absurd (fell (stable-walked F a (touch-small j a l touch) (subst (λ (c : ℕ). F .walked c ≡ false) (other u k g h) (F .rows .live-not j u h))))) (λ h. h) (look (F .live j u))) (λ i u p. clash p refl)
+    where
+      -- an account that has not fallen is the other one
+      other : (u : ℕ) → u < 4096 → getD x u 0 ≡ 0 → F .live j u ≡ true → otherOf t j u ≡ a
+      other u k g h =
+          let tu = F .rows .live-row j u h .touch in
+          ⊎-elim (λ y. absurd (fell (ap (λ (c : ℕ). getD x c 0) (sym y) ∙ g))) (λ y. other-joins j u a l (two u tu y)) (same-or u a)
+        where
+          two : (u : ℕ) → touches t j u ≡ true → (u ≡ a → ⊥) → joins t j u a ≡ true
+          two u tu n =
+              ⊎-elim (λ y. ⊎-elim (λ z. absurd (n (sym y ∙ z))) (λ z. subst (λ (c : ℕ). joins t j c a ≡ true) y (subst (λ (c : ℕ). joins t j (firstOf t j) c ≡ true) z (joins-ends t j))) (touch-cases t j a touch))
+              (λ y. ⊎-elim (λ z. subst (λ (c : ℕ). joins t j c a ≡ true) y (subst (λ (c : ℕ). joins t j (secondOf t j) c ≡ true) z (joins-swap t j (firstOf t j) (secondOf t j) (joins-ends t j)))) (λ z. absurd (n (sym y ∙ z))) (touch-cases t j a touch)) (touch-cases t j u tu)
+
+  -- a fresh row both accounts of which have not fallen: first one, then the other loses a neighbour
+  module _ {e j head : ℕ} {x d w : List ℕ} (F : Fall t q s hi lo 4096 e (suc j) head head nothing x d w) (day : e ≤ dayOf t j) (l : j < size t) (f : fresh t lo j ≡ true)
+      (za : getD x (firstOf t j) 0 ≡ 0) (zb : getD x (secondOf t j) 0 ≡ 0) where
+    pair : ℕ → ℕ → ℕ → Bool
+    pair v i u = eqb i j and eqb u v
+
+    pair-e : (v i u : ℕ) → pair v i u ≡ true → (i ≡ j) × (u ≡ v)
+    unfolding pair
+    pair-e v i u h = (eqb-true i j (and-l (eqb i j) (eqb u v) h), eqb-true u v (and-r (eqb i j) (eqb u v) h))
+
+    pair-here : (v : ℕ) → pair v j v ≡ true
+    unfolding pair
+    pair-here v = and-i (eq-eqb j j refl) (eq-eqb v v refl)
+
+    first-pass : Pass nothing (pair (firstOf t j)) j (firstOf t j)
+    first-pass = record { this = pair-here (firstOf t j); rest = λ i u n. ⊎-elim (λ h. absurd (n (pair-e (firstOf t j) i u h))) (λ h. h) (look (pair (firstOf t j) i u)) }
+
+    both : ℕ → ℕ → Bool
+    both i u = pair (firstOf t j) i u or pair (secondOf t j) i u
+
+    second-pass : Pass (pair (firstOf t j)) both j (secondOf t j)
+    unfolding both
+    second-pass =
+        record {
+          this = or-r (pair (firstOf t j) j (secondOf t j)) (pair (secondOf t j) j (secondOf t j)) (pair-here (secondOf t j));
+          rest = λ i u n. same-truth (both i u) (pair (firstOf t j) i u) (λ h. ⊎-elim (λ y. y) (λ y. absurd (n (pair-e (secondOf t j) i u y))) (or-e (pair (firstOf t j) i u) (pair (secondOf t j) i u) h)) (λ h. or-l (pair (firstOf t j) i u) (pair (secondOf t j) i u) h) }
+
+    here-row : (v : ℕ) → touches t j v ≡ true → Here t lo (suc j) j v
+    here-row v h = record { below = l; before = le-refl (suc j); is-fresh = f; touch = h }
+
+    first-small : firstOf t j < 4096
+    first-small = touch-small j (firstOf t j) l (touch-first t j)
+
+    second-small : secondOf t j < 4096
+    second-small = touch-small j (secondOf t j) l (touch-second t j)
+
+    pub leave-first-one : getD x (firstOf t j) 0 ≡ 0 → 0 < getD d (firstOf t j) 0
+    leave-first-one = lose-one F j (firstOf t j) first-small (here-row (firstOf t j) (touch-first t j)) (not-walked F (otherOf t j (firstOf t j)) (ap (λ (c : ℕ). getD x c 0) (other-first t j) ∙ zb)) refl first-pass (_⊎_.inr day)
+
+    after-first : {x₁ d₁ w₁ : List ℕ} {tail₁ : ℕ} → Lost (q .k) e head (firstOf t j) x d w x₁ d₁ w₁ tail₁ → Fall t q s hi lo 4096 e (suc j) head tail₁ (pair (firstOf t j)) x₁ d₁ w₁
+    after-first L = lost-step F j (firstOf t j) first-small (here-row (firstOf t j) (touch-first t j)) (not-walked F (otherOf t j (firstOf t j)) (ap (λ (c : ℕ). getD x c 0) (other-first t j) ∙ zb)) refl first-pass (_⊎_.inr day) L
+
+    -- the first account has not been walked after that either
+    first-not : {x₁ d₁ w₁ : List ℕ} {tail₁ : ℕ} (L : Lost (q .k) e head (firstOf t j) x d w x₁ d₁ w₁ tail₁) (G : Fall t q s hi lo 4096 e (suc j) head tail₁ (pair (firstOf t j)) x₁ d₁ w₁) → G .walked (firstOf t j) ≡ false
+    first-not (Lost.fallen-before n ex ed ew et) G = absurd (n za)
+    first-not (Lost.stays z h ex ed ew et) G = not-walked G (firstOf t j) (ap (λ (y : List ℕ). getD y (firstOf t j) 0) ex ∙ z)
+    first-not {w₁ = w₁} (Lost.falls z h ex ed ew et) G =
+        subst (λ (c : ℕ). G .walked c ≡ false) (ap (λ (y : List ℕ). getD y head 0) ew ∙ getD-set-same w head (firstOf t j) 0 (let a : head < 4096 = subst (λ (c : ℕ). c < 4096) (sym (F .queue .tail-is)) (room x (firstOf t j) first-small za) in let b = F .len-w in omega arith))
+        (G .queue .waiting-not head (le-refl head) (omega arith))
+
+    second-other : {x₁ d₁ w₁ : List ℕ} {tail₁ : ℕ} (L : Lost (q .k) e head (firstOf t j) x d w x₁ d₁ w₁ tail₁) (G : Fall t q s hi lo 4096 e (suc j) head tail₁ (pair (firstOf t j)) x₁ d₁ w₁) → G .walked (otherOf t j (secondOf t j)) ≡ false
+    second-other L G = subst (λ (c : ℕ). G .walked c ≡ false) (sym (other-second t j (S .accounts j l))) (first-not L G)
+
+    second-new : pair (firstOf t j) j (secondOf t j) ≡ false
+    second-new = ⊎-elim (λ h. let y = pair-e (firstOf t j) j (secondOf t j) h .1 in let a = S .accounts j l in absurd (omega arith)) (λ h. h) (look (pair (firstOf t j) j (secondOf t j)))
+
+    module _ {x₁ d₁ w₁ : List ℕ} {tail₁ : ℕ} (L : Lost (q .k) e head (firstOf t j) x d w x₁ d₁ w₁ tail₁) where
+      pub leave-second-one : getD x₁ (secondOf t j) 0 ≡ 0 → 0 < getD d₁ (secondOf t j) 0
+      leave-second-one = lose-one (after-first L) j (secondOf t j) second-small (here-row (secondOf t j) (touch-second t j)) (second-other L (after-first L)) second-new second-pass (_⊎_.inr day)
+
+      pub leave-both : {x₂ d₂ w₂ : List ℕ} {tail₂ : ℕ} → Lost (q .k) e tail₁ (secondOf t j) x₁ d₁ w₁ x₂ d₂ w₂ tail₂ → Fall t q s hi lo 4096 e j head tail₂ nothing x₂ d₂ w₂
+      unfolding both
+      leave-both {x₂} {d₂} {w₂} {tail₂} M = leave-row G day (λ u k g. ⊎-elim (λ h. clash (passed-here u (G .rows .live-row j u h .touch)) (G .rows .live-passed j u h)) (λ h. h) (look (G .live j u)))
+          (λ i u h. ⊎-elim (λ y. pair-e (firstOf t j) i u y .0) (λ y. pair-e (secondOf t j) i u y .0) (or-e (pair (firstOf t j) i u) (pair (secondOf t j) i u) h))
+        where
+          G : Fall t q s hi lo 4096 e (suc j) head tail₂ both x₂ d₂ w₂
+          G = lost-step (after-first L) j (secondOf t j) second-small (here-row (secondOf t j) (touch-second t j)) (second-other L (after-first L)) second-new second-pass (_⊎_.inr day) M
+          passed-here : (u : ℕ) → touches t j u ≡ true → both j u ≡ true
+          passed-here u h =
+              ⊎-elim (λ y. or-l (pair (firstOf t j) j u) (pair (secondOf t j) j u) (subst (λ (c : ℕ). pair (firstOf t j) j c ≡ true) y (pair-here (firstOf t j))))
+              (λ y. or-r (pair (firstOf t j) j u) (pair (secondOf t j) j u) (subst (λ (c : ℕ). pair (secondOf t j) j c ≡ true) y (pair-here (secondOf t j)))) (touch-cases t j u h)
+
+  -- ---- from one day to the next, and the end
+
+  -- nobody waits: who has not fallen has at least k supporters at c, if every row that has not left is dated by c
+  pub stable-supported : {e r head : ℕ} {x d w : List ℕ} (F : Fall t q s hi lo 4096 e r head head nothing x d w) (c : ℕ) → ((j : ℕ) → j < r → j < size t → dayOf t j ≤ c) → (u : ℕ) → u < 4096 → getD x u 0 ≡ 0 → q .k ≤ supporters t (guess x) s c u
+  unfolding supporters
+  stable-supported {e} {r} {head} {x} {d} {w} F c days u k z =
+      let a : q .k ≤ getD d u 0 = F .counts .enough u k k z in
+      let b : getD d u 0 ≡ count (λ j. F .live j u) (size t) = F .counts .degrees u k z in
+      let n : count (λ j. F .live j u) (size t) ≤ count (supports t (guess x) s c u) (names t) =
+        count-inject (λ j. F .live j u) (size t) (supports t (guess x) s c u) (names t) (λ j v. (F .live j u ≡ true) × (joins t j u v ≡ true)) partner (λ i i′ v p p′. fresh-one t lo i i′ u v (F .rows .live-row i u (p .0) .is-fresh) (F .rows .live-row i′ u (p′ .0) .is-fresh) (p .1) (p′ .1)) in
+      omega arith
+    where
+      partner : (j : ℕ) → j < size t → F .live j u ≡ true → Partner (supports t (guess x) s c u) (λ j v. (F .live j u ≡ true) × (joins t j u v ≡ true)) (names t) j
+      partner j l h =
+          let here = F .rows .live-row j u h in
+          let v = otherOf t j u in
+          let jn = joins-other t j u (S .accounts j l) (here .touch) in
+          let small = other-small j u l (here .touch) in
+          let zero-v : getD x v 0 ≡ 0 = stable-walked F v small (F .rows .live-not j u h) in
+          record {
+            it = v; below = touch-named t j v (joins-touch t j u v jn .1); to = (h, jn);
+            has = supports-i t (guess x) s c u v (record { row = j; below = l; join = jn; from = S .from-lo j l (fresh-e t lo j (here .is-fresh) .from); to = days j (here .before) l; other = let g : guess x v ≡ getD x v 0 = guess-at x v (F .len-x) small in omega arith }) }
+
+  -- the rows from j on have left; the next is dated e'
+  pub next-day : {e j head : ℕ} {x d w : List ℕ} → Fall t q s hi lo 4096 e (suc j) head head nothing x d w → j < size t → 1 ≤ dayOf t j → dayOf t j ≤ hi → dayOf t j ≤ e → Fall t q s hi lo 4096 (dayOf t j) (suc j) head head nothing x d w
+  next-day {e} {j} {head} {x} {d} {w} F l one to le =
+      record {
+        len-x = F .len-x; len-d = F .len-d; len-w = F .len-w; walked = F .walked; live = F .live; rows = F .rows; queue = F .queue; counts = F .counts; passed-why = λ i v k p. clash refl (sym p);
+        left-why = λ i k o. ⊎-elim (λ y. _⊎_.inl (le-trans le y)) _⊎_.inr (F .left-why i k o);
+        times = record {
+          e-pos = one; e-day = _⊎_.inl to; valued = F .times .valued; above = λ u k f. le-trans le (F .times .above u k f); lower = F .times .lower; closed = F .times .closed;
+          backed = λ u k z. _⊎_.inr (stable-supported F (dayOf t j) (λ i o p. S .rising i j (le-of-suc-le-suc o) l) u k z) } }
+
+  met-small : (m : List Bool) (u : ℕ) → met t m u ≡ true → u < 4096
+  met-small m u h = let y = met-e t m u h in touch-small (y .row) u (y .below) (y .touch)
+
+  -- all rows have left, nobody waits: the times are the core times
+  pub all-fell : {e head : ℕ} {x d w : List ℕ} (F : Fall t q s hi lo 4096 e lo head head nothing x d w) (u : ℕ) → u < 4096 → Fell x u
+  all-fell {e} {head} {x} {d} F u k z =
+      let a : q .k ≤ getD d u 0 = F .counts .enough u k k z in
+      let b : getD d u 0 ≡ count (λ j. F .live j u) (size t) = F .counts .degrees u k z in
+      let n : count (λ j. F .live j u) (size t) ≡ 0 = count-none (λ j. F .live j u) (size t) (λ j l. ⊎-elim (λ h. let y = F .rows .live-row j u h in let p = y .before in let g = fresh-e t lo j (y .is-fresh) .from in absurd (omega arith)) (λ h. h) (look (F .live j u))) in
+      let o = S .some-k in omega arith
+
+  pub fall-times : {e head : ℕ} {x d w : List ℕ} (F : Fall t q s hi lo 4096 e lo head head nothing x d w) (u : ℕ) → u < 4096 → getD x u 0 ≡ accountTime t q hi s u
+  fall-times {e} {head} {x} F u k = sym (guess-at x u (F .len-x) k) ∙ fixpoint t q hi s (guess x) (S .fits) closed (S .some-k) days lower u
+    where
+      far : (v : ℕ) → 4096 ≤ v → guess x v ≡ never
+      far v h = guess-far x v (F .len-x) h
+      split : (v : ℕ) → (v < 4096) ⊎ (4096 ≤ v)
+      split v = ⊎-elim (λ y. _⊎_.inr (leb-true 4096 v y)) (λ y. _⊎_.inl (leb-false 4096 v y)) (look (leb 4096 v))
+      closed : (v : ℕ) → Closed t q s (guess x) v
+      closed v = record { enough-or-never = ⊎-elim (λ l. subst (λ (c : ℕ). (c ≡ never) ⊎ (q .k ≤ supporters t (guess x) s c v)) (sym (guess-at x v (F .len-x) l)) (F .times .closed v l (all-fell F v l))) (λ l. _⊎_.inl (far v l)) (split v) }
+      days : (v : ℕ) → (guess x v ≤ hi) ⊎ (guess x v ≡ never)
+      days v = ⊎-elim (λ l. subst (λ (c : ℕ). (c ≤ hi) ⊎ (c ≡ never)) (sym (guess-at x v (F .len-x) l)) (F .times .valued v l (all-fell F v l))) (λ l. _⊎_.inr (far v l)) (split v)
+      lower : Lower t q hi s (guess x)
+      lower = record { under = λ v c a b m. let l = met-small (ring t q s c) v m in subst (λ (g : ℕ). g ≤ c) (sym (guess-at x v (F .len-x) l)) (F .times .lower v c l (all-fell F v l) a b m) }
+
+  -- no row has left yet, nobody waits: who has not fallen is met in the ring of [s, hi], and nobody else
+  pub stays-met : {r head : ℕ} {x d w : List ℕ} (F : Fall t q s hi lo 4096 never r head head nothing x d w) → ((j : ℕ) → j < r → j < size t → dayOf t j ≤ hi) → (u : ℕ) → u < 4096 → getD x u 0 ≡ 0 → met t (ring t q s hi) u ≡ true
+  stays-met {r} {head} {x} F days u k z = subst (λ (c : ℕ). met t (ring t q s c) u ≡ true) (y-stays u k z) (closed-met t q hi s y (S .fits) closed (S .some-k) u (subst (λ (c : ℕ). c ≤ hi) (sym (y-stays u k z)) (le-refl hi)))
+    where
+      -- the guess that who has not fallen has hi, and others never
+      y : ℕ → ℕ
+      y v = elim (ltb v 4096 and eqb (getD x v 0) 0) [ true ↦ hi | false ↦ never ]
+      y-yes : (v : ℕ) → ltb v 4096 and eqb (getD x v 0) 0 ≡ true → y v ≡ hi
+      y-yes v h = ap (λ (b : Bool). elim b as (λ _. ℕ) [ true ↦ hi | false ↦ never ]) h
+      y-no : (v : ℕ) → ltb v 4096 and eqb (getD x v 0) 0 ≡ false → y v ≡ never
+      y-no v h = ap (λ (b : Bool). elim b as (λ _. ℕ) [ true ↦ hi | false ↦ never ]) h
+      y-stays : (v : ℕ) → v < 4096 → getD x v 0 ≡ 0 → y v ≡ hi
+      y-stays v l g = y-yes v (and-i (lt-ltb v 4096 l) (eq-eqb (getD x v 0) 0 g))
+      -- whose guess is at most hi has not fallen, nor is it above
+      below : (v : ℕ) → guess x v ≤ hi → y v ≤ hi
+      below v h =
+          ⊎-elim (λ a. subst (λ (c : ℕ). c ≤ hi) (sym (y-yes v a)) (le-refl hi))
+          (λ a. let f = S .fits in absurd (not-far v a h)) (look (ltb v 4096 and eqb (getD x v 0) 0))
+        where
+          not-far : (v : ℕ) → ltb v 4096 and eqb (getD x v 0) 0 ≡ false → guess x v ≤ hi → ⊥
+          not-far v a h =
+              let f = S .fits in
+              ⊎-elim (λ l. ⊎-elim (λ g. clash (and-i (lt-ltb v 4096 l) (eq-eqb (getD x v 0) 0 g)) a) (λ g. let p = F .times .above v l g in let o : guess x v ≡ getD x v 0 = guess-at x v (F .len-x) l in omega arith) (fell-look x v))
+              (λ l. let o : guess x v ≡ never = guess-far x v (F .len-x) l in omega arith) (⊎-elim (λ b. _⊎_.inr (leb-true 4096 v b)) (λ b. _⊎_.inl (leb-false 4096 v b)) (look (leb 4096 v)))
+      closed : (v : ℕ) → Closed t q s y v
+      closed v =
+          record { enough-or-never =
+            ⊎-elim (λ a. _⊎_.inr (subst (λ (c : ℕ). q .k ≤ supporters t y s c v) (sym (y-yes v a)) (le-trans (stable-supported F hi days v (ltb-true v 4096 (and-l (ltb v 4096) (eqb (getD x v 0) 0) a)) (eqb-true (getD x v 0) 0 (and-r (ltb v 4096) (eqb (getD x v 0) 0) a))) (supporters-mono t (guess x) y s hi v below))))
+            (λ a. _⊎_.inl (y-no v a)) (look (ltb v 4096 and eqb (getD x v 0) 0)) }
+
+  pub fell-not : {r head : ℕ} {passed : ℕ → ℕ → Bool} {x d w : List ℕ} (F : Fall t q s hi lo 4096 never r head head passed x d w) (u : ℕ) → u < 4096 → Fell x u → s ≤ hi → met t (ring t q s hi) u ≡ true → ⊥
+  fell-not F u k f o m = let a = F .times .lower u hi k f o (le-refl hi) m in let b = F .times .above u k f in let c = S .fits in omega arith
