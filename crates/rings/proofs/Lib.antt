@@ -8,4 +8,6 @@ pub mod WindowLaws
 pub mod CheckLaws
 pub mod TableLaws
 pub mod PairLaws
+pub mod LinkLaws
+pub mod BookLaws
 pub mod FallLaws

@@ -102,15 +102,15 @@ joins-other t j u l h =
 
 -- ---- fresh rows
 
-before-yes : (t : Table) (a b n : ℕ) → joins t n a b ≡ true → pairBefore t a b (suc n) ≡ suc n
+pub before-yes : (t : Table) (a b n : ℕ) → joins t n a b ≡ true → pairBefore t a b (suc n) ≡ suc n
 unfolding pairBefore
 before-yes t a b n h = ap (λ (x : Bool). elim x as (λ _. ℕ) [ true ↦ suc n | false ↦ pairBefore t a b n ]) h
 
-before-no : (t : Table) (a b n : ℕ) → joins t n a b ≡ false → pairBefore t a b (suc n) ≡ pairBefore t a b n
+pub before-no : (t : Table) (a b n : ℕ) → joins t n a b ≡ false → pairBefore t a b (suc n) ≡ pairBefore t a b n
 unfolding pairBefore
 before-no t a b n h = ap (λ (x : Bool). elim x as (λ _. ℕ) [ true ↦ suc n | false ↦ pairBefore t a b n ]) h
 
-before-le : (t : Table) (a b n : ℕ) → pairBefore t a b n ≤ n
+pub before-le : (t : Table) (a b n : ℕ) → pairBefore t a b n ≤ n
 unfolding pairBefore
 before-le t a b zero = zero-le
 before-le t a b (suc n) =

@@ -1,8 +1,7 @@
 -- The table check, and what an accepted table says.
 --     Passed d f s before j    the loop over rows has passed the rows below j: none has a fault
 --     pass-start, pass-next, pass-refused, pass-end    the loop's laws
---     Accepted-table d f s     what the checks say of an accepted table
---     table-accepted           an accepted table says so
+--     table-sound              what the checks say of an accepted table
 -- Assumes nothing.
 use Prim.Native.Nat.{ℕ, zero, suc, _+_, _≤_, _<_}
 use native.Mathlib.Nat.{le-refl, eq-or-lt-of-le, not-suc-le-zero, zero-add, le-of-suc-le-suc}
@@ -17,6 +16,7 @@ use lib.Dec.{leb, ltb, eqb}
 use borrow.Author.Tests.{leb-true, ltb-true, ltb-false, eqb-true}
 use Rattle.rings.specs.Words.{_and_, _or_, no, at, run}
 use Rattle.rings.specs.Table.{Table, tableOf, size, dayOf, firstOf, secondOf}
+use Rattle.rings.specs.Inner.Sound.{RowSound, Sound}
 use Rattle.rings.specs.Checks.{_when_, _then_, inOrder}
 use Rattle.rings.specs.TableCheck.{dayBefore, rowFaults, rowCheck, tableCheck}
 use Rattle.rings.specs.declared.refusal.Refusal.{Refusal}
@@ -56,19 +56,6 @@ module _ (d f s : List ℕ) where
   pass-end before j p l = sym (order-accepted (rowCheck (tableOf d f s)) 0 (length d) (λ i a b. p .passed i (omega arith)))
 
 -- ---- an accepted table
-
-pub record RowSound (d f s : List ℕ) (j : ℕ) : Type 0 where
-  pub day-from : 1 ≤ getD d j 0
-  pub day-to : getD d j 0 ≤ 1024
-  pub accounts : getD f j 0 < getD s j 0
-  pub account-to : getD s j 0 ≤ 4095
-
-pub record Sound (d f s : List ℕ) : Type 0 where
-  pub firsts : length f ≡ length d
-  pub seconds : length s ≡ length d
-  pub most : length d ≤ 16384
-  pub rows : (j : ℕ) → j < length d → RowSound d f s j
-  pub rising : (j : ℕ) → suc j < length d → getD d j 0 ≤ getD d (suc j) 0
 
 faults-none : (j before day a b : ℕ) → rowFaults j before day a b ≡ Accepted → (1 ≤ day) × (day ≤ 1024) × (a < b) × (b ≤ 4095) × (before ≤ day)
 unfolding rowFaults

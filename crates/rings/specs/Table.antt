@@ -22,7 +22,7 @@ pub record Table : Type 0 where
 abbrev pub tableOf : List ℕ → List ℕ → List ℕ → Table
 tableOf d f s = record { days = d; first = f; second = s }
 
-unfoldable pub size : Table → ℕ
+abbrev pub size : Table → ℕ
 size t = length (t .days)
 
 unfoldable pub dayOf : Table → ℕ → ℕ

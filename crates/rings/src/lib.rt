@@ -1,5 +1,6 @@
 // Rings of a dated payment table.
 
+pub mod links;
 pub mod refusal;
 pub mod table;
 
