@@ -445,7 +445,7 @@ module _ (t : Table) (q : Query) (s hi lo : ℕ) (S : Setting t q s hi lo) where
       none j v = ⊎-elim (λ h. absurd (not-suc-le-zero (passing-e (getD w head 0) 0 j v h .1))) (λ h. h) (look (passing t (getD w head 0) 0 j v))
 
   module _ {b e r head tail u : ℕ} {x d w : List ℕ} (W : Walk t q s hi lo b e r head tail u x d w) where
-    walk-small : u < 4096
+    pub walk-small : u < 4096
     walk-small = subst (λ (a : ℕ). a < 4096) (W .at-front) (W .state .queue .waiting-small head (le-refl head) (W .front))
 
     walk-fell : Fell x u

@@ -11,3 +11,4 @@ pub mod PairLaws
 pub mod LinkLaws
 pub mod BookLaws
 pub mod FallLaws
+pub mod WalkLaws

@@ -85,7 +85,7 @@ unfolding rowCheck dayOf firstOf secondOf at
 row-sound d f s j e = faults-none j (dayBefore (tableOf d f s) j) (getD d j 0) (getD f j 0) (getD s j 0) e
 
 pub table-sound : (d f s : List ℕ) → tableCheck (tableOf d f s) ≡ Accepted → Sound d f s
-unfolding tableCheck size dayBefore dayOf at
+unfolding tableCheck dayBefore dayOf at
 table-sound d f s e =
     let b = no (eqb (length f) (length d) and eqb (length s) (length d)) in
     let g = ltb 16384 (length d) in

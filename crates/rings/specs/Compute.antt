@@ -1,6 +1,6 @@
 -- For worked examples: a theorem that says `unfolding compute` computes with every definition of this crate.
 use Rattle.rings.specs.Words.{_and_, _or_, no, at, marked, some, every, tally, count, run, joined, kept, chosen, oneOf}
-use Rattle.rings.specs.Table.{size, dayOf, firstOf, secondOf, inWindow, windowRows}
+use Rattle.rings.specs.Table.{dayOf, firstOf, secondOf, inWindow, windowRows}
 use Rattle.rings.specs.Ring.{joins, neighbour, greatest, names, degree, touches, met, keep, round, rounds, peel, ring, inRing, members}
 use Rattle.rings.specs.CoreTimes.{never, least, accountTime, rowTime}
 use Rattle.rings.specs.Windows.{windowsFrom, windows, smaller, minimal, minimalOf, minimalWindows, entries, recalled}
@@ -16,7 +16,7 @@ use Rattle.rings.specs.RecallCall.{entryAt, comesAfter, inPlace, fits, e
 unfoldable pub compute : Unit {0}
 unfolding
     _and_ _or_ no at marked some every tally count run joined kept chosen oneOf
-    size dayOf firstOf secondOf inWindow windowRows
+    dayOf firstOf secondOf inWindow windowRows
     joins neighbour greatest names degree touches met keep round rounds peel ring inRing members
     never least accountTime rowTime
     windowsFrom windows smaller minimal minimalOf minimalWindows entries recalled

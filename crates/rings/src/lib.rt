@@ -1,6 +1,7 @@
 // Rings of a dated payment table.
 
 pub mod links;
+pub mod peel;
 pub mod refusal;
 pub mod table;
 

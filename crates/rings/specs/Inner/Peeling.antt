@@ -7,6 +7,8 @@
 --     Degrees      d counts the rows that count, and no account below b that has not fallen has fewer than k
 --     Times        x is a lower bound of the core times, closed at the fallen; no core time that is still open passes e
 --     Fall         all of it
+--     Season       what is peeled
+--     Ready        what every step works on: an accepted table, its links, and the setting
 --     Walk         the same while the rows of the account at the head of the queue are walked
 use Prim.Native.Nat.{ℕ, _+_, _-_, _≤_, _<_}
 use mathlib.Core.Path.{_≡_}
@@ -16,10 +18,11 @@ use mathlib.Core.List.{List}
 use lib.ListN.{length, getD, set}
 use lib.Dec.{ltb, eqb}
 use Rattle.rings.specs.Words.{_and_, no, count}
-use Rattle.rings.specs.Table.{Table, size, dayOf, firstOf, secondOf}
+use Rattle.rings.specs.Table.{Table, tableOf, size, dayOf, firstOf, secondOf}
 use Rattle.rings.specs.Ring.{joins, touches, met, ring}
 use Rattle.rings.specs.CoreTimes.{never}
-use Rattle.rings.specs.Inner.Links.{otherOf, fresh}
+use Rattle.rings.specs.Inner.Sound.{Sound}
+use Rattle.rings.specs.Inner.Links.{otherOf, fresh, Linked}
 use Rattle.rings.specs.Inner.Support.{supporters}
 use Rattle.rings.specs.declared.Query.{Query}
 
@@ -118,3 +121,28 @@ pub record Walk (t : Table) (q : Query) (s hi lo b e r head tail u : ℕ) (x d w
   pub state : Fall t q s hi lo 4096 e r head tail (passing t u b) x d w
   pub front : head < tail
   pub at-front : getD w head 0 ≡ u
+
+abbrev pub query : ℕ → Query
+query n = record { k = n }
+
+-- what is peeled: k, the first day, the last day of the range, and the first row from the first day on
+pub record Season : Type 0 where
+  pub k : ℕ
+  pub start : ℕ
+  pub end : ℕ
+  pub lo : ℕ
+
+abbrev pub season : ℕ → ℕ → ℕ → ℕ → Season
+season k s e lo = record { k = k; start = s; end = e; lo = lo }
+
+pub record Ready (d f s links : List ℕ) (p : Season) : Type 0 where
+  pub sound : Sound d f s
+  pub linked : Linked (tableOf d f s) links
+  pub setting : Setting (tableOf d f s) (query (p .k)) (p .start) (p .end) (p .lo)
+
+-- the states for the season p of the table of three columns
+abbrev pub Falling : List ℕ → List ℕ → List ℕ → Season → ℕ → ℕ → ℕ → ℕ → ℕ → List ℕ → List ℕ → List ℕ → Type 0
+Falling d f s p b e r head tail x l w = Fall (tableOf d f s) (query (p .k)) (p .start) (p .end) (p .lo) b e r head tail nothing x l w
+
+abbrev pub Walking : List ℕ → List ℕ → List ℕ → Season → ℕ → ℕ → ℕ → ℕ → ℕ → ℕ → List ℕ → List ℕ → List ℕ → Type 0
+Walking d f s p b e r head tail u x l w = Walk (tableOf d f s) (query (p .k)) (p .start) (p .end) (p .lo) b e r head tail u x l w

@@ -1,6 +1,6 @@
 use Rattle.rings.specs.TableCheck.{tableCheck}
 use Rattle.rings.specs.Checks.{_when_, _then_}
-use Rattle.rings.specs.Table.{size}
+
 use Rattle.rings.specs.Words.{_and_, no}
 use mathlib.Core.Path.{_∙_, sym}
 use borrow.Author.Tests.{lt-ltb, le-ltb, eq-eqb, ne-eqb}
@@ -13,17 +13,17 @@ use Rattle.rings.proofs.table.check_rows.Reads as check-rows-reads
 
 -- src/table.rt:61:9
 returns : tie.Need-returns
-unfolding tableCheck size _when_ _then_ _and_ no
+unfolding tableCheck _when_ _then_ _and_ no
 returns c = simp (ne-eqb _ _ (c .if1 .taken))
 
 -- src/table.rt:64:9
 returns-2 : tie.Need-returns-2
-unfolding tableCheck size _when_ _then_ _and_ no
+unfolding tableCheck _when_ _then_ _and_ no
 returns-2 c = simp (eq-eqb _ _ (c .before .if1 .left), ne-eqb _ _ (c .if2 .taken))
 
 -- src/table.rt:67:9
 returns-3 : tie.Need-returns-3
-unfolding tableCheck size _when_ _then_ _and_ no
+unfolding tableCheck _when_ _then_ _and_ no
 returns-3 c = simp (eq-eqb _ _ (c .before .before .if1 .left), eq-eqb _ _ (c .before .if2 .left), lt-ltb _ _ (c .if3 .taken))
 
 -- src/table.rt:69:5
@@ -32,7 +32,7 @@ check-rows-requires c κs = search needs
 
 -- src/table.rt:57:1
 returns-4 : tie.Need-returns-4
-unfolding tableCheck size _when_ _then_ _and_ no
+unfolding tableCheck _when_ _then_ _and_ no
 returns-4 c = simp (eq-eqb _ _ (c .before .before .before .if1 .left), eq-eqb _ _ (c .before .before .if2 .left), le-ltb _ _ (c .before .if3 .left)) (c .check-rows .ensures)
 
 pub check-table-spec : {M : Type 1} → statement M

@@ -1,0 +1,75 @@
+// Core times of one start from nothing, by peeling: accounts fall where fewer than k neighbours are left, as the rows leave from the last day on.
+// times: 0 while an account has not fallen, then its core time; left: its neighbours left; queue: who fell and is still to be walked.
+// Each account is walked once and each row leaves once, so the work is linear in the rows of the window.
+ghost use mathlib.Core.Path.{_≡_};
+ghost use Prim.Native.Nat.{ℕ, _+_, _*_, _≤_, _<_};
+ghost use lib.ListN.{length, getD};
+ghost use lib.Dec.{leb};
+ghost use Rattle.rings.specs.Words.{_and_};
+ghost use Rattle.rings.specs.Table.{tableOf, dayOf};
+ghost use Rattle.rings.specs.CoreTimes.{never, accountTime};
+ghost use Rattle.rings.specs.Inner.Peeling.{Lost, Ready, season, Falling, Walking};
+
+use crate::links::entry;
+use crate::links::other;
+
+// Row j is the first of its pair from row lo on: it brings a new neighbour.
+fn is_fresh(links: &[u16], n: usize, lo: usize, j: usize) -> bool
+    requires { ⌜ (n ≤ 16384) × (j < n) × (8192 + 2 * n + j < length (now links)) ⌝ }
+    ensures { λ r. ⌜ r ≡ (leb lo j and leb (getD (now (links .entry)) (8192 + 2 * n + j) 0) lo) ⌝ }
+{
+    if j < lo {
+        return false;
+    }
+    let earlier = entry(links, 8192 + 2 * n + j);
+    if lo < earlier {
+        return false;
+    }
+    true
+}
+
+// Account v loses a neighbour; with fewer than k left it falls, dated e, and waits in the queue.
+fn lose(k: u16, e: u16, tail: usize, v: usize, times: &mut [u16], left: &mut [u16], queue: &mut [u16]) -> usize
+    requires { ⌜ (v < 4096) × (length (now times) ≡ 4096) × (length (now left) ≡ 4096) × (length (now queue) ≡ 4096) ⌝ }
+    requires { ⌜ (getD (now times) v 0 ≡ 0 → (0 < getD (now left) v 0) × (tail < 4096)) ⌝ }
+    ensures { λ r. ⌜ Lost k e tail v (now (times .entry)) (now (left .entry)) (now (queue .entry)) (now (times .exit)) (now (left .exit)) (now (queue .exit)) r ⌝ }
+{
+    if times[v] != 0 {
+        return tail;
+    }
+    let n = left[v];
+    left[v] = n - 1;
+    if k < n {
+        return tail;
+    }
+    times[v] = e;
+    queue[tail] = v as u16;
+    tail + 1
+}
+
+// The rows of u, which fell: by each fresh row below r the other account loses a neighbour.
+fn walk(days: &[u16], first: &[u16], second: &[u16], links: &[u16], k: u16, start: u16, stop: u16, lo: usize, e: u16, r: usize, head: usize, tail: usize, u: usize, times: &mut [u16], left: &mut [u16], queue: &mut [u16]) -> usize
+    requires { ⌜ Ready (now days) (now first) (now second) (now links) (season k start stop lo) ⌝ }
+    requires { ⌜ Walking (now days) (now first) (now second) (season k start stop lo) 0 e r head tail u (now times) (now left) (now queue) ⌝ }
+    ensures { λ t. ⌜ Falling (now (days .entry)) (now (first .entry)) (now (second .entry)) (season k start stop lo) 4096 e r (head + 1) t (now (times .exit)) (now (left .exit)) (now (queue .exit)) ⌝ }
+{
+    let n = days.len();
+    let end = entry(links, u);
+    let mut p = entry(links, 4096 + u);
+    let mut last = tail;
+    while p < end {
+        let j = entry(links, 8192 + p);
+        if r <= j {
+            return last;
+        }
+        p += 1;
+        if is_fresh(links, n, lo, j) {
+            let a = entry(first, j);
+            let b = entry(second, j);
+            let v = other(a, b, u);
+            last = lose(k, e, last, v, times, left, queue);
+            continue;
+        }
+    }
+    last
+}
