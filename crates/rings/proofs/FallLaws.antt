@@ -163,12 +163,12 @@ module _ (t : Table) (q : Query) (s hi lo : ℕ) (S : Setting t q s hi lo) where
   other-joins : (j u v : ℕ) → j < size t → joins t j u v ≡ true → otherOf t j u ≡ v
   other-joins j u v l h = joins-same t j u (otherOf t j u) v (joins-other t j u (S .accounts j l) (joins-touch t j u v h .0)) h
 
-  touch-small : (j u : ℕ) → j < size t → touches t j u ≡ true → u < 4096
+  pub touch-small : (j u : ℕ) → j < size t → touches t j u ≡ true → u < 4096
   touch-small j u l h =
       let a = S .accounts j l in let b = S .small j l in
       ⊎-elim (λ e. subst (λ (y : ℕ). y < 4096) e (omega arith)) (λ e. subst (λ (y : ℕ). y < 4096) e b) (touch-cases t j u h)
 
-  other-small : (j u : ℕ) → j < size t → touches t j u ≡ true → otherOf t j u < 4096
+  pub other-small : (j u : ℕ) → j < size t → touches t j u ≡ true → otherOf t j u < 4096
   other-small j u l h = touch-small j (otherOf t j u) l (joins-touch t j u (otherOf t j u) (joins-other t j u (S .accounts j l) h) .1)
 
   -- ---- an account with fewer than k rows that count is met in no ring before e
@@ -216,7 +216,7 @@ module _ (t : Table) (q : Query) (s hi lo : ℕ) (S : Setting t q s hi lo) where
         not-passed j v w k d o k′ small =
             ⊎-elim (λ y. ⊎-elim (λ z. absurd (unfallen c w l a b k′ small (subst (Fell x) o (z .1)))) (λ z. absurd (omega arith)) (pw j v k y)) (λ y. y) (look (passed j v))
 
-    fall-lower : (v : ℕ) → count (λ j. live j v) (size t) < q .k → (c : ℕ) → s ≤ c → c ≤ hi → met t (ring t q s c) v ≡ true → e ≤ c
+    pub fall-lower : (v : ℕ) → count (λ j. live j v) (size t) < q .k → (c : ℕ) → s ≤ c → c ≤ hi → met t (ring t q s c) v ≡ true → e ≤ c
     unfolding degree
     fall-lower v few c a b m =
         ⊎-elim (λ y. leb-true e c y)
@@ -229,7 +229,7 @@ module _ (t : Table) (q : Query) (s hi lo : ℕ) (S : Setting t q s hi lo) where
   -- ---- one account falls
 
   module _ {e : ℕ} {x : List ℕ} (n : length x ≡ 4096) (T : Times t q s hi e x) (v : ℕ) (l : v < 4096) (z : getD x v 0 ≡ 0) where
-    now-e : getD (set x v e) v 0 ≡ e
+    pub now-e : getD (set x v e) v 0 ≡ e
     now-e = getD-set-same x v e 0 (omega arith)
 
     -- what is at most c stays so, where e is
@@ -239,10 +239,10 @@ module _ (t : Table) (q : Query) (s hi lo : ℕ) (S : Setting t q s hi lo) where
         ⊎-elim (λ y. subst (λ (a : ℕ). getD (set x v e) a never ≤ c) (sym y) (rw (getD-set-same x v e never (omega arith)) h))
         (λ y. rw (getD-set-other x v w e never y) k) (same-or w v)
 
-    still : (u : ℕ) → (u ≡ v → ⊥) → getD (set x v e) u 0 ≡ getD x u 0
+    pub still : (u : ℕ) → (u ≡ v → ⊥) → getD (set x v e) u 0 ≡ getD x u 0
     still u y = getD-set-other x v u e 0 y
 
-    times-fall : ((c : ℕ) → s ≤ c → c ≤ hi → met t (ring t q s c) v ≡ true → e ≤ c) → Times t q s hi e (set x v e)
+    pub times-fall : ((c : ℕ) → s ≤ c → c ≤ hi → met t (ring t q s c) v ≡ true → e ≤ c) → Times t q s hi e (set x v e)
     times-fall low =
         record {
           e-pos = T .e-pos;
@@ -264,7 +264,7 @@ module _ (t : Table) (q : Query) (s hi lo : ℕ) (S : Setting t q s hi lo) where
         raised : (c : ℕ) → e ≤ c → (u : ℕ) → (c ≡ never) ⊎ (q .k ≤ supporters t (guess x) s c u) → (c ≡ never) ⊎ (q .k ≤ supporters t (guess (set x v e)) s c u)
         raised c h u = ⊎-elim _⊎_.inl (λ k. _⊎_.inr (le-trans k (supporters-mono t (guess x) (guess (set x v e)) s c u (guess-keeps c h))))
 
-    queue-fall : {head tail : ℕ} {walked : ℕ → Bool} {w : List ℕ} → length w ≡ 4096 → Queue head tail walked x w → Queue head (tail + 1) walked (set x v e) (set w tail v)
+    pub queue-fall : {head tail : ℕ} {walked : ℕ → Bool} {w : List ℕ} → length w ≡ 4096 → Queue head tail walked x w → Queue head (tail + 1) walked (set x v e) (set w tail v)
     queue-fall {head} {tail} {walked} {w} m Q =
         record {
           walked-fell = λ u h. let f = Q .walked-fell u h in (f .0, keep-fell u (f .1));
@@ -598,7 +598,7 @@ module _ (t : Table) (q : Query) (s hi lo : ℕ) (S : Setting t q s hi lo) where
           and-i h (lt-ltb i j (⊎-elim (λ y. clash (subst (λ (a : ℕ). F .live a u ≡ true) y h) (gone u k g)) (λ y. y) (eq-or-lt-of-le (le-of-suc-le-suc b))))
 
   -- nobody waits: who fell was walked
-  stable-walked : {b e r head : ℕ} {passed : ℕ → ℕ → Bool} {x d w : List ℕ} (F : Fall t q s hi lo b e r head head passed x d w) (u : ℕ) → u < 4096 → F .walked u ≡ false → getD x u 0 ≡ 0
+  pub stable-walked : {b e r head : ℕ} {passed : ℕ → ℕ → Bool} {x d w : List ℕ} (F : Fall t q s hi lo b e r head head passed x d w) (u : ℕ) → u < 4096 → F .walked u ≡ false → getD x u 0 ≡ 0
   stable-walked {x = x} F u k h = ⊎-elim (λ z. z) (λ f. let p = F .queue .waits u k f h in let a = p .from in let b = p .below in absurd (omega arith)) (fell-look x u)
 
   -- a row that is not fresh leaves without a word
@@ -678,6 +678,9 @@ module _ (t : Table) (q : Query) (s hi lo : ℕ) (S : Setting t q s hi lo) where
     second-new = ⊎-elim (λ h. let y = pair-e (firstOf t j) j (secondOf t j) h .1 in let a = S .accounts j l in absurd (omega arith)) (λ h. h) (look (pair (firstOf t j) j (secondOf t j)))
 
     module _ {x₁ d₁ w₁ : List ℕ} {tail₁ : ℕ} (L : Lost (q .k) e head (firstOf t j) x d w x₁ d₁ w₁ tail₁) where
+      pub leave-tail : tail₁ ≡ fallen x₁
+      leave-tail = after-first L .queue .tail-is
+
       pub leave-second-one : getD x₁ (secondOf t j) 0 ≡ 0 → 0 < getD d₁ (secondOf t j) 0
       leave-second-one = lose-one (after-first L) j (secondOf t j) second-small (here-row (secondOf t j) (touch-second t j)) (second-other L (after-first L)) second-new second-pass (_⊎_.inr day)
 

@@ -12,3 +12,4 @@ pub mod LinkLaws
 pub mod BookLaws
 pub mod FallLaws
 pub mod WalkLaws
+pub mod StageLaws

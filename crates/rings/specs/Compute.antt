@@ -2,7 +2,7 @@
 use Rattle.rings.specs.Words.{_and_, _or_, no, at, marked, some, every, tally, count, run, joined, kept, chosen, oneOf}
 use Rattle.rings.specs.Table.{dayOf, firstOf, secondOf, inWindow, windowRows}
 use Rattle.rings.specs.Ring.{joins, neighbour, greatest, names, degree, touches, met, keep, round, rounds, peel, ring, inRing, members}
-use Rattle.rings.specs.CoreTimes.{never, least, accountTime, rowTime}
+use Rattle.rings.specs.CoreTimes.{least, accountTime, rowTime}
 use Rattle.rings.specs.Windows.{windowsFrom, windows, smaller, minimal, minimalOf, minimalWindows, entries, recalled}
 use Rattle.rings.specs.Refusals.{numberOf, placeOf, behindScratch, done, refused, verdictReport, countedReport}
 use Rattle.rings.specs.Checks.{_when_, _then_, inOrder, counted, queryCheck, rangeCheck, scratchCheck}
@@ -18,7 +18,7 @@ unfolding
     _and_ _or_ no at marked some every tally count run joined kept chosen oneOf
     dayOf firstOf secondOf inWindow windowRows
     joins neighbour greatest names degree touches met keep round rounds peel ring inRing members
-    never least accountTime rowTime
+    least accountTime rowTime
     windowsFrom windows smaller minimal minimalOf minimalWindows entries recalled
     numberOf placeOf behindScratch done refused verdictReport countedReport
     _when_ _then_ inOrder counted queryCheck rangeCheck scratchCheck

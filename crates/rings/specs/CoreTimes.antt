@@ -10,7 +10,7 @@ use Rattle.rings.specs.Ring.{met, ring, inRing}
 use Rattle.rings.specs.declared.Query.{Query}
 
 -- 01: "65,535 means never"
-unfoldable pub never : ℕ
+abbrev pub never : ℕ
 never = 65535
 
 unfoldable pub least : (ℕ → Bool) → ℕ → ℕ → ℕ

@@ -8,10 +8,12 @@ ghost use lib.Dec.{leb};
 ghost use Rattle.rings.specs.Words.{_and_};
 ghost use Rattle.rings.specs.Table.{tableOf, dayOf};
 ghost use Rattle.rings.specs.CoreTimes.{never, accountTime};
-ghost use Rattle.rings.specs.Inner.Peeling.{Lost, Ready, season, Falling, Walking};
+ghost use Rattle.rings.specs.Inner.Peeling.{Lost, Ready, query, season, Falling, Walking, Counted, Fade};
 
+use crate::links::clear;
 use crate::links::entry;
 use crate::links::other;
+use crate::links::put;
 
 // Row j is the first of its pair from row lo on: it brings a new neighbour.
 fn is_fresh(links: &[u16], n: usize, lo: usize, j: usize) -> bool
@@ -70,6 +72,107 @@ fn walk(days: &[u16], first: &[u16], second: &[u16], links: &[u16], k: u16, star
             last = lose(k, e, last, v, times, left, queue);
             continue;
         }
+    }
+    last
+}
+
+// Who waits is walked, until nobody does.
+fn drain(days: &[u16], first: &[u16], second: &[u16], links: &[u16], k: u16, start: u16, stop: u16, lo: usize, e: u16, r: usize, head: usize, tail: usize, times: &mut [u16], left: &mut [u16], queue: &mut [u16]) -> usize
+    requires { ⌜ Ready (now days) (now first) (now second) (now links) (season k start stop lo) ⌝ }
+    requires { ⌜ Falling (now days) (now first) (now second) (season k start stop lo) 4096 e r head tail (now times) (now left) (now queue) ⌝ }
+    ensures { λ t. ⌜ Falling (now (days .entry)) (now (first .entry)) (now (second .entry)) (season k start stop lo) 4096 e r t t (now (times .exit)) (now (left .exit)) (now (queue .exit)) ⌝ }
+{
+    let mut front = head;
+    let mut last = tail;
+    while front < last {
+        let u = entry(queue, front);
+        last = walk(days, first, second, links, k, start, stop, lo, e, r, front, last, u, times, left, queue);
+        front += 1;
+    }
+    last
+}
+
+// Row j, the last that has not left, leaves. Its day is e.
+fn leave(days: &[u16], first: &[u16], second: &[u16], links: &[u16], k: u16, start: u16, stop: u16, lo: usize, e: u16, j: usize, tail: usize, times: &mut [u16], left: &mut [u16], queue: &mut [u16]) -> usize
+    requires { ⌜ Ready (now days) (now first) (now second) (now links) (season k start stop lo) ⌝ }
+    requires { ⌜ (j < length (now days)) × (e ≡ getD (now days) j 0) ⌝ }
+    requires { ⌜ Falling (now days) (now first) (now second) (season k start stop lo) 4096 e (j + 1) tail tail (now times) (now left) (now queue) ⌝ }
+    ensures { λ t. ⌜ Falling (now (days .entry)) (now (first .entry)) (now (second .entry)) (season k start stop lo) 4096 e j t t (now (times .exit)) (now (left .exit)) (now (queue .exit)) ⌝ }
+{
+    let n = days.len();
+    if is_fresh(links, n, lo, j) {
+        let a = entry(first, j);
+        let b = entry(second, j);
+        if entry(times, a) != 0 {
+            return tail;
+        }
+        if entry(times, b) != 0 {
+            return tail;
+        }
+        let one = lose(k, e, tail, a, times, left, queue);
+        let two = lose(k, e, one, b, times, left, queue);
+        return drain(days, first, second, links, k, start, stop, lo, e, j, tail, two, times, left, queue);
+    }
+    tail
+}
+
+// The rows leave, from the last on: who falls meanwhile has the day of the leaving row for its core time.
+fn fade(days: &[u16], first: &[u16], second: &[u16], links: &[u16], k: u16, start: u16, stop: u16, lo: usize, end: usize, tail: usize, times: &mut [u16], left: &mut [u16], queue: &mut [u16])
+    requires { ⌜ Ready (now days) (now first) (now second) (now links) (season k start stop lo) ⌝ }
+    requires { ⌜ Fade (now days) (now first) (now second) (season k start stop lo) end tail (now times) (now left) (now queue) ⌝ }
+    ensures { λ _. ⌜ ((u : ℕ) → u < 4096 → getD (now (times .exit)) u 0 ≡ accountTime (tableOf (now (days .entry)) (now (first .entry)) (now (second .entry))) (query k) stop start u) ⌝ }
+{
+    let mut r = end;
+    let mut last = tail;
+    while lo < r {
+        let j = r - 1;
+        let e = days[j];
+        last = leave(days, first, second, links, k, start, stop, lo, e, j, last, times, left, queue);
+        r = j;
+    }
+}
+
+// How many neighbours each account has in the rows from lo to end.
+fn count_neighbours(days: &[u16], first: &[u16], second: &[u16], links: &[u16], k: u16, start: u16, stop: u16, lo: usize, end: usize, left: &mut [u16])
+    requires { ⌜ Ready (now days) (now first) (now second) (now links) (season k start stop lo) ⌝ }
+    requires { ⌜ (lo ≤ end) × (end ≤ length (now days)) ⌝ }
+    requires { ⌜ Counted (tableOf (now days) (now first) (now second)) lo lo (now left) ⌝ }
+    ensures { λ _. ⌜ Counted (tableOf (now (days .entry)) (now (first .entry)) (now (second .entry))) lo end (now (left .exit)) ⌝ }
+{
+    let n = days.len();
+    let mut j = lo;
+    while j < end {
+        if is_fresh(links, n, lo, j) {
+            let a = entry(first, j);
+            let b = entry(second, j);
+            let x = entry(left, a);
+            put(left, a, x + 1);
+            let y = entry(left, b);
+            put(left, b, y + 1);
+            j += 1;
+            continue;
+        }
+        j += 1;
+    }
+}
+
+// Who has fewer than k neighbours to begin with falls, with no core time.
+fn weed(days: &[u16], first: &[u16], second: &[u16], links: &[u16], k: u16, start: u16, stop: u16, lo: usize, end: usize, times: &mut [u16], left: &mut [u16], queue: &mut [u16]) -> usize
+    requires { ⌜ Ready (now days) (now first) (now second) (now links) (season k start stop lo) ⌝ }
+    requires { ⌜ Falling (now days) (now first) (now second) (season k start stop lo) 0 never end 0 0 (now times) (now left) (now queue) ⌝ }
+    ensures { λ t. ⌜ Falling (now (days .entry)) (now (first .entry)) (now (second .entry)) (season k start stop lo) 4096 never end 0 t (now (times .exit)) (now (left .exit)) (now (queue .exit)) ⌝ }
+{
+    let mut u = 0;
+    let mut last = 0;
+    while u < 4096 {
+        if left[u] < k {
+            put(times, u, 65535);
+            put(queue, last, u);
+            last += 1;
+            u += 1;
+            continue;
+        }
+        u += 1;
     }
     last
 }

@@ -9,6 +9,8 @@
 --     Fall         all of it
 --     Season       what is peeled
 --     Ready        what every step works on: an accepted table, its links, and the setting
+--     Counted      d holds the fresh rows of each account below a row
+--     Fade         the rows from r on have left, and nobody waits
 --     Walk         the same while the rows of the account at the head of the queue are walked
 use Prim.Native.Nat.{ℕ, _+_, _-_, _≤_, _<_}
 use mathlib.Core.Path.{_≡_}
@@ -146,3 +148,17 @@ Falling d f s p b e r head tail x l w = Fall (tableOf d f s) (query (p .k)) (p .
 
 abbrev pub Walking : List ℕ → List ℕ → List ℕ → Season → ℕ → ℕ → ℕ → ℕ → ℕ → ℕ → List ℕ → List ℕ → List ℕ → Type 0
 Walking d f s p b e r head tail u x l w = Walk (tableOf d f s) (query (p .k)) (p .start) (p .end) (p .lo) b e r head tail u x l w
+
+-- l holds, by account, the fresh rows from lo on that are below end
+pub record Counted (t : Table) (lo end : ℕ) (l : List ℕ) : Type 0 where
+  pub long : length l ≡ 4096
+  pub rows : (u : ℕ) → u < 4096 → getD l u 0 ≡ count (λ j. (fresh t lo j and ltb j end) and touches t j u) (size t)
+
+-- the rows from r on have left, and nobody waits
+pub record Fade (d f s : List ℕ) (p : Season) (r tail : ℕ) (x l w : List ℕ) : Type 0 where
+  pub e : ℕ
+  pub state : Falling d f s p 4096 e r tail tail x l w
+  pub above : (j : ℕ) → j < r → dayOf (tableOf d f s) j ≤ e
+  pub within : r ≤ length d
+  pub from : p .lo ≤ r
+  pub dated : (j : ℕ) → j < r → (1 ≤ dayOf (tableOf d f s) j) × (dayOf (tableOf d f s) j ≤ p .end)

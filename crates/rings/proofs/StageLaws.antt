@@ -1,0 +1,350 @@
+-- The stages of peeling (src/peel.rt): drain, leave, fade, count_neighbours, weed.
+-- Assumes nothing.
+use Prim.Native.Nat.{ℕ, zero, suc, _+_, _-_, _*_, _≤_, _<_}
+use native.Mathlib.Nat.{le-refl, le-trans, le-antisymm, eq-or-lt-of-le, not-suc-le-zero, le-of-suc-le-suc}
+use native.Mathlib.Numerals.{add-one}
+use native.Mathlib.Omega.{arith}
+use mathlib.Core.Path.{_≡_, refl, sym, _∙_, ap, subst}
+use mathlib.Core.Logic.{_⊎_, ⊎-elim}
+use mathlib.Core.Bool.{Bool, true, false}
+use mathlib.Core.List.{List}
+use lib.ListN.{length, getD, set, replicate, length-set, length-replicate, getD-replicate}
+use lib.Seq.{getD-set-same, getD-set-other}
+use lib.Dec.{leb, ltb, eqb}
+use borrow.Author.Tests.{leb-true, leb-false, ltb-true, ltb-false, lt-ltb, le-ltb, eqb-true, eqb-false, eq-eqb, ne-eqb}
+use Rattle.rings.specs.Words.{_and_, no, at, count}
+use Rattle.rings.specs.Table.{Table, tableOf, dayOf, firstOf, secondOf}
+use Rattle.rings.specs.Ring.{touches}
+use Rattle.rings.specs.CoreTimes.{never, accountTime}
+use Rattle.rings.specs.Inner.Links.{earlier, fresh}
+use Rattle.rings.specs.Inner.Peeling.{Lost, Fell, Fall, fallen, Season, Ready, query, Falling, Walking, nothing, Counted, Fade}
+use Rattle.rings.proofs.WordLaws.{look, clash, and-i, and-l, and-r, no-i, no-e, same-truth, count-same, count-none, count-pos, count-le}
+use Rattle.rings.proofs.RingLaws.{touch-cases, touch-first, touch-second}
+use Rattle.rings.proofs.PairLaws.{count-drop}
+use Rattle.rings.proofs.FallLaws.{fell-look, same-or, room, times-fall, queue-fall, fall-lower, still, now-e, walk-start, leave-stale, leave-fell, leave-first-one, leave-tail, leave-second-one, leave-both, next-day, fall-times}
+
+-- nobody has fallen exactly where all times are 0
+fallen-none : (x : List ℕ) → ((u : ℕ) → u < 4096 → getD x u 0 ≡ 0) → fallen x ≡ 0
+unfolding fallen
+fallen-none x f = count-none (λ u. no (eqb (getD x u 0) 0)) 4096 (λ u k. ⊎-elim (λ h. clash (eq-eqb (getD x u 0) 0 (f u k)) (no-e (eqb (getD x u 0) 0) h)) (λ h. h) (look (no (eqb (getD x u 0) 0))))
+
+none-fallen : (x : List ℕ) → fallen x ≡ 0 → (u : ℕ) → u < 4096 → getD x u 0 ≡ 0
+unfolding fallen
+none-fallen x e u k =
+    ⊎-elim (λ z. z) (λ f. let p : 0 < count (λ u. no (eqb (getD x u 0) 0)) 4096 = count-pos (λ u. no (eqb (getD x u 0) 0)) 4096 u k (no-i (ne-eqb (getD x u 0) 0 f)) in absurd (omega arith)) (fell-look x u)
+
+pub count-end : {t : Table} {lo j end : ℕ} {l : List ℕ} → Counted t lo j l → j ≤ end → end ≤ j → Counted t lo end l
+count-end {t} {lo} {j} {end} {l} C a b = subst (λ (c : ℕ). Counted t lo c l) (le-antisymm a b) C
+
+-- the accounts below u have been looked at; none from u on has fallen
+pub record Weed (d f s : List ℕ) (q : Season) (u end last : ℕ) (x l w : List ℕ) : Type 0 where
+  pub state : Falling d f s q u never end 0 last x l w
+  pub rest : (v : ℕ) → u ≤ v → v < 4096 → getD x v 0 ≡ 0
+
+module _ (d f s links : List ℕ) (q : Season) (R : Ready d f s links q) where
+  abbrev t : Table
+  t = tableOf d f s
+
+  abbrev Falls : ℕ → ℕ → ℕ → ℕ → ℕ → List ℕ → List ℕ → List ℕ → Type 0
+  Falls b e r head tail x l w = Falling d f s q b e r head tail x l w
+
+  -- ---- drain
+
+  module _ {e r head tail : ℕ} {x l w : List ℕ} (F : Falls 4096 e r head tail x l w) where
+    pub tail-most : tail ≤ 4096
+    unfolding fallen
+    tail-most = subst (λ (c : ℕ). c ≤ 4096) (sym (F .queue .tail-is)) (count-le (λ u. no (eqb (getD x u 0) 0)) 4096)
+
+    pub drain-walk : head < tail → {u : ℕ} → u ≡ getD w head 0 → Walking d f s q 0 e r head tail u x l w
+    drain-walk h {u} eu = subst (λ (c : ℕ). Walking d f s q 0 e r head tail c x l w) (sym eu) (walk-start t (query (q .k)) (q .start) (q .end) (q .lo) (R .setting) F h)
+
+    pub drain-end : tail ≤ head → Falls 4096 e r tail tail x l w
+    drain-end h = subst (λ (c : ℕ). Falls 4096 e r c tail x l w) (le-antisymm (F .queue .in-order) h) F
+
+  -- ---- leave
+
+  module _ {e j tail : ℕ} {x l w : List ℕ} (b : j < length d) (day : e ≡ getD d j 0) (F : Falls 4096 e (j + 1) tail tail x l w) where
+    G : Falls 4096 e (suc j) tail tail x l w
+    G = rw (add-one j) at F
+
+    e-day : e ≤ dayOf t j
+    unfolding dayOf at
+    e-day = omega arith
+
+    -- what `is_fresh` answers
+    fresh-is : {y : Bool} → y ≡ (leb (q .lo) j and leb (getD links (8192 + 2 * length d + j) 0) (q .lo)) → fresh t (q .lo) j ≡ y
+    unfolding fresh
+    fresh-is h = sym (h ∙ ap (λ (c : ℕ). leb (q .lo) j and leb c (q .lo)) (R .linked .pairs j b))
+
+    a-small : getD f j 0 < 4096
+    a-small = let y = R .sound .rows j b in let z = y .accounts in let k = y .account-to in omega arith
+
+    b-small : getD s j 0 < 4096
+    b-small = let k = R .sound .rows j b .account-to in omega arith
+
+    pub leave-place : (length d ≤ 16384) × (j < length d) × (8192 + 2 * length d + j < length links)
+    leave-place = let a = R .linked .long in (R .sound .most, b, omega arith)
+
+    pub leave-accounts : {a c : ℕ} → a ≡ getD f j 0 → c ≡ getD s j 0 → (a < length x) × (c < length x)
+    leave-accounts ea ec = let y = a-small in let z = b-small in let n = F .len-x in (omega arith, omega arith)
+
+    pub leave-old : {y : Bool} → y ≡ (leb (q .lo) j and leb (getD links (8192 + 2 * length d + j) 0) (q .lo)) → y ≡ false → Falls 4096 e j tail tail x l w
+    leave-old h g = leave-stale t (query (q .k)) (q .start) (q .end) (q .lo) (R .setting) G e-day (fresh-is h ∙ g)
+
+    pub leave-a-fell : {a v : ℕ} → a ≡ getD f j 0 → v ≡ getD x a 0 → (v ≡ 0 → ⊥) → Falls 4096 e j tail tail x l w
+    unfolding firstOf at
+    leave-a-fell {a} {v} ea ev n =
+        leave-fell t (query (q .k)) (q .start) (q .end) (q .lo) (R .setting) G e-day b a (subst (λ (c : ℕ). touches t j c ≡ true) (sym ea) (touch-first t j)) (λ z. n (ev ∙ z))
+
+    pub leave-b-fell : {c v : ℕ} → c ≡ getD s j 0 → v ≡ getD x c 0 → (v ≡ 0 → ⊥) → Falls 4096 e j tail tail x l w
+    unfolding secondOf at
+    leave-b-fell {c} {v} ec ev n =
+        leave-fell t (query (q .k)) (q .start) (q .end) (q .lo) (R .setting) G e-day b c (subst (λ (g : ℕ). touches t j g ≡ true) (sym ec) (touch-second t j)) (λ z. n (ev ∙ z))
+
+    module _ {y : Bool} (ey : y ≡ (leb (q .lo) j and leb (getD links (8192 + 2 * length d + j) 0) (q .lo))) (yes : y ≡ true) {a c va vc : ℕ} (ea : a ≡ getD f j 0) (ec : c ≡ getD s j 0) (va-is : va ≡ getD x a 0) (vc-is : vc ≡ getD x c 0) (za : va ≡ 0) (zc : vc ≡ 0) where
+      f-is : fresh t (q .lo) j ≡ true
+      f-is = fresh-is ey ∙ yes
+
+      a-is : a ≡ firstOf t j
+      unfolding firstOf at
+      a-is = ea
+
+      c-is : c ≡ secondOf t j
+      unfolding secondOf at
+      c-is = ec
+
+      zero-a : getD x (firstOf t j) 0 ≡ 0
+      zero-a = ap (λ (g : ℕ). getD x g 0) (sym a-is) ∙ (sym va-is ∙ za)
+
+      zero-c : getD x (secondOf t j) 0 ≡ 0
+      zero-c = ap (λ (g : ℕ). getD x g 0) (sym c-is) ∙ (sym vc-is ∙ zc)
+
+      pub leave-room-a : ((a < 4096) × (length x ≡ 4096) × (length l ≡ 4096) × (length w ≡ 4096)) × (getD x a 0 ≡ 0 → (0 < getD l a 0) × (tail < 4096))
+      leave-room-a =
+          let k = a-small in
+          ((omega arith, F .len-x, F .len-d, F .len-w),
+          λ z. (subst (λ (g : ℕ). 0 < getD l g 0) (sym a-is) (leave-first-one t (query (q .k)) (q .start) (q .end) (q .lo) (R .setting) G e-day b f-is zero-a zero-c zero-a),
+            subst (λ (g : ℕ). g < 4096) (sym (F .queue .tail-is)) (room x a (omega arith) z)))
+
+      module _ {x₁ l₁ w₁ : List ℕ} {one : ℕ} (n₁ : length x₁ ≡ length x) (n₂ : length l₁ ≡ length l) (n₃ : length w₁ ≡ length w) (L : Lost (q .k) e tail a x l w x₁ l₁ w₁ one) where
+        L′ : Lost (q .k) e tail (firstOf t j) x l w x₁ l₁ w₁ one
+        L′ = subst (λ (g : ℕ). Lost (q .k) e tail g x l w x₁ l₁ w₁ one) a-is L
+
+        one-is : one ≡ fallen x₁
+        one-is = leave-tail t (query (q .k)) (q .start) (q .end) (q .lo) (R .setting) G e-day b f-is zero-a zero-c L′
+
+        pub leave-room-b : ((c < 4096) × (length x₁ ≡ 4096) × (length l₁ ≡ 4096) × (length w₁ ≡ 4096)) × (getD x₁ c 0 ≡ 0 → (0 < getD l₁ c 0) × (one < 4096))
+        leave-room-b =
+            let k = b-small in
+            ((omega arith, n₁ ∙ F .len-x, n₂ ∙ F .len-d, n₃ ∙ F .len-w),
+            λ z. (subst (λ (g : ℕ). 0 < getD l₁ g 0) (sym c-is) (leave-second-one t (query (q .k)) (q .start) (q .end) (q .lo) (R .setting) G e-day b f-is zero-a zero-c L′ (ap (λ (g : ℕ). getD x₁ g 0) (sym c-is) ∙ z)),
+              subst (λ (g : ℕ). g < 4096) (sym one-is) (room x₁ c (omega arith) z)))
+
+        pub leave-now : {x₂ l₂ w₂ : List ℕ} {two : ℕ} → Lost (q .k) e one c x₁ l₁ w₁ x₂ l₂ w₂ two → Falls 4096 e j tail two x₂ l₂ w₂
+        leave-now {x₂} {l₂} {w₂} {two} M = leave-both t (query (q .k)) (q .start) (q .end) (q .lo) (R .setting) G e-day b f-is zero-a zero-c L′ (subst (λ (g : ℕ). Lost (q .k) e one g x₁ l₁ w₁ x₂ l₂ w₂ two) c-is M)
+
+  -- ---- fade
+
+  module _ {r tail : ℕ} {x l w : List ℕ} (F : Fade d f s q r tail x l w) where
+    pub fade-row : q .lo < r → r - 1 < length d
+    fade-row h = let a = F .within in omega arith
+
+    pub fade-next : q .lo < r → {e : ℕ} → e ≡ getD d (r - 1) 0 → Falls 4096 e (r - 1 + 1) tail tail x l w
+    unfolding dayOf at
+    fade-next h {e} ee =
+        let y = fade-row h in
+        let g : r ≡ suc (r - 1) = omega arith in
+        let z = F .dated (r - 1) (omega arith) in
+        subst (λ (c : ℕ). Falls 4096 e c tail tail x l w) (sym (add-one (r - 1)))
+        (subst (λ (c : ℕ). Falls 4096 c (suc (r - 1)) tail tail x l w) (sym ee)
+        (next-day t (query (q .k)) (q .start) (q .end) (q .lo) (R .setting) (subst (λ (c : ℕ). Falls 4096 (F .e) c tail tail x l w) g (F .state)) y (z .0) (z .1) (F .above (r - 1) (omega arith))))
+
+    pub fade-left : q .lo < r → {e tail′ : ℕ} {x′ l′ w′ : List ℕ} → e ≡ getD d (r - 1) 0 → Falls 4096 e (r - 1) tail′ tail′ x′ l′ w′ → Fade d f s q (r - 1) tail′ x′ l′ w′
+    unfolding dayOf at
+    fade-left h {e} ee G =
+        let a = F .within in
+        record { e = e; state = G; above = λ j k. subst (λ (c : ℕ). getD d j 0 ≤ c) (sym ee) (R .setting .rising j (r - 1) (omega arith) (omega arith)); within = omega arith; from = omega arith; dated = λ j k. F .dated j (omega arith) }
+
+    pub fade-end : r ≤ q .lo → (u : ℕ) → u < 4096 → getD x u 0 ≡ accountTime t (query (q .k)) (q .end) (q .start) u
+    fade-end h u k = fall-times t (query (q .k)) (q .start) (q .end) (q .lo) (R .setting) (subst (λ (c : ℕ). Falls 4096 (F .e) c tail tail x l w) (le-antisymm h (F .from)) (F .state)) u k
+
+  -- ---- count_neighbours
+
+  -- row j counts for u, if it is fresh and below end
+  abbrev counts-for : ℕ → ℕ → ℕ → Bool
+  counts-for end u j = (fresh t (q .lo) j and ltb j end) and touches t j u
+
+  counts-below : (end u i : ℕ) → counts-for end u i ≡ true → i < end
+  counts-below end u i h = ltb-true i end (and-r (fresh t (q .lo) i) (ltb i end) (and-l (fresh t (q .lo) i and ltb i end) (touches t i u) h))
+
+  -- where the bound moves past row j, only row j may count anew
+  counts-same : (j u i : ℕ) → (i ≡ j → ⊥) → counts-for (j + 1) u i ≡ counts-for j u i
+  counts-same j u i n =
+      ap (λ (b : Bool). (fresh t (q .lo) i and b) and touches t i u)
+      (same-truth (ltb i (j + 1)) (ltb i j) (λ h. let a = ltb-true i (j + 1) h in lt-ltb i j (⊎-elim (λ e. absurd (n e)) (λ l. l) (eq-or-lt-of-le (omega arith)))) (λ h. let a = ltb-true i j h in lt-ltb i (j + 1) (omega arith)))
+
+  counts-not : (j u : ℕ) → counts-for j u j ≡ false
+  counts-not j u = ⊎-elim (λ h. let a = counts-below j u j h in absurd (omega arith)) (λ h. h) (look (counts-for j u j))
+
+  -- row j counts for u from now on
+  counts-more : (j u : ℕ) → j < length d → fresh t (q .lo) j ≡ true → touches t j u ≡ true → count (counts-for (j + 1) u) (length d) ≡ suc (count (counts-for j u) (length d))
+  counts-more j u l h k = count-drop (counts-for (j + 1) u) (counts-for j u) (length d) j l (and-i (and-i h (lt-ltb j (j + 1) (omega arith))) k) (counts-not j u) (λ i n. sym (counts-same j u i n))
+
+  -- row j counts for nobody new
+  counts-still : (j u : ℕ) → (fresh t (q .lo) j ≡ false) ⊎ (touches t j u ≡ false) → count (counts-for (j + 1) u) (length d) ≡ count (counts-for j u) (length d)
+  counts-still j u h =
+      count-same (counts-for (j + 1) u) (counts-for j u) (length d)
+      (λ i o. ⊎-elim (λ e. subst (λ (c : ℕ). counts-for (j + 1) u c ≡ counts-for j u c) (sym e) (here-not ∙ sym (counts-not j u))) (λ n. counts-same j u i n) (same-or i j))
+    where
+      here-not : counts-for (j + 1) u j ≡ false
+      here-not =
+          ⊎-elim (λ y. ⊎-elim (λ g. clash (and-l (fresh t (q .lo) j) (ltb j (j + 1)) (and-l (fresh t (q .lo) j and ltb j (j + 1)) (touches t j u) y)) g) (λ g. clash (and-r (fresh t (q .lo) j and ltb j (j + 1)) (touches t j u) y) g) h) (λ y. y) (look (counts-for (j + 1) u j))
+
+  pub counted-start : (l₀ : List ℕ) {l : List ℕ} → length l₀ ≡ 4096 → l ≡ replicate (length l₀) 0 → Counted t (q .lo) (q .lo) l
+  counted-start l₀ {l} n e =
+      record {
+        long = ap length e ∙ (length-replicate {A = ℕ} (length l₀) 0 ∙ n);
+        rows = λ u k. ap (λ (c : List ℕ). getD c u 0) e ∙ (getD-replicate (length l₀) u 0 0 (omega arith) ∙ sym (count-none (counts-for (q .lo) u) (length d) (λ i o. none u i))) }
+    where
+      none : (u i : ℕ) → counts-for (q .lo) u i ≡ false
+      none u i =
+          ⊎-elim (λ h. let a = counts-below (q .lo) u i h in let b = Rattle.rings.proofs.PairLaws.fresh-e t (q .lo) i (and-l (fresh t (q .lo) i) (ltb i (q .lo)) (and-l (fresh t (q .lo) i and ltb i (q .lo)) (touches t i u) h)) .from in absurd (omega arith)) (λ h. h) (look (counts-for (q .lo) u i))
+
+  module _ {j end : ℕ} {l : List ℕ} (C : Counted t (q .lo) j l) (below : j < end) (within : end ≤ length d) where
+    j-row : j < length d
+    j-row = omega arith
+
+    row-a : getD f j 0 < 4096
+    row-a = let y = R .sound .rows j j-row in let z = y .accounts in let k = y .account-to in omega arith
+
+    row-b : getD s j 0 < 4096
+    row-b = let k = R .sound .rows j j-row .account-to in omega arith
+
+    fresh-of : {y : Bool} → y ≡ (leb (q .lo) j and leb (getD links (8192 + 2 * length d + j) 0) (q .lo)) → fresh t (q .lo) j ≡ y
+    unfolding fresh
+    fresh-of h = sym (h ∙ ap (λ (c : ℕ). leb (q .lo) j and leb c (q .lo)) (R .linked .pairs j j-row))
+
+    pub count-place : (length d ≤ 16384) × (j < length d) × (8192 + 2 * length d + j < length links)
+    count-place = let a = R .linked .long in let b = j-row in (R .sound .most, b, omega arith)
+
+    small-count : (u : ℕ) → u < 4096 → getD l u 0 ≤ 16384
+    small-count u k = let a = C .rows u k in let b = count-le (counts-for j u) (length d) in let c = R .sound .most in omega arith
+
+    pub count-first : {a m : ℕ} → a ≡ getD f j 0 → m ≡ getD l a 0 → (a < length l) × (m ≤ 16384)
+    count-first {a} {m} ea em = let k : a < 4096 = subst (λ (c : ℕ). c < 4096) (sym ea) row-a in let n = C .long in (omega arith, subst (λ (c : ℕ). c ≤ 16384) (sym em) (small-count a k))
+
+    pub count-second : {l₁ : List ℕ} {a b m n : ℕ} → a ≡ getD f j 0 → b ≡ getD s j 0 → m ≡ getD l a 0 → l₁ ≡ set l a (m + 1) → n ≡ getD l₁ b 0 → (b < length l₁) × (n ≤ 16384)
+    count-second {l₁} {a} {b} {m} {n} ea eb em e₁ en =
+        let k : b < 4096 = subst (λ (c : ℕ). c < 4096) (sym eb) row-b in
+        let x : length l₁ ≡ length l = ap length e₁ ∙ length-set l a (m + 1) in
+        let o = C .long in
+        let y : n ≡ getD l b 0 = en ∙ (ap (λ (c : List ℕ). getD c b 0) e₁ ∙ getD-set-other l a b (m + 1) 0 (λ z. let g = R .sound .rows j j-row .accounts in omega arith)) in
+        (omega arith, subst (λ (c : ℕ). c ≤ 16384) (sym y) (small-count b k))
+
+    pub count-skip : {y : Bool} → y ≡ (leb (q .lo) j and leb (getD links (8192 + 2 * length d + j) 0) (q .lo)) → y ≡ false → Counted t (q .lo) (j + 1) l
+    count-skip h n = record { long = C .long; rows = λ u k. C .rows u k ∙ sym (counts-still j u (_⊎_.inl (fresh-of h ∙ n))) }
+
+    pub count-row : {y : Bool} → y ≡ (leb (q .lo) j and leb (getD links (8192 + 2 * length d + j) 0) (q .lo)) → y ≡ true → {l₁ l₂ : List ℕ} {a b m n : ℕ} → a ≡ getD f j 0 → b ≡ getD s j 0 → m ≡ getD l a 0 → l₁ ≡ set l a (m + 1) → n ≡ getD l₁ b 0 → l₂ ≡ set l₁ b (n + 1) → Counted t (q .lo) (j + 1) l₂
+    unfolding firstOf secondOf at
+    count-row h y {l₁} {l₂} {a} {b} {m} {n} ea eb em e₁ en e₂ =
+        record {
+          long = ap length e₂ ∙ (length-set l₁ b (n + 1) ∙ (ap length e₁ ∙ (length-set l a (m + 1) ∙ C .long)));
+          rows = λ u k. ⊎-elim (λ z. at-b u k z) (λ z. ⊎-elim (λ g. at-a u k g z) (λ g. elsewhere u k g z) (same-or u a)) (same-or u b) }
+      where
+        fr : fresh t (q .lo) j ≡ true
+        fr = fresh-of h ∙ y
+        ab : a ≡ b → ⊥
+        ab z = let g = R .sound .rows j j-row .accounts in omega arith
+        ta : touches t j a ≡ true
+        ta = subst (λ (u : ℕ). touches t j u ≡ true) (sym ea) (touch-first t j)
+        tb : touches t j b ≡ true
+        tb = subst (λ (u : ℕ). touches t j u ≡ true) (sym eb) (touch-second t j)
+        n-is : n ≡ getD l b 0
+        n-is = en ∙ (ap (λ (c : List ℕ). getD c b 0) e₁ ∙ getD-set-other l a b (m + 1) 0 (λ z. ab (sym z)))
+        at-l : (u : ℕ) → getD l₂ u 0 ≡ getD (set (set l a (m + 1)) b (n + 1)) u 0
+        at-l u = ap (λ (c : List ℕ). getD c u 0) e₂ ∙ ap (λ (c : List ℕ). getD (set c b (n + 1)) u 0) e₁
+        at-b : (u : ℕ) → u < 4096 → u ≡ b → getD l₂ u 0 ≡ count (counts-for (j + 1) u) (length d)
+        at-b u k z =
+            let x : getD l₂ u 0 ≡ n + 1 = at-l u ∙ (ap (λ (c : ℕ). getD (set (set l a (m + 1)) b (n + 1)) c 0) z ∙ getD-set-same (set l a (m + 1)) b (n + 1) 0 (let o = length-set l a (m + 1) in let g = C .long in omega arith)) in
+            let r : count (counts-for (j + 1) u) (length d) ≡ suc (count (counts-for j u) (length d)) = counts-more j u j-row fr (subst (λ (c : ℕ). touches t j c ≡ true) (sym z) tb) in
+            let c : getD l u 0 ≡ count (counts-for j u) (length d) = C .rows u k in
+            let g : getD l b 0 ≡ getD l u 0 = ap (λ (c : ℕ). getD l c 0) (sym z) in
+            let o = n-is in omega arith
+        at-a : (u : ℕ) → u < 4096 → u ≡ a → (u ≡ b → ⊥) → getD l₂ u 0 ≡ count (counts-for (j + 1) u) (length d)
+        at-a u k z nb =
+            let x : getD l₂ u 0 ≡ m + 1 = at-l u ∙ (getD-set-other (set l a (m + 1)) b u (n + 1) 0 nb ∙ (ap (λ (c : ℕ). getD (set l a (m + 1)) c 0) z ∙ getD-set-same l a (m + 1) 0 (let g = C .long in omega arith))) in
+            let r : count (counts-for (j + 1) u) (length d) ≡ suc (count (counts-for j u) (length d)) = counts-more j u j-row fr (subst (λ (c : ℕ). touches t j c ≡ true) (sym z) ta) in
+            let c : getD l u 0 ≡ count (counts-for j u) (length d) = C .rows u k in
+            let g : getD l a 0 ≡ getD l u 0 = ap (λ (c : ℕ). getD l c 0) (sym z) in omega arith
+        elsewhere : (u : ℕ) → u < 4096 → (u ≡ a → ⊥) → (u ≡ b → ⊥) → getD l₂ u 0 ≡ count (counts-for (j + 1) u) (length d)
+        elsewhere u k na nb =
+            at-l u ∙ (getD-set-other (set l a (m + 1)) b u (n + 1) 0 nb ∙ (getD-set-other l a u (m + 1) 0 na ∙ (C .rows u k ∙ sym (counts-still j u (_⊎_.inr (⊎-elim (λ g. ⊎-elim (λ e. absurd (na (sym e ∙ sym ea))) (λ e. absurd (nb (sym e ∙ sym eb))) (touch-cases t j u g)) (λ g. g) (look (touches t j u))))))))
+
+  -- ---- the first state, and weed
+
+  pub fall-start : (x₀ : List ℕ) {x l w : List ℕ} {end : ℕ} → length x₀ ≡ 4096 → x ≡ replicate (length x₀) 0 → Counted t (q .lo) end l → length w ≡ 4096 → end ≤ length d → ((j : ℕ) → end ≤ j → j < length d → q .end < dayOf t j) → Falls 0 never end 0 0 x l w
+  fall-start x₀ {x} {l} {w} {end} n ex C m within later =
+      record {
+        len-x = ap length ex ∙ (length-replicate {A = ℕ} (length x₀) 0 ∙ n); len-d = C .long; len-w = m; walked = λ u. false; live = λ j u. counts-for end u j;
+        rows = record {
+          live-row = λ j u h. let a = and-l (fresh t (q .lo) j and ltb j end) (touches t j u) h in let b = counts-below end u j h in record { below = omega arith; before = b; is-fresh = and-l (fresh t (q .lo) j) (ltb j end) a; touch = and-r (fresh t (q .lo) j and ltb j end) (touches t j u) h };
+          live-not = λ j u h. refl; live-passed = λ j u h. refl; live-all = λ j u a b c. and-i (and-i (a .is-fresh) (lt-ltb j end (a .before))) (a .touch) };
+        queue = record {
+          walked-fell = λ u h. clash h refl; waits = λ u k h g. absurd (h (zero u k)); waiting-small = λ i a b. absurd (not-suc-le-zero b); waiting-fell = λ i a b. absurd (not-suc-le-zero b); waiting-not = λ i a b. absurd (not-suc-le-zero b);
+          apart = λ i i′ a b c. absurd (not-suc-le-zero c); in-order = le-refl 0; tail-is = sym nobody };
+        counts = record { degrees = λ u k z. C .rows u k; enough = λ u a b z. absurd (not-suc-le-zero a) };
+        times = record {
+          e-pos = omega arith; e-day = _⊎_.inr refl; valued = λ u k h. absurd (h (zero u k)); above = λ u k h. absurd (h (zero u k)); lower = λ u c k h. absurd (h (zero u k)); closed = λ u k h. absurd (h (zero u k)); backed = λ u k z. _⊎_.inl refl };
+        passed-why = λ j u k h. clash refl (sym h); left-why = λ j a b. _⊎_.inr (later j a b) }
+    where
+      zero : (u : ℕ) → u < 4096 → getD x u 0 ≡ 0
+      zero u k = ap (λ (c : List ℕ). getD c u 0) ex ∙ getD-replicate (length x₀) u 0 0 (omega arith)
+      nobody : fallen x ≡ 0
+      nobody = fallen-none x zero
+
+  pub weed-start : {end : ℕ} {x l w : List ℕ} → Falls 0 never end 0 0 x l w → Weed d f s q 0 end 0 x l w
+  weed-start {end} {x} F = record { state = F; rest = λ v a k. none-fallen x (sym (F .queue .tail-is)) v k }
+
+  pub weed-end : {u end last : ℕ} {x l w : List ℕ} → Weed d f s q u end last x l w → u ≤ 4096 → 4096 ≤ u → Falls 4096 never end 0 last x l w
+  weed-end {u} {end} {last} {x} {l} {w} W a b = subst (λ (c : ℕ). Falls c never end 0 last x l w) (le-antisymm a b) (W .state)
+
+  module _ {end u last : ℕ} {x l w : List ℕ} (W : Weed d f s q u end last x l w) (k : u < 4096) where
+    F : Falls u never end 0 last x l w
+    F = W .state
+
+    zero-u : getD x u 0 ≡ 0
+    zero-u = W .rest u (le-refl u) k
+
+    pub weed-room : (last < length w) × (u < length x)
+    weed-room = let a : last < 4096 = subst (λ (c : ℕ). c < 4096) (sym (F .queue .tail-is)) (room x u k zero-u) in let b = F .len-w in let c = F .len-x in (omega arith, omega arith)
+
+    pub weed-keep : q .k ≤ getD l u 0 → Weed d f s q (u + 1) end last x l w
+    weed-keep h =
+        record {
+          state = record {
+            len-x = F .len-x; len-d = F .len-d; len-w = F .len-w; walked = F .walked; live = F .live; rows = F .rows; queue = F .queue; times = F .times; passed-why = F .passed-why; left-why = F .left-why;
+            counts = record { degrees = F .counts .degrees; enough = λ v a b z. ⊎-elim (λ e. subst (λ (c : ℕ). q .k ≤ getD l c 0) (sym e) h) (λ o. F .counts .enough v o b z) (eq-or-lt-of-le (omega arith)) } };
+          rest = λ v a b. W .rest v (omega arith) b }
+
+    pub weed-fall : getD l u 0 < q .k → {x′ w′ : List ℕ} → x′ ≡ set x u 65535 → w′ ≡ set w last u → Weed d f s q (u + 1) end (last + 1) x′ l w′
+    weed-fall h {x′} {w′} ex ew =
+        subst (λ (c : List ℕ). Weed d f s q (u + 1) end (last + 1) c l w′) (sym ex) (subst (λ (c : List ℕ). Weed d f s q (u + 1) end (last + 1) (set x u never) l c) (sym ew) fell)
+      where
+        few : count (λ j. F .live j u) (length d) < q .k
+        few = let a : getD l u 0 ≡ count (λ j. F .live j u) (length d) = F .counts .degrees u k zero-u in omega arith
+        fell-u : (v : ℕ) → v ≡ u → getD (set x u never) v 0 ≡ 0 → ⊥
+        fell-u v y g = let a : getD (set x u never) v 0 ≡ never = ap (λ (c : ℕ). getD (set x u never) c 0) y ∙ getD-set-same x u never 0 (let n = F .len-x in omega arith) in omega arith
+        same : (v : ℕ) → (v ≡ u → ⊥) → getD (set x u never) v 0 ≡ getD x v 0
+        same v y = getD-set-other x u v never 0 y
+        fell : Weed d f s q (u + 1) end (last + 1) (set x u never) l (set w last u)
+        fell =
+            record {
+              state = record {
+                len-x = length-set x u never ∙ F .len-x; len-d = F .len-d; len-w = length-set w last u ∙ F .len-w; walked = F .walked; live = F .live; rows = F .rows;
+                queue = queue-fall t (query (q .k)) (q .start) (q .end) (q .lo) (R .setting) (F .len-x) (F .times) u k zero-u (F .len-w) (F .queue);
+                times = times-fall t (query (q .k)) (q .start) (q .end) (q .lo) (R .setting) (F .len-x) (F .times) u k zero-u (fall-lower t (query (q .k)) (q .start) (q .end) (q .lo) (R .setting) (F .rows) (F .queue .walked-fell) (F .times) (F .passed-why) (F .left-why) u few);
+                counts = record {
+                  degrees = λ v a z. ⊎-elim (λ y. absurd (fell-u v y z)) (λ y. F .counts .degrees v a (sym (same v y) ∙ z)) (same-or v u);
+                  enough = λ v a b z. ⊎-elim (λ y. absurd (fell-u v y z)) (λ y. F .counts .enough v (⊎-elim (λ e. absurd (y e)) (λ o. o) (eq-or-lt-of-le (omega arith))) b (sym (same v y) ∙ z)) (same-or v u) };
+                passed-why = λ j v a p. clash refl (sym p); left-why = F .left-why };
+              rest = λ v a b. same v (λ e. omega arith) ∙ W .rest v (omega arith) b }

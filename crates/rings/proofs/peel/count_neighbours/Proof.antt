@@ -1,0 +1,119 @@
+use Rattle.rings.proofs.StageLaws.{count-place, count-first, count-second, count-skip, count-row, count-end}
+use Rattle.rings.specs.Inner.Peeling.{season, Counted}
+use Rattle.rings.specs.Table.{tableOf}
+use native.Mathlib.Nat.{le-refl, le-antisymm}
+use mathlib.Core.Path.{_≡_, refl, _∙_, subst}
+use lib.ListN.{length}
+use Prim.Native.Nat.{_-_, _≤_}
+use native.Mathlib.Omega.{arith}
+use borrow.Author.Needs.{needs}
+use Rattle.rings.proofs.peel.count_neighbours.Statement.{statement}
+use Rattle.rings.proofs.peel.count_neighbours.Tie as tie
+use Rattle.rings.proofs.peel.count_neighbours.Reads as reads
+use Rattle.rings.proofs.peel.count_neighbours.Lts as lts
+use Rattle.rings.proofs.links.entry.Reads as entry-reads
+use Rattle.rings.proofs.links.put.Reads as put-reads
+use Rattle.rings.proofs.peel.is_fresh.Reads as is-fresh-reads
+
+abbrev Inv-loop : tie.InvT-loop
+Inv-loop days first second links k start stop lo end left₀ n j₀ left j = (n ≡ length days) × (length left ≡ length left₀) × (j ≤ end) × Counted (tableOf days first second) lo j left
+
+abbrev μ-loop : tie.MeasureT-loop
+μ-loop days first second links k start stop lo end left₀ n j₀ left j = end - j
+
+-- src/peel.rt:144:5
+loop-holds : tie.Need-loop-holds Inv-loop μ-loop
+loop-holds c = (refl, refl, c .before .before .before .before .before .pre .1 .0 .0, c .before .before .before .before .before .pre .1 .1)
+
+-- src/peel.rt:145:12
+is-fresh-requires : tie.Need-is-fresh-requires Inv-loop μ-loop
+is-fresh-requires c κs = count-place _ _ _ _ _ (c .before .before .before .before .before .before .before .pre .0) (c .before .loop .inv .3) (c .loop-test .taken) (c .before .before .before .before .before .before .before .pre .1 .0 .1)
+
+-- src/peel.rt:146:17
+entry-requires : tie.Need-entry-requires Inv-loop μ-loop
+entry-requires c κs = omega (arith, c .before .before .loop-test .taken, c .before .before .before .before .before .before .before .before .before .pre .1 .0 .1, c .before .before .before .before .before .before .before .before .before .pre .0 .sound .firsts)
+
+-- src/peel.rt:147:17
+entry-requires-2 : tie.Need-entry-requires-2 Inv-loop μ-loop
+entry-requires-2 c κs = omega (arith, c .before .before .before .loop-test .taken, c .before .before .before .before .before .before .before .before .before .before .pre .1 .0 .1, c .before .before .before .before .before .before .before .before .before .before .pre .0 .sound .seconds)
+
+-- src/peel.rt:148:17
+entry-requires-3 : tie.Need-entry-requires-3 Inv-loop μ-loop
+entry-requires-3 c κs = count-first _ _ _ _ _ (c .before .before .before .before .before .before .before .before .before .before .before .before .pre .0) (c .before .before .before .before .before .before .loop .inv .3) (c .before .before .before .before .before .loop-test .taken) (c .before .before .before .before .before .before .before .before .before .before .before .before .pre .1 .0 .1) (c .before .before .entry .ensures) refl .0
+
+-- src/peel.rt:149:26
+add-put : tie.Need-add-put Inv-loop μ-loop
+add-put c = omega (arith, count-first _ _ _ _ _ (c .before .before .before .before .before .before .before .before .before .before .before .before .before .before .pre .0) (c .before .before .before .before .before .before .before .before .loop .inv .3) (c .before .before .before .before .before .before .before .loop-test .taken) (c .before .before .before .before .before .before .before .before .before .before .before .before .before .before .pre .1 .0 .1) (c .before .before .before .before .entry .ensures) (c .before .entry3 .ensures))
+
+-- src/peel.rt:149:13
+put-requires : tie.Need-put-requires Inv-loop μ-loop
+put-requires c κs = (count-first _ _ _ _ _ (c .before .before .before .before .before .before .before .before .before .before .before .before .before .before .pre .0) (c .before .before .before .before .before .before .before .before .loop .inv .3) (c .before .before .before .before .before .before .before .loop-test .taken) (c .before .before .before .before .before .before .before .before .before .before .before .before .before .before .pre .1 .0 .1) (c .before .before .before .before .entry .ensures) refl .0, omega (arith, count-first _ _ _ _ _ (c .before .before .before .before .before .before .before .before .before .before .before .before .before .before .pre .0) (c .before .before .before .before .before .before .before .before .loop .inv .3) (c .before .before .before .before .before .before .before .loop-test .taken) (c .before .before .before .before .before .before .before .before .before .before .before .before .before .before .pre .1 .0 .1) (c .before .before .before .before .entry .ensures) (c .before .entry3 .ensures)))
+
+-- src/peel.rt:150:17
+entry-requires-4 : tie.Need-entry-requires-4 Inv-loop μ-loop
+entry-requires-4 c κs = count-second _ _ _ _ _ (c .before .before .before .before .before .before .before .before .before .before .before .before .before .before .before .before .before .before .pre .0) (c .before .before .before .before .before .before .before .before .before .before .before .before .loop .inv .3) (c .before .before .before .before .before .before .before .before .before .before .before .loop-test .taken) (c .before .before .before .before .before .before .before .before .before .before .before .before .before .before .before .before .before .before .pre .1 .0 .1) (c .before .before .before .before .before .before .before .before .entry .ensures) (c .before .before .before .before .before .before .before .entry2 .ensures) (c .before .before .before .before .before .entry3 .ensures) (c .before .before .before .put .ensures) refl .0
+
+-- src/peel.rt:151:26
+add-put-2 : tie.Need-add-put-2 Inv-loop μ-loop
+add-put-2 c = omega (arith, count-second _ _ _ _ _ (c .before .before .before .before .before .before .before .before .before .before .before .before .before .before .before .before .before .before .before .before .pre .0) (c .before .before .before .before .before .before .before .before .before .before .before .before .before .before .loop .inv .3) (c .before .before .before .before .before .before .before .before .before .before .before .before .before .loop-test .taken) (c .before .before .before .before .before .before .before .before .before .before .before .before .before .before .before .before .before .before .before .before .pre .1 .0 .1) (c .before .before .before .before .before .before .before .before .before .before .entry .ensures) (c .before .before .before .before .before .before .before .before .before .entry2 .ensures) (c .before .before .before .before .before .before .before .entry3 .ensures) (c .before .before .before .before .before .put .ensures) (c .before .entry4 .ensures))
+
+-- src/peel.rt:151:13
+put-requires-2 : tie.Need-put-requires-2 Inv-loop μ-loop
+put-requires-2 c κs = (count-second _ _ _ _ _ (c .before .before .before .before .before .before .before .before .before .before .before .before .before .before .before .before .before .before .before .before .pre .0) (c .before .before .before .before .before .before .before .before .before .before .before .before .before .before .loop .inv .3) (c .before .before .before .before .before .before .before .before .before .before .before .before .before .loop-test .taken) (c .before .before .before .before .before .before .before .before .before .before .before .before .before .before .before .before .before .before .before .before .pre .1 .0 .1) (c .before .before .before .before .before .before .before .before .before .before .entry .ensures) (c .before .before .before .before .before .before .before .before .before .entry2 .ensures) (c .before .before .before .before .before .before .before .entry3 .ensures) (c .before .before .before .before .before .put .ensures) refl .0, omega (arith, count-second _ _ _ _ _ (c .before .before .before .before .before .before .before .before .before .before .before .before .before .before .before .before .before .before .before .before .pre .0) (c .before .before .before .before .before .before .before .before .before .before .before .before .before .before .loop .inv .3) (c .before .before .before .before .before .before .before .before .before .before .before .before .before .loop-test .taken) (c .before .before .before .before .before .before .before .before .before .before .before .before .before .before .before .before .before .before .before .before .pre .1 .0 .1) (c .before .before .before .before .before .before .before .before .before .before .entry .ensures) (c .before .before .before .before .before .before .before .before .before .entry2 .ensures) (c .before .before .before .before .before .before .before .entry3 .ensures) (c .before .before .before .before .before .put .ensures) (c .before .entry4 .ensures)))
+
+-- src/peel.rt:152:13
+add-j : tie.Need-add-j Inv-loop μ-loop
+add-j c = omega (arith, c .before .before .before .before .before .before .before .before .before .before .before .before .before .before .before .before .loop-test .taken, c .before .before .before .before .before .before .before .before .before .before .before .before .before .before .before .before .before .before .before .before .before .before .before .pre .1 .0 .1, c .before .before .before .before .before .before .before .before .before .before .before .before .before .before .before .before .before .before .before .before .before .before .before .pre .0 .sound .most)
+
+-- src/peel.rt:144:5
+loop-less : tie.Need-loop-less Inv-loop μ-loop
+loop-less c = omega (arith, c .before .before .before .before .before .before .before .before .before .before .before .before .before .before .before .before .loop-test .taken)
+
+-- src/peel.rt:144:5
+loop-again : tie.Need-loop-again Inv-loop μ-loop
+loop-again c = (refl, c .before .before .put2 .kept .0 ∙ (c .before .before .before .before .before .before .before .before .put .kept .0 ∙ c .before .before .before .before .before .before .before .before .before .before .before .before .before .before .before .before .before .loop .inv .1), omega (arith, c .before .before .before .before .before .before .before .before .before .before .before .before .before .before .before .before .loop-test .taken), count-row _ _ _ _ _ (c .before .before .before .before .before .before .before .before .before .before .before .before .before .before .before .before .before .before .before .before .before .before .before .pre .0) (c .before .before .before .before .before .before .before .before .before .before .before .before .before .before .before .before .before .loop .inv .3) (c .before .before .before .before .before .before .before .before .before .before .before .before .before .before .before .before .loop-test .taken) (c .before .before .before .before .before .before .before .before .before .before .before .before .before .before .before .before .before .before .before .before .before .before .before .pre .1 .0 .1) (c .before .before .before .before .before .before .before .before .before .before .before .before .before .before .before .is-fresh .ensures) (c .before .before .before .before .before .before .before .before .before .before .before .before .before .before .if1 .taken) (c .before .before .before .before .before .before .before .before .before .before .before .before .before .entry .ensures) (c .before .before .before .before .before .before .before .before .before .before .before .before .entry2 .ensures) (c .before .before .before .before .before .before .before .before .before .before .entry3 .ensures) (c .before .before .before .before .before .before .before .before .put .ensures) (c .before .before .before .before .entry4 .ensures) (c .before .before .put2 .ensures))
+
+-- src/peel.rt:155:9
+add-j-2 : tie.Need-add-j-2 Inv-loop μ-loop
+add-j-2 c = omega (arith, c .before .before .loop-test .taken, c .before .before .before .before .before .before .before .before .before .pre .1 .0 .1, c .before .before .before .before .before .before .before .before .before .pre .0 .sound .most)
+
+-- src/peel.rt:144:5
+loop-less-2 : tie.Need-loop-less-2 Inv-loop μ-loop
+loop-less-2 c = omega (arith, c .before .before .loop-test .taken)
+
+-- src/peel.rt:144:5
+loop-again-2 : tie.Need-loop-again-2 Inv-loop μ-loop
+loop-again-2 c = (refl, c .before .before .before .loop .inv .1, omega (arith, c .before .before .loop-test .taken), count-skip _ _ _ _ _ (c .before .before .before .before .before .before .before .before .before .pre .0) (c .before .before .before .loop .inv .3) (c .before .before .loop-test .taken) (c .before .before .before .before .before .before .before .before .before .pre .1 .0 .1) (c .before .is-fresh .ensures) (c .if1 .left))
+
+-- src/peel.rt:136:1
+same-length : tie.Need-same-length Inv-loop μ-loop
+same-length c = c .before .loop .inv .1
+
+-- src/peel.rt:136:1
+returns : tie.Need-returns Inv-loop μ-loop
+returns c = count-end (c .before .loop .inv .3) (c .before .loop .inv .2) (c .loop-test .left)
+
+pub count-neighbours-spec : {M : Type 1} → statement M
+count-neighbours-spec =
+    tie.close
+    (tie.spec
+    Inv-loop
+    μ-loop
+    loop-holds
+    is-fresh-requires
+    entry-requires
+    entry-requires-2
+    entry-requires-3
+    add-put
+    put-requires
+    entry-requires-4
+    add-put-2
+    put-requires-2
+    add-j
+    loop-less
+    loop-again
+    add-j-2
+    loop-less-2
+    loop-again-2
+    same-length
+    returns)

@@ -1,0 +1,99 @@
+use borrow.Author.Needs.{needs}
+use Rattle.rings.proofs.peel.leave.Statement.{statement}
+use Rattle.rings.proofs.peel.leave.Tie as tie
+use Rattle.rings.proofs.peel.leave.Reads as reads
+use Rattle.rings.proofs.peel.leave.Lts as lts
+use Rattle.rings.proofs.links.entry.Reads as entry-reads
+use Rattle.rings.proofs.peel.drain.Reads as drain-reads
+use Rattle.rings.proofs.peel.is_fresh.Reads as is-fresh-reads
+use Rattle.rings.proofs.peel.lose.Reads as lose-reads
+
+-- src/peel.rt:103:8
+is-fresh-requires : tie.Need-is-fresh-requires
+is-fresh-requires c κs = search needs
+
+-- src/peel.rt:104:13
+entry-requires : tie.Need-entry-requires
+entry-requires c κs = search needs
+
+-- src/peel.rt:105:13
+entry-requires-2 : tie.Need-entry-requires-2
+entry-requires-2 c κs = search needs
+
+-- src/peel.rt:106:12
+entry-requires-3 : tie.Need-entry-requires-3
+entry-requires-3 c κs = ?
+
+-- src/peel.rt:107:13
+same-length : tie.Need-same-length
+same-length c = search needs
+
+-- src/peel.rt:107:13
+returns : tie.Need-returns
+returns c = ?
+
+-- src/peel.rt:109:12
+entry-requires-4 : tie.Need-entry-requires-4
+entry-requires-4 c κs = ?
+
+-- src/peel.rt:110:13
+same-length-2 : tie.Need-same-length-2
+same-length-2 c = search needs
+
+-- src/peel.rt:110:13
+returns-2 : tie.Need-returns-2
+returns-2 c = ?
+
+-- src/peel.rt:112:13
+lose-requires : tie.Need-lose-requires
+lose-requires c κs = ?
+
+-- src/peel.rt:113:13
+lose-requires-2 : tie.Need-lose-requires-2
+lose-requires-2 c κs = ?
+
+-- src/peel.rt:114:9
+drain-requires : tie.Need-drain-requires
+drain-requires c κs = ?
+
+-- src/peel.rt:114:9
+same-length-3 : tie.Need-same-length-3
+same-length-3 c = search needs
+
+-- src/peel.rt:114:9
+same-length-4 : tie.Need-same-length-4
+same-length-4 c = search needs
+
+-- src/peel.rt:114:9
+same-length-5 : tie.Need-same-length-5
+same-length-5 c = search needs
+
+-- src/peel.rt:114:9
+returns-3 : tie.Need-returns-3
+returns-3 c = search needs
+
+-- src/peel.rt:96:1
+returns-4 : tie.Need-returns-4
+returns-4 c = ?
+
+pub leave-spec : {M : Type 1} → statement M
+leave-spec =
+    tie.close
+    (tie.spec
+    is-fresh-requires
+    entry-requires
+    entry-requires-2
+    entry-requires-3
+    same-length
+    returns
+    entry-requires-4
+    same-length-2
+    returns-2
+    lose-requires
+    lose-requires-2
+    drain-requires
+    same-length-3
+    same-length-4
+    same-length-5
+    returns-3
+    returns-4)
