@@ -580,18 +580,30 @@ module _ (t : Table) (q : Query) (s hi lo : ℕ) (S : Setting t q s hi lo) where
       → Fall t q s hi lo 4096 e j head tail nothing x d w
   leave-row {e} {j} {head} {tail} {passed} {x} {d} {w} F day gone only =
       record {
-        len-x = F .len-x; len-d = F .len-d; len-w = F .len-w; walked = F .walked; live = live′; queue = F .queue; times = F .times; passed-why = λ i v k p. clash refl (sym p);
+        len-x = F .len-x;
+        len-d = F .len-d;
+        len-w = F .len-w;
+        walked = F .walked;
+        live = live′;
+        queue = F .queue;
+        times = F .times;
+        passed-why = λ i v k p. clash refl (sym p);
         left-why = λ i k l. ⊎-elim (λ y. _⊎_.inl (subst (λ (a : ℕ). e ≤ dayOf t a) y day)) (λ y. F .left-why i y l) (eq-or-lt-of-le k);
         rows = record {
           live-row = λ i v h. let a = F .rows .live-row i v (old i v h) in record { below = a .below; before = ltb-true i j (and-r (F .live i v) (ltb i j) h); is-fresh = a .is-fresh; touch = a .touch };
-          live-not = λ i v h. F .rows .live-not i v (old i v h); live-passed = λ i v h. refl;
-          live-all = λ i v a c p. let b = a .before in and-i (F .rows .live-all i v (record { below = a .below; before = omega arith; is-fresh = a .is-fresh; touch = a .touch }) c (⊎-elim (λ y. let o = only i v y in absurd (omega arith)) (λ y. y) (look (passed i v)))) (lt-ltb i j b) };
-        counts = record { degrees = λ u k g. F .counts .degrees u k g ∙ count-same (λ i. F .live i u) (λ i. live′ i u) (size t) (λ i o. same-truth (F .live i u) (live′ i u) (new u k g i) (old i u)); enough = F .counts .enough } }
+          live-not = λ i v h. F .rows .live-not i v (old i v h);
+          live-passed = λ i v h. refl;
+          live-all = λ i v a c p. let b = a .before in and-i (F .rows .live-all i v (record { below = a .below; before = omega arith; is-fresh = a .is-fresh; touch = a .touch }) c (⊎-elim (λ y. let o = only i v y in absurd (omega arith)) (λ y. y) (look (passed i v)))) (lt-ltb i j b);
+        };
+        counts = record { degrees = λ u k g. F .counts .degrees u k g ∙ count-same (λ i. F .live i u) (λ i. live′ i u) (size t) (λ i o. same-truth (F .live i u) (live′ i u) (new u k g i) (old i u)); enough = F .counts .enough };
+      }
     where
       live′ : ℕ → ℕ → Bool
       live′ i v = F .live i v and ltb i j
+
       old : (i v : ℕ) → live′ i v ≡ true → F .live i v ≡ true
       old i v h = and-l (F .live i v) (ltb i j) h
+
       new : (u : ℕ) → u < 4096 → getD x u 0 ≡ 0 → (i : ℕ) → F .live i u ≡ true → live′ i u ≡ true
       new u k g i h =
           let b = F .rows .live-row i u h .before in
@@ -646,7 +658,8 @@ module _ (t : Table) (q : Query) (s hi lo : ℕ) (S : Setting t q s hi lo) where
     second-pass =
         record {
           this = or-r (pair (firstOf t j) j (secondOf t j)) (pair (secondOf t j) j (secondOf t j)) (pair-here (secondOf t j));
-          rest = λ i u n. same-truth (both i u) (pair (firstOf t j) i u) (λ h. ⊎-elim (λ y. y) (λ y. absurd (n (pair-e (secondOf t j) i u y))) (or-e (pair (firstOf t j) i u) (pair (secondOf t j) i u) h)) (λ h. or-l (pair (firstOf t j) i u) (pair (secondOf t j) i u) h) }
+          rest = λ i u n. same-truth (both i u) (pair (firstOf t j) i u) (λ h. ⊎-elim (λ y. y) (λ y. absurd (n (pair-e (secondOf t j) i u y))) (or-e (pair (firstOf t j) i u) (pair (secondOf t j) i u) h)) (λ h. or-l (pair (firstOf t j) i u) (pair (secondOf t j) i u) h);
+        }
 
     here-row : (v : ℕ) → touches t j v ≡ true → Here t lo (suc j) j v
     here-row v h = record { below = l; before = le-refl (suc j); is-fresh = f; touch = h }
@@ -691,6 +704,7 @@ module _ (t : Table) (q : Query) (s hi lo : ℕ) (S : Setting t q s hi lo) where
         where
           G : Fall t q s hi lo 4096 e (suc j) head tail₂ both x₂ d₂ w₂
           G = lost-step (after-first L) j (secondOf t j) second-small (here-row (secondOf t j) (touch-second t j)) (second-other L (after-first L)) second-new second-pass (_⊎_.inr day) M
+
           passed-here : (u : ℕ) → touches t j u ≡ true → both j u ≡ true
           passed-here u h =
               ⊎-elim (λ y. or-l (pair (firstOf t j) j u) (pair (secondOf t j) j u) (subst (λ (c : ℕ). pair (firstOf t j) j c ≡ true) y (pair-here (firstOf t j))))
@@ -705,7 +719,7 @@ module _ (t : Table) (q : Query) (s hi lo : ℕ) (S : Setting t q s hi lo) where
       let a : q .k ≤ getD d u 0 = F .counts .enough u k k z in
       let b : getD d u 0 ≡ count (λ j. F .live j u) (size t) = F .counts .degrees u k z in
       let n : count (λ j. F .live j u) (size t) ≤ count (supports t (guess x) s c u) (names t) =
-        count-inject (λ j. F .live j u) (size t) (supports t (guess x) s c u) (names t) (λ j v. (F .live j u ≡ true) × (joins t j u v ≡ true)) partner (λ i i′ v p p′. fresh-one t lo i i′ u v (F .rows .live-row i u (p .0) .is-fresh) (F .rows .live-row i′ u (p′ .0) .is-fresh) (p .1) (p′ .1)) in
+      count-inject (λ j. F .live j u) (size t) (supports t (guess x) s c u) (names t) (λ j v. (F .live j u ≡ true) × (joins t j u v ≡ true)) partner (λ i i′ v p p′. fresh-one t lo i i′ u v (F .rows .live-row i u (p .0) .is-fresh) (F .rows .live-row i′ u (p′ .0) .is-fresh) (p .1) (p′ .1)) in
       omega arith
     where
       partner : (j : ℕ) → j < size t → F .live j u ≡ true → Partner (supports t (guess x) s c u) (λ j v. (F .live j u ≡ true) × (joins t j u v ≡ true)) (names t) j
@@ -716,18 +730,36 @@ module _ (t : Table) (q : Query) (s hi lo : ℕ) (S : Setting t q s hi lo) where
           let small = other-small j u l (here .touch) in
           let zero-v : getD x v 0 ≡ 0 = stable-walked F v small (F .rows .live-not j u h) in
           record {
-            it = v; below = touch-named t j v (joins-touch t j u v jn .1); to = (h, jn);
-            has = supports-i t (guess x) s c u v (record { row = j; below = l; join = jn; from = S .from-lo j l (fresh-e t lo j (here .is-fresh) .from); to = days j (here .before) l; other = let g : guess x v ≡ getD x v 0 = guess-at x v (F .len-x) small in omega arith }) }
+            it = v;
+            below = touch-named t j v (joins-touch t j u v jn .1);
+            to = (h, jn);
+            has = supports-i t (guess x) s c u v (record { row = j; below = l; join = jn; from = S .from-lo j l (fresh-e t lo j (here .is-fresh) .from); to = days j (here .before) l; other = let g : guess x v ≡ getD x v 0 = guess-at x v (F .len-x) small in omega arith });
+          }
 
   -- the rows from j on have left; the next is dated e'
   pub next-day : {e j head : ℕ} {x d w : List ℕ} → Fall t q s hi lo 4096 e (suc j) head head nothing x d w → j < size t → 1 ≤ dayOf t j → dayOf t j ≤ hi → dayOf t j ≤ e → Fall t q s hi lo 4096 (dayOf t j) (suc j) head head nothing x d w
   next-day {e} {j} {head} {x} {d} {w} F l one to le =
       record {
-        len-x = F .len-x; len-d = F .len-d; len-w = F .len-w; walked = F .walked; live = F .live; rows = F .rows; queue = F .queue; counts = F .counts; passed-why = λ i v k p. clash refl (sym p);
+        len-x = F .len-x;
+        len-d = F .len-d;
+        len-w = F .len-w;
+        walked = F .walked;
+        live = F .live;
+        rows = F .rows;
+        queue = F .queue;
+        counts = F .counts;
+        passed-why = λ i v k p. clash refl (sym p);
         left-why = λ i k o. ⊎-elim (λ y. _⊎_.inl (le-trans le y)) _⊎_.inr (F .left-why i k o);
         times = record {
-          e-pos = one; e-day = _⊎_.inl to; valued = F .times .valued; above = λ u k f. le-trans le (F .times .above u k f); lower = F .times .lower; closed = F .times .closed;
-          backed = λ u k z. _⊎_.inr (stable-supported F (dayOf t j) (λ i o p. S .rising i j (le-of-suc-le-suc o) l) u k z) } }
+          e-pos = one;
+          e-day = _⊎_.inl to;
+          valued = F .times .valued;
+          above = λ u k f. le-trans le (F .times .above u k f);
+          lower = F .times .lower;
+          closed = F .times .closed;
+          backed = λ u k z. _⊎_.inr (stable-supported F (dayOf t j) (λ i o p. S .rising i j (le-of-suc-le-suc o) l) u k z);
+        };
+      }
 
   met-small : (m : List Bool) (u : ℕ) → met t m u ≡ true → u < 4096
   met-small m u h = let y = met-e t m u h in touch-small (y .row) u (y .below) (y .touch)
@@ -745,12 +777,16 @@ module _ (t : Table) (q : Query) (s hi lo : ℕ) (S : Setting t q s hi lo) where
     where
       far : (v : ℕ) → 4096 ≤ v → guess x v ≡ never
       far v h = guess-far x v (F .len-x) h
+
       split : (v : ℕ) → (v < 4096) ⊎ (4096 ≤ v)
       split v = ⊎-elim (λ y. _⊎_.inr (leb-true 4096 v y)) (λ y. _⊎_.inl (leb-false 4096 v y)) (look (leb 4096 v))
+
       closed : (v : ℕ) → Closed t q s (guess x) v
       closed v = record { enough-or-never = ⊎-elim (λ l. subst (λ (c : ℕ). (c ≡ never) ⊎ (q .k ≤ supporters t (guess x) s c v)) (sym (guess-at x v (F .len-x) l)) (F .times .closed v l (all-fell F v l))) (λ l. _⊎_.inl (far v l)) (split v) }
+
       days : (v : ℕ) → (guess x v ≤ hi) ⊎ (guess x v ≡ never)
       days v = ⊎-elim (λ l. subst (λ (c : ℕ). (c ≤ hi) ⊎ (c ≡ never)) (sym (guess-at x v (F .len-x) l)) (F .times .valued v l (all-fell F v l))) (λ l. _⊎_.inr (far v l)) (split v)
+
       lower : Lower t q hi s (guess x)
       lower = record { under = λ v c a b m. let l = met-small (ring t q s c) v m in subst (λ (g : ℕ). g ≤ c) (sym (guess-at x v (F .len-x) l)) (F .times .lower v c l (all-fell F v l) a b m) }
 
@@ -761,12 +797,16 @@ module _ (t : Table) (q : Query) (s hi lo : ℕ) (S : Setting t q s hi lo) where
       -- the guess that who has not fallen has hi, and others never
       y : ℕ → ℕ
       y v = elim (ltb v 4096 and eqb (getD x v 0) 0) [ true ↦ hi | false ↦ never ]
+
       y-yes : (v : ℕ) → ltb v 4096 and eqb (getD x v 0) 0 ≡ true → y v ≡ hi
       y-yes v h = ap (λ (b : Bool). elim b as (λ _. ℕ) [ true ↦ hi | false ↦ never ]) h
+
       y-no : (v : ℕ) → ltb v 4096 and eqb (getD x v 0) 0 ≡ false → y v ≡ never
       y-no v h = ap (λ (b : Bool). elim b as (λ _. ℕ) [ true ↦ hi | false ↦ never ]) h
+
       y-stays : (v : ℕ) → v < 4096 → getD x v 0 ≡ 0 → y v ≡ hi
       y-stays v l g = y-yes v (and-i (lt-ltb v 4096 l) (eq-eqb (getD x v 0) 0 g))
+
       -- whose guess is at most hi has not fallen, nor is it above
       below : (v : ℕ) → guess x v ≤ hi → y v ≤ hi
       below v h =
@@ -778,11 +818,14 @@ module _ (t : Table) (q : Query) (s hi lo : ℕ) (S : Setting t q s hi lo) where
               let f = S .fits in
               ⊎-elim (λ l. ⊎-elim (λ g. clash (and-i (lt-ltb v 4096 l) (eq-eqb (getD x v 0) 0 g)) a) (λ g. let p = F .times .above v l g in let o : guess x v ≡ getD x v 0 = guess-at x v (F .len-x) l in omega arith) (fell-look x v))
               (λ l. let o : guess x v ≡ never = guess-far x v (F .len-x) l in omega arith) (⊎-elim (λ b. _⊎_.inr (leb-true 4096 v b)) (λ b. _⊎_.inl (leb-false 4096 v b)) (look (leb 4096 v)))
+
       closed : (v : ℕ) → Closed t q s y v
       closed v =
-          record { enough-or-never =
-            ⊎-elim (λ a. _⊎_.inr (subst (λ (c : ℕ). q .k ≤ supporters t y s c v) (sym (y-yes v a)) (le-trans (stable-supported F hi days v (ltb-true v 4096 (and-l (ltb v 4096) (eqb (getD x v 0) 0) a)) (eqb-true (getD x v 0) 0 (and-r (ltb v 4096) (eqb (getD x v 0) 0) a))) (supporters-mono t (guess x) y s hi v below))))
-            (λ a. _⊎_.inl (y-no v a)) (look (ltb v 4096 and eqb (getD x v 0) 0)) }
+          record {
+            enough-or-never =
+                ⊎-elim (λ a. _⊎_.inr (subst (λ (c : ℕ). q .k ≤ supporters t y s c v) (sym (y-yes v a)) (le-trans (stable-supported F hi days v (ltb-true v 4096 (and-l (ltb v 4096) (eqb (getD x v 0) 0) a)) (eqb-true (getD x v 0) 0 (and-r (ltb v 4096) (eqb (getD x v 0) 0) a))) (supporters-mono t (guess x) y s hi v below))))
+                (λ a. _⊎_.inl (y-no v a)) (look (ltb v 4096 and eqb (getD x v 0) 0));
+          }
 
   pub fell-not : {r head : ℕ} {passed : ℕ → ℕ → Bool} {x d w : List ℕ} (F : Fall t q s hi lo 4096 never r head head passed x d w) (u : ℕ) → u < 4096 → Fell x u → s ≤ hi → met t (ring t q s hi) u ≡ true → ⊥
   fell-not F u k f o m = let a = F .times .lower u hi k f o (le-refl hi) m in let b = F .times .above u k f in let c = S .fits in omega arith

@@ -121,10 +121,13 @@ module _ (d f s links : List ℕ) (q : Season) (R : Ready d f s links q) where
 
       pub leave-room-a : ((a < 4096) × (length x ≡ 4096) × (length l ≡ 4096) × (length w ≡ 4096)) × (getD x a 0 ≡ 0 → (0 < getD l a 0) × (tail < 4096))
       leave-room-a =
-          let k = a-small in
-          ((omega arith, F .len-x, F .len-d, F .len-w),
-          λ z. (subst (λ (g : ℕ). 0 < getD l g 0) (sym a-is) (leave-first-one t (query (q .k)) (q .start) (q .end) (q .lo) (R .setting) G e-day b f-is zero-a zero-c zero-a),
-            subst (λ (g : ℕ). g < 4096) (sym (F .queue .tail-is)) (room x a (omega arith) z)))
+          let k = a-small in (
+            (omega arith, F .len-x, F .len-d, F .len-w),
+            λ z. (
+              subst (λ (g : ℕ). 0 < getD l g 0) (sym a-is) (leave-first-one t (query (q .k)) (q .start) (q .end) (q .lo) (R .setting) G e-day b f-is zero-a zero-c zero-a),
+              subst (λ (g : ℕ). g < 4096) (sym (F .queue .tail-is)) (room x a (omega arith) z),
+            ),
+          )
 
       module _ {x₁ l₁ w₁ : List ℕ} {one : ℕ} (n₁ : length x₁ ≡ length x) (n₂ : length l₁ ≡ length l) (n₃ : length w₁ ≡ length w) (L : Lost (q .k) e tail a x l w x₁ l₁ w₁ one) where
         L′ : Lost (q .k) e tail (firstOf t j) x l w x₁ l₁ w₁ one
@@ -135,10 +138,13 @@ module _ (d f s links : List ℕ) (q : Season) (R : Ready d f s links q) where
 
         pub leave-room-b : ((c < 4096) × (length x₁ ≡ 4096) × (length l₁ ≡ 4096) × (length w₁ ≡ 4096)) × (getD x₁ c 0 ≡ 0 → (0 < getD l₁ c 0) × (one < 4096))
         leave-room-b =
-            let k = b-small in
-            ((omega arith, n₁ ∙ F .len-x, n₂ ∙ F .len-d, n₃ ∙ F .len-w),
-            λ z. (subst (λ (g : ℕ). 0 < getD l₁ g 0) (sym c-is) (leave-second-one t (query (q .k)) (q .start) (q .end) (q .lo) (R .setting) G e-day b f-is zero-a zero-c L′ (ap (λ (g : ℕ). getD x₁ g 0) (sym c-is) ∙ z)),
-              subst (λ (g : ℕ). g < 4096) (sym one-is) (room x₁ c (omega arith) z)))
+            let k = b-small in (
+              (omega arith, n₁ ∙ F .len-x, n₂ ∙ F .len-d, n₃ ∙ F .len-w),
+              λ z. (
+                subst (λ (g : ℕ). 0 < getD l₁ g 0) (sym c-is) (leave-second-one t (query (q .k)) (q .start) (q .end) (q .lo) (R .setting) G e-day b f-is zero-a zero-c L′ (ap (λ (g : ℕ). getD x₁ g 0) (sym c-is) ∙ z)),
+                subst (λ (g : ℕ). g < 4096) (sym one-is) (room x₁ c (omega arith) z),
+              ),
+            )
 
         pub leave-now : {x₂ l₂ w₂ : List ℕ} {two : ℕ} → Lost (q .k) e one c x₁ l₁ w₁ x₂ l₂ w₂ two → Falls 4096 e j tail two x₂ l₂ w₂
         leave-now {x₂} {l₂} {w₂} {two} M = leave-both t (query (q .k)) (q .start) (q .end) (q .lo) (R .setting) G e-day b f-is zero-a zero-c L′ (subst (λ (g : ℕ). Lost (q .k) e one g x₁ l₁ w₁ x₂ l₂ w₂ two) c-is M)
@@ -204,7 +210,8 @@ module _ (d f s links : List ℕ) (q : Season) (R : Ready d f s links q) where
   counted-start l₀ {l} n e =
       record {
         long = ap length e ∙ (length-replicate {A = ℕ} (length l₀) 0 ∙ n);
-        rows = λ u k. ap (λ (c : List ℕ). getD c u 0) e ∙ (getD-replicate (length l₀) u 0 0 (omega arith) ∙ sym (count-none (counts-for (q .lo) u) (length d) (λ i o. none u i))) }
+        rows = λ u k. ap (λ (c : List ℕ). getD c u 0) e ∙ (getD-replicate (length l₀) u 0 0 (omega arith) ∙ sym (count-none (counts-for (q .lo) u) (length d) (λ i o. none u i)));
+      }
     where
       none : (u i : ℕ) → counts-for (q .lo) u i ≡ false
       none u i =
@@ -249,20 +256,27 @@ module _ (d f s links : List ℕ) (q : Season) (R : Ready d f s links q) where
     count-row h y {l₁} {l₂} {a} {b} {m} {n} ea eb em e₁ en e₂ =
         record {
           long = ap length e₂ ∙ (length-set l₁ b (n + 1) ∙ (ap length e₁ ∙ (length-set l a (m + 1) ∙ C .long)));
-          rows = λ u k. ⊎-elim (λ z. at-b u k z) (λ z. ⊎-elim (λ g. at-a u k g z) (λ g. elsewhere u k g z) (same-or u a)) (same-or u b) }
+          rows = λ u k. ⊎-elim (λ z. at-b u k z) (λ z. ⊎-elim (λ g. at-a u k g z) (λ g. elsewhere u k g z) (same-or u a)) (same-or u b);
+        }
       where
         fr : fresh t (q .lo) j ≡ true
         fr = fresh-of h ∙ y
+
         ab : a ≡ b → ⊥
         ab z = let g = R .sound .rows j j-row .accounts in omega arith
+
         ta : touches t j a ≡ true
         ta = subst (λ (u : ℕ). touches t j u ≡ true) (sym ea) (touch-first t j)
+
         tb : touches t j b ≡ true
         tb = subst (λ (u : ℕ). touches t j u ≡ true) (sym eb) (touch-second t j)
+
         n-is : n ≡ getD l b 0
         n-is = en ∙ (ap (λ (c : List ℕ). getD c b 0) e₁ ∙ getD-set-other l a b (m + 1) 0 (λ z. ab (sym z)))
+
         at-l : (u : ℕ) → getD l₂ u 0 ≡ getD (set (set l a (m + 1)) b (n + 1)) u 0
         at-l u = ap (λ (c : List ℕ). getD c u 0) e₂ ∙ ap (λ (c : List ℕ). getD (set c b (n + 1)) u 0) e₁
+
         at-b : (u : ℕ) → u < 4096 → u ≡ b → getD l₂ u 0 ≡ count (counts-for (j + 1) u) (length d)
         at-b u k z =
             let x : getD l₂ u 0 ≡ n + 1 = at-l u ∙ (ap (λ (c : ℕ). getD (set (set l a (m + 1)) b (n + 1)) c 0) z ∙ getD-set-same (set l a (m + 1)) b (n + 1) 0 (let o = length-set l a (m + 1) in let g = C .long in omega arith)) in
@@ -270,12 +284,14 @@ module _ (d f s links : List ℕ) (q : Season) (R : Ready d f s links q) where
             let c : getD l u 0 ≡ count (counts-for j u) (length d) = C .rows u k in
             let g : getD l b 0 ≡ getD l u 0 = ap (λ (c : ℕ). getD l c 0) (sym z) in
             let o = n-is in omega arith
+
         at-a : (u : ℕ) → u < 4096 → u ≡ a → (u ≡ b → ⊥) → getD l₂ u 0 ≡ count (counts-for (j + 1) u) (length d)
         at-a u k z nb =
             let x : getD l₂ u 0 ≡ m + 1 = at-l u ∙ (getD-set-other (set l a (m + 1)) b u (n + 1) 0 nb ∙ (ap (λ (c : ℕ). getD (set l a (m + 1)) c 0) z ∙ getD-set-same l a (m + 1) 0 (let g = C .long in omega arith))) in
             let r : count (counts-for (j + 1) u) (length d) ≡ suc (count (counts-for j u) (length d)) = counts-more j u j-row fr (subst (λ (c : ℕ). touches t j c ≡ true) (sym z) ta) in
             let c : getD l u 0 ≡ count (counts-for j u) (length d) = C .rows u k in
             let g : getD l a 0 ≡ getD l u 0 = ap (λ (c : ℕ). getD l c 0) (sym z) in omega arith
+
         elsewhere : (u : ℕ) → u < 4096 → (u ≡ a → ⊥) → (u ≡ b → ⊥) → getD l₂ u 0 ≡ count (counts-for (j + 1) u) (length d)
         elsewhere u k na nb =
             at-l u ∙ (getD-set-other (set l a (m + 1)) b u (n + 1) 0 nb ∙ (getD-set-other l a u (m + 1) 0 na ∙ (C .rows u k ∙ sym (counts-still j u (_⊎_.inr (⊎-elim (λ g. ⊎-elim (λ e. absurd (na (sym e ∙ sym ea))) (λ e. absurd (nb (sym e ∙ sym eb))) (touch-cases t j u g)) (λ g. g) (look (touches t j u))))))))
@@ -285,20 +301,44 @@ module _ (d f s links : List ℕ) (q : Season) (R : Ready d f s links q) where
   pub fall-start : (x₀ : List ℕ) {x l w : List ℕ} {end : ℕ} → length x₀ ≡ 4096 → x ≡ replicate (length x₀) 0 → Counted t (q .lo) end l → length w ≡ 4096 → end ≤ length d → ((j : ℕ) → end ≤ j → j < length d → q .end < dayOf t j) → Falls 0 never end 0 0 x l w
   fall-start x₀ {x} {l} {w} {end} n ex C m within later =
       record {
-        len-x = ap length ex ∙ (length-replicate {A = ℕ} (length x₀) 0 ∙ n); len-d = C .long; len-w = m; walked = λ u. false; live = λ j u. counts-for end u j;
+        len-x = ap length ex ∙ (length-replicate {A = ℕ} (length x₀) 0 ∙ n);
+        len-d = C .long;
+        len-w = m;
+        walked = λ u. false;
+        live = λ j u. counts-for end u j;
         rows = record {
           live-row = λ j u h. let a = and-l (fresh t (q .lo) j and ltb j end) (touches t j u) h in let b = counts-below end u j h in record { below = omega arith; before = b; is-fresh = and-l (fresh t (q .lo) j) (ltb j end) a; touch = and-r (fresh t (q .lo) j and ltb j end) (touches t j u) h };
-          live-not = λ j u h. refl; live-passed = λ j u h. refl; live-all = λ j u a b c. and-i (and-i (a .is-fresh) (lt-ltb j end (a .before))) (a .touch) };
+          live-not = λ j u h. refl;
+          live-passed = λ j u h. refl;
+          live-all = λ j u a b c. and-i (and-i (a .is-fresh) (lt-ltb j end (a .before))) (a .touch);
+        };
         queue = record {
-          walked-fell = λ u h. clash h refl; waits = λ u k h g. absurd (h (zero u k)); waiting-small = λ i a b. absurd (not-suc-le-zero b); waiting-fell = λ i a b. absurd (not-suc-le-zero b); waiting-not = λ i a b. absurd (not-suc-le-zero b);
-          apart = λ i i′ a b c. absurd (not-suc-le-zero c); in-order = le-refl 0; tail-is = sym nobody };
+          walked-fell = λ u h. clash h refl;
+          waits = λ u k h g. absurd (h (zero u k));
+          waiting-small = λ i a b. absurd (not-suc-le-zero b);
+          waiting-fell = λ i a b. absurd (not-suc-le-zero b);
+          waiting-not = λ i a b. absurd (not-suc-le-zero b);
+          apart = λ i i′ a b c. absurd (not-suc-le-zero c);
+          in-order = le-refl 0;
+          tail-is = sym nobody;
+        };
         counts = record { degrees = λ u k z. C .rows u k; enough = λ u a b z. absurd (not-suc-le-zero a) };
         times = record {
-          e-pos = omega arith; e-day = _⊎_.inr refl; valued = λ u k h. absurd (h (zero u k)); above = λ u k h. absurd (h (zero u k)); lower = λ u c k h. absurd (h (zero u k)); closed = λ u k h. absurd (h (zero u k)); backed = λ u k z. _⊎_.inl refl };
-        passed-why = λ j u k h. clash refl (sym h); left-why = λ j a b. _⊎_.inr (later j a b) }
+          e-pos = omega arith;
+          e-day = _⊎_.inr refl;
+          valued = λ u k h. absurd (h (zero u k));
+          above = λ u k h. absurd (h (zero u k));
+          lower = λ u c k h. absurd (h (zero u k));
+          closed = λ u k h. absurd (h (zero u k));
+          backed = λ u k z. _⊎_.inl refl;
+        };
+        passed-why = λ j u k h. clash refl (sym h);
+        left-why = λ j a b. _⊎_.inr (later j a b);
+      }
     where
       zero : (u : ℕ) → u < 4096 → getD x u 0 ≡ 0
       zero u k = ap (λ (c : List ℕ). getD c u 0) ex ∙ getD-replicate (length x₀) u 0 0 (omega arith)
+
       nobody : fallen x ≡ 0
       nobody = fallen-none x zero
 
@@ -322,9 +362,20 @@ module _ (d f s links : List ℕ) (q : Season) (R : Ready d f s links q) where
     weed-keep h =
         record {
           state = record {
-            len-x = F .len-x; len-d = F .len-d; len-w = F .len-w; walked = F .walked; live = F .live; rows = F .rows; queue = F .queue; times = F .times; passed-why = F .passed-why; left-why = F .left-why;
-            counts = record { degrees = F .counts .degrees; enough = λ v a b z. ⊎-elim (λ e. subst (λ (c : ℕ). q .k ≤ getD l c 0) (sym e) h) (λ o. F .counts .enough v o b z) (eq-or-lt-of-le (omega arith)) } };
-          rest = λ v a b. W .rest v (omega arith) b }
+            len-x = F .len-x;
+            len-d = F .len-d;
+            len-w = F .len-w;
+            walked = F .walked;
+            live = F .live;
+            rows = F .rows;
+            queue = F .queue;
+            times = F .times;
+            passed-why = F .passed-why;
+            left-why = F .left-why;
+            counts = record { degrees = F .counts .degrees; enough = λ v a b z. ⊎-elim (λ e. subst (λ (c : ℕ). q .k ≤ getD l c 0) (sym e) h) (λ o. F .counts .enough v o b z) (eq-or-lt-of-le (omega arith)) };
+          };
+          rest = λ v a b. W .rest v (omega arith) b;
+        }
 
     pub weed-fall : getD l u 0 < q .k → {x′ w′ : List ℕ} → x′ ≡ set x u 65535 → w′ ≡ set w last u → Weed d f s q (u + 1) end (last + 1) x′ l w′
     weed-fall h {x′} {w′} ex ew =
@@ -332,19 +383,31 @@ module _ (d f s links : List ℕ) (q : Season) (R : Ready d f s links q) where
       where
         few : count (λ j. F .live j u) (length d) < q .k
         few = let a : getD l u 0 ≡ count (λ j. F .live j u) (length d) = F .counts .degrees u k zero-u in omega arith
+
         fell-u : (v : ℕ) → v ≡ u → getD (set x u never) v 0 ≡ 0 → ⊥
         fell-u v y g = let a : getD (set x u never) v 0 ≡ never = ap (λ (c : ℕ). getD (set x u never) c 0) y ∙ getD-set-same x u never 0 (let n = F .len-x in omega arith) in omega arith
+
         same : (v : ℕ) → (v ≡ u → ⊥) → getD (set x u never) v 0 ≡ getD x v 0
         same v y = getD-set-other x u v never 0 y
+
         fell : Weed d f s q (u + 1) end (last + 1) (set x u never) l (set w last u)
         fell =
             record {
               state = record {
-                len-x = length-set x u never ∙ F .len-x; len-d = F .len-d; len-w = length-set w last u ∙ F .len-w; walked = F .walked; live = F .live; rows = F .rows;
+                len-x = length-set x u never ∙ F .len-x;
+                len-d = F .len-d;
+                len-w = length-set w last u ∙ F .len-w;
+                walked = F .walked;
+                live = F .live;
+                rows = F .rows;
                 queue = queue-fall t (query (q .k)) (q .start) (q .end) (q .lo) (R .setting) (F .len-x) (F .times) u k zero-u (F .len-w) (F .queue);
                 times = times-fall t (query (q .k)) (q .start) (q .end) (q .lo) (R .setting) (F .len-x) (F .times) u k zero-u (fall-lower t (query (q .k)) (q .start) (q .end) (q .lo) (R .setting) (F .rows) (F .queue .walked-fell) (F .times) (F .passed-why) (F .left-why) u few);
                 counts = record {
                   degrees = λ v a z. ⊎-elim (λ y. absurd (fell-u v y z)) (λ y. F .counts .degrees v a (sym (same v y) ∙ z)) (same-or v u);
-                  enough = λ v a b z. ⊎-elim (λ y. absurd (fell-u v y z)) (λ y. F .counts .enough v (⊎-elim (λ e. absurd (y e)) (λ o. o) (eq-or-lt-of-le (omega arith))) b (sym (same v y) ∙ z)) (same-or v u) };
-                passed-why = λ j v a p. clash refl (sym p); left-why = F .left-why };
-              rest = λ v a b. same v (λ e. omega arith) ∙ W .rest v (omega arith) b }
+                  enough = λ v a b z. ⊎-elim (λ y. absurd (fell-u v y z)) (λ y. F .counts .enough v (⊎-elim (λ e. absurd (y e)) (λ o. o) (eq-or-lt-of-le (omega arith))) b (sym (same v y) ∙ z)) (same-or v u);
+                };
+                passed-why = λ j v a p. clash refl (sym p);
+                left-why = F .left-why;
+              };
+              rest = λ v a b. same v (λ e. omega arith) ∙ W .rest v (omega arith) b;
+            }

@@ -128,10 +128,13 @@ module _ (d f s links : List ℕ) (q : Season) (R : Ready d f s links q) where
             v-small = subst (λ (y : ℕ). y < 4096) (sym v-is) (next-small t (query (q .k)) (q .start) (q .end) (q .lo) (R .setting) (A .state) j row-from row-below row-touch row-none)
 
             pub at-room : ((v < 4096) × (length x ≡ 4096) × (length l ≡ 4096) × (length w ≡ 4096)) × (getD x v 0 ≡ 0 → (0 < getD l v 0) × (last < 4096))
-            at-room =
-                ((v-small, A .state .state .len-x, A .state .state .len-d, A .state .state .len-w),
-                λ z. (subst (λ (y : ℕ). 0 < getD l y 0) (sym v-is) (walk-lose-one t (query (q .k)) (q .start) (q .end) (q .lo) (R .setting) (A .state) j row-from row-below row-touch row-none left h (ap (λ (y : ℕ). getD x y 0) (sym v-is) ∙ z)),
-                  subst (λ (y : ℕ). y < 4096) (sym (A .state .state .queue .tail-is)) (room x v v-small z)))
+            at-room = (
+              (v-small, A .state .state .len-x, A .state .state .len-d, A .state .state .len-w),
+              λ z. (
+                subst (λ (y : ℕ). 0 < getD l y 0) (sym v-is) (walk-lose-one t (query (q .k)) (q .start) (q .end) (q .lo) (R .setting) (A .state) j row-from row-below row-touch row-none left h (ap (λ (y : ℕ). getD x y 0) (sym v-is) ∙ z)),
+                subst (λ (y : ℕ). y < 4096) (sym (A .state .state .queue .tail-is)) (room x v v-small z),
+              ),
+            )
 
             pub at-lose : {x′ l′ w′ : List ℕ} {last′ : ℕ} → Lost (q .k) e last v x l w x′ l′ w′ last′ → At d f s q e r head u (p + 1) last′ x′ l′ w′
             at-lose {x′} {l′} {w′} {last′} L =

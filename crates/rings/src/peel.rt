@@ -9,7 +9,6 @@ ghost use Rattle.rings.specs.Words.{_and_};
 ghost use Rattle.rings.specs.Table.{tableOf, dayOf};
 ghost use Rattle.rings.specs.CoreTimes.{never, accountTime};
 ghost use Rattle.rings.specs.Inner.Peeling.{Lost, Ready, query, season, Falling, Walking, Counted, Fade};
-
 use crate::links::clear;
 use crate::links::entry;
 use crate::links::other;
@@ -31,7 +30,15 @@ fn is_fresh(links: &[u16], n: usize, lo: usize, j: usize) -> bool
 }
 
 // Account v loses a neighbour; with fewer than k left it falls, dated e, and waits in the queue.
-fn lose(k: u16, e: u16, tail: usize, v: usize, times: &mut [u16], left: &mut [u16], queue: &mut [u16]) -> usize
+fn lose(
+    k: u16,
+    e: u16,
+    tail: usize,
+    v: usize,
+    times: &mut [u16],
+    left: &mut [u16],
+    queue: &mut [u16],
+) -> usize
     requires { ⌜ (v < 4096) × (length (now times) ≡ 4096) × (length (now left) ≡ 4096) × (length (now queue) ≡ 4096) ⌝ }
     requires { ⌜ (getD (now times) v 0 ≡ 0 → (0 < getD (now left) v 0) × (tail < 4096)) ⌝ }
     ensures { λ r. ⌜ Lost k e tail v (now (times .entry)) (now (left .entry)) (now (queue .entry)) (now (times .exit)) (now (left .exit)) (now (queue .exit)) r ⌝ }
@@ -50,7 +57,24 @@ fn lose(k: u16, e: u16, tail: usize, v: usize, times: &mut [u16], left: &mut [u1
 }
 
 // The rows of u, which fell: by each fresh row below r the other account loses a neighbour.
-fn walk(days: &[u16], first: &[u16], second: &[u16], links: &[u16], k: u16, start: u16, stop: u16, lo: usize, e: u16, r: usize, head: usize, tail: usize, u: usize, times: &mut [u16], left: &mut [u16], queue: &mut [u16]) -> usize
+fn walk(
+    days: &[u16],
+    first: &[u16],
+    second: &[u16],
+    links: &[u16],
+    k: u16,
+    start: u16,
+    stop: u16,
+    lo: usize,
+    e: u16,
+    r: usize,
+    head: usize,
+    tail: usize,
+    u: usize,
+    times: &mut [u16],
+    left: &mut [u16],
+    queue: &mut [u16],
+) -> usize
     requires { ⌜ Ready (now days) (now first) (now second) (now links) (season k start stop lo) ⌝ }
     requires { ⌜ Walking (now days) (now first) (now second) (season k start stop lo) 0 e r head tail u (now times) (now left) (now queue) ⌝ }
     ensures { λ t. ⌜ Falling (now (days .entry)) (now (first .entry)) (now (second .entry)) (season k start stop lo) 4096 e r (head + 1) t (now (times .exit)) (now (left .exit)) (now (queue .exit)) ⌝ }
@@ -77,7 +101,23 @@ fn walk(days: &[u16], first: &[u16], second: &[u16], links: &[u16], k: u16, star
 }
 
 // Who waits is walked, until nobody does.
-fn drain(days: &[u16], first: &[u16], second: &[u16], links: &[u16], k: u16, start: u16, stop: u16, lo: usize, e: u16, r: usize, head: usize, tail: usize, times: &mut [u16], left: &mut [u16], queue: &mut [u16]) -> usize
+fn drain(
+    days: &[u16],
+    first: &[u16],
+    second: &[u16],
+    links: &[u16],
+    k: u16,
+    start: u16,
+    stop: u16,
+    lo: usize,
+    e: u16,
+    r: usize,
+    head: usize,
+    tail: usize,
+    times: &mut [u16],
+    left: &mut [u16],
+    queue: &mut [u16],
+) -> usize
     requires { ⌜ Ready (now days) (now first) (now second) (now links) (season k start stop lo) ⌝ }
     requires { ⌜ Falling (now days) (now first) (now second) (season k start stop lo) 4096 e r head tail (now times) (now left) (now queue) ⌝ }
     ensures { λ t. ⌜ Falling (now (days .entry)) (now (first .entry)) (now (second .entry)) (season k start stop lo) 4096 e r t t (now (times .exit)) (now (left .exit)) (now (queue .exit)) ⌝ }
@@ -86,14 +126,46 @@ fn drain(days: &[u16], first: &[u16], second: &[u16], links: &[u16], k: u16, sta
     let mut last = tail;
     while front < last {
         let u = entry(queue, front);
-        last = walk(days, first, second, links, k, start, stop, lo, e, r, front, last, u, times, left, queue);
+        last = walk(
+            days,
+            first,
+            second,
+            links,
+            k,
+            start,
+            stop,
+            lo,
+            e,
+            r,
+            front,
+            last,
+            u,
+            times,
+            left,
+            queue,
+        );
         front += 1;
     }
     last
 }
 
 // Row j, the last that has not left, leaves. Its day is e.
-fn leave(days: &[u16], first: &[u16], second: &[u16], links: &[u16], k: u16, start: u16, stop: u16, lo: usize, e: u16, j: usize, tail: usize, times: &mut [u16], left: &mut [u16], queue: &mut [u16]) -> usize
+fn leave(
+    days: &[u16],
+    first: &[u16],
+    second: &[u16],
+    links: &[u16],
+    k: u16,
+    start: u16,
+    stop: u16,
+    lo: usize,
+    e: u16,
+    j: usize,
+    tail: usize,
+    times: &mut [u16],
+    left: &mut [u16],
+    queue: &mut [u16],
+) -> usize
     requires { ⌜ Ready (now days) (now first) (now second) (now links) (season k start stop lo) ⌝ }
     requires { ⌜ (j < length (now days)) × (e ≡ getD (now days) j 0) ⌝ }
     requires { ⌜ Falling (now days) (now first) (now second) (season k start stop lo) 4096 e (j + 1) tail tail (now times) (now left) (now queue) ⌝ }
@@ -111,13 +183,43 @@ fn leave(days: &[u16], first: &[u16], second: &[u16], links: &[u16], k: u16, sta
         }
         let one = lose(k, e, tail, a, times, left, queue);
         let two = lose(k, e, one, b, times, left, queue);
-        return drain(days, first, second, links, k, start, stop, lo, e, j, tail, two, times, left, queue);
+        return drain(
+            days,
+            first,
+            second,
+            links,
+            k,
+            start,
+            stop,
+            lo,
+            e,
+            j,
+            tail,
+            two,
+            times,
+            left,
+            queue,
+        );
     }
     tail
 }
 
 // The rows leave, from the last on: who falls meanwhile has the day of the leaving row for its core time.
-fn fade(days: &[u16], first: &[u16], second: &[u16], links: &[u16], k: u16, start: u16, stop: u16, lo: usize, end: usize, tail: usize, times: &mut [u16], left: &mut [u16], queue: &mut [u16])
+fn fade(
+    days: &[u16],
+    first: &[u16],
+    second: &[u16],
+    links: &[u16],
+    k: u16,
+    start: u16,
+    stop: u16,
+    lo: usize,
+    end: usize,
+    tail: usize,
+    times: &mut [u16],
+    left: &mut [u16],
+    queue: &mut [u16],
+)
     requires { ⌜ Ready (now days) (now first) (now second) (now links) (season k start stop lo) ⌝ }
     requires { ⌜ Fade (now days) (now first) (now second) (season k start stop lo) end tail (now times) (now left) (now queue) ⌝ }
     ensures { λ _. ⌜ ((u : ℕ) → u < 4096 → getD (now (times .exit)) u 0 ≡ accountTime (tableOf (now (days .entry)) (now (first .entry)) (now (second .entry))) (query k) stop start u) ⌝ }
@@ -127,13 +229,39 @@ fn fade(days: &[u16], first: &[u16], second: &[u16], links: &[u16], k: u16, star
     while lo < r {
         let j = r - 1;
         let e = days[j];
-        last = leave(days, first, second, links, k, start, stop, lo, e, j, last, times, left, queue);
+        last = leave(
+            days,
+            first,
+            second,
+            links,
+            k,
+            start,
+            stop,
+            lo,
+            e,
+            j,
+            last,
+            times,
+            left,
+            queue,
+        );
         r = j;
     }
 }
 
 // How many neighbours each account has in the rows from lo to end.
-fn count_neighbours(days: &[u16], first: &[u16], second: &[u16], links: &[u16], k: u16, start: u16, stop: u16, lo: usize, end: usize, left: &mut [u16])
+fn count_neighbours(
+    days: &[u16],
+    first: &[u16],
+    second: &[u16],
+    links: &[u16],
+    k: u16,
+    start: u16,
+    stop: u16,
+    lo: usize,
+    end: usize,
+    left: &mut [u16],
+)
     requires { ⌜ Ready (now days) (now first) (now second) (now links) (season k start stop lo) ⌝ }
     requires { ⌜ (lo ≤ end) × (end ≤ length (now days)) ⌝ }
     requires { ⌜ Counted (tableOf (now days) (now first) (now second)) lo lo (now left) ⌝ }
@@ -157,7 +285,20 @@ fn count_neighbours(days: &[u16], first: &[u16], second: &[u16], links: &[u16], 
 }
 
 // Who has fewer than k neighbours to begin with falls, with no core time.
-fn weed(days: &[u16], first: &[u16], second: &[u16], links: &[u16], k: u16, start: u16, stop: u16, lo: usize, end: usize, times: &mut [u16], left: &mut [u16], queue: &mut [u16]) -> usize
+fn weed(
+    days: &[u16],
+    first: &[u16],
+    second: &[u16],
+    links: &[u16],
+    k: u16,
+    start: u16,
+    stop: u16,
+    lo: usize,
+    end: usize,
+    times: &mut [u16],
+    left: &mut [u16],
+    queue: &mut [u16],
+) -> usize
     requires { ⌜ Ready (now days) (now first) (now second) (now links) (season k start stop lo) ⌝ }
     requires { ⌜ Falling (now days) (now first) (now second) (season k start stop lo) 0 never end 0 0 (now times) (now left) (now queue) ⌝ }
     ensures { λ t. ⌜ Falling (now (days .entry)) (now (first .entry)) (now (second .entry)) (season k start stop lo) 4096 never end 0 t (now (times .exit)) (now (left .exit)) (now (queue .exit)) ⌝ }

@@ -1,3 +1,9 @@
+use Rattle.rings.proofs.StageLaws.{fade-row, fade-next, fade-left, fade-end}
+use Rattle.rings.specs.Inner.Peeling.{season, Fade}
+use mathlib.Core.Path.{_≡_, refl, _∙_}
+use lib.ListN.{length}
+use native.Mathlib.Omega.{arith}
+use borrow.Author.Needs.{needs}
 use Rattle.rings.proofs.peel.fade.Statement.{statement}
 use Rattle.rings.proofs.peel.fade.Tie as tie
 use Rattle.rings.proofs.peel.fade.Reads as reads
@@ -5,56 +11,54 @@ use Rattle.rings.proofs.peel.fade.Lts as lts
 use Rattle.rings.proofs.peel.leave.Reads as leave-reads
 
 abbrev Inv-loop : tie.InvT-loop
-Inv-loop days first second links k start stop lo end tail times₀ left₀ queue₀ r₀ last₀ times left queue r last =
-    ?
+Inv-loop days first second links k start stop lo end tail times₀ left₀ queue₀ r₀ last₀ times left queue r last = ((length times ≡ length times₀) × (length left ≡ length left₀) × (length queue ≡ length queue₀)) × Fade days first second (season k start stop lo) r last times left queue
 
 abbrev μ-loop : tie.MeasureT-loop
-μ-loop days first second links k start stop lo end tail times₀ left₀ queue₀ r₀ last₀ times left queue r last =
-    ?
+μ-loop days first second links k start stop lo end tail times₀ left₀ queue₀ r₀ last₀ times left queue r last = r
 
 -- src/peel.rt:127:5
 loop-holds : tie.Need-loop-holds Inv-loop μ-loop
-loop-holds c = ?
+loop-holds c = ((refl, refl, refl), c .before .before .before .before .before .before .before .pre .1)
 
 -- src/peel.rt:128:17
 sub-j : tie.Need-sub-j Inv-loop μ-loop
-sub-j c = ?
+sub-j c = omega (arith, c .loop-test .taken)
 
 -- src/peel.rt:129:17
 mul-e : tie.Need-mul-e Inv-loop μ-loop
-mul-e c = ?
+mul-e c = omega (arith, c .loop-test .taken, fade-row _ _ _ _ _ (c .before .before .before .before .before .before .before .before .before .pre .0) (c .before .loop .inv .1) (c .loop-test .taken), c .before .before .before .before .before .before .before .before .before .pre .0 .sound .most)
 
 -- src/peel.rt:129:17
 shared-slice-read-e : tie.Need-shared-slice-read-e Inv-loop μ-loop
-shared-slice-read-e c = ?
+shared-slice-read-e c = fade-row _ _ _ _ _ (c .before .before .before .before .before .before .before .before .before .before .pre .0) (c .before .before .loop .inv .1) (c .before .loop-test .taken)
 
 -- src/peel.rt:130:9
 leave-requires : tie.Need-leave-requires Inv-loop μ-loop
-leave-requires c κs = ?
+leave-requires c κs = (c .before .before .before .before .before .before .before .before .before .before .before .before .before .pre .0, ((fade-row _ _ _ _ _ (c .before .before .before .before .before .before .before .before .before .before .before .before .before .pre .0) (c .before .before .before .before .before .loop .inv .1) (c .before .before .before .before .loop-test .taken), refl), fade-next _ _ _ _ _ (c .before .before .before .before .before .before .before .before .before .before .before .before .before .pre .0) (c .before .before .before .before .before .loop .inv .1) (c .before .before .before .before .loop-test .taken) refl))
 
 -- src/peel.rt:127:5
 loop-less : tie.Need-loop-less Inv-loop μ-loop
-loop-less c = ?
+loop-less c = omega (arith, c .before .before .before .before .before .before .before .before .before .before .before .loop-test .taken)
 
 -- src/peel.rt:127:5
 loop-again : tie.Need-loop-again Inv-loop μ-loop
-loop-again c = ?
+loop-again c = ((c .before .before .before .before .before .before .leave .kept .1 .1 .1 .1 .1 .1 .1 .1 .1 .1 .1 .0 ∙ c .before .before .before .before .before .before .before .before .before .before .before .before .loop .inv .0 .0, c .before .before .before .before .before .before .leave .kept .1 .1 .1 .1 .1 .1 .1 .1 .1 .1 .1 .1 .0 ∙ c .before .before .before .before .before .before .before .before .before .before .before .before .loop .inv .0 .1, c .before .before .before .before .before .before .leave .kept .1 .1 .1 .1 .1 .1 .1 .1 .1 .1 .1 .1 .1 .0 ∙ c .before .before .before .before .before .before .before .before .before .before .before .before .loop .inv .0 .2), fade-left _ _ _ _ _ (c .before .before .before .before .before .before .before .before .before .before .before .before .before .before .before .before .before .before .before .before .pre .0) (c .before .before .before .before .before .before .before .before .before .before .before .before .loop .inv .1) (c .before .before .before .before .before .before .before .before .before .before .before .loop-test .taken) refl (c .before .before .before .before .before .before .leave .ensures))
 
 -- src/peel.rt:120:1
 same-length : tie.Need-same-length Inv-loop μ-loop
-same-length c = ?
+same-length c = c .before .loop .inv .0 .0
 
 -- src/peel.rt:120:1
 same-length-2 : tie.Need-same-length-2 Inv-loop μ-loop
-same-length-2 c = ?
+same-length-2 c = c .before .loop .inv .0 .1
 
 -- src/peel.rt:120:1
 same-length-3 : tie.Need-same-length-3 Inv-loop μ-loop
-same-length-3 c = ?
+same-length-3 c = c .before .loop .inv .0 .2
 
 -- src/peel.rt:120:1
 returns : tie.Need-returns Inv-loop μ-loop
-returns c = ?
+returns c = fade-end _ _ _ _ _ (c .before .before .before .before .before .before .before .before .before .pre .0) (c .before .loop .inv .1) (c .loop-test .left)
 
 pub fade-spec : {M : Type 1} → statement M
 fade-spec =

@@ -1,6 +1,5 @@
 use Rattle.rings.specs.TableCheck.{tableCheck}
 use Rattle.rings.specs.Checks.{_when_, _then_}
-
 use Rattle.rings.specs.Words.{_and_, no}
 use mathlib.Core.Path.{_∙_, sym}
 use borrow.Author.Tests.{lt-ltb, le-ltb, eq-eqb, ne-eqb}
