@@ -4,3 +4,6 @@ pub mod Distinct
 pub mod ListingCall
 pub mod LongestList
 pub mod Examples
+pub mod Program
+pub mod ProgramText
+pub mod ProgramRows

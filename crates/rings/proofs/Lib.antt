@@ -13,3 +13,4 @@ pub mod BookLaws
 pub mod FallLaws
 pub mod WalkLaws
 pub mod StageLaws
+pub mod DayLaws

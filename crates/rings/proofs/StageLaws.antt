@@ -17,7 +17,7 @@ use Rattle.rings.specs.Table.{Table, tableOf, dayOf, firstOf, secondOf}
 use Rattle.rings.specs.Ring.{touches}
 use Rattle.rings.specs.CoreTimes.{never, accountTime}
 use Rattle.rings.specs.Inner.Links.{earlier, fresh}
-use Rattle.rings.specs.Inner.Peeling.{Lost, Fell, Fall, fallen, Season, Ready, query, Falling, Walking, nothing, Counted, Fade}
+use Rattle.rings.specs.Inner.Peeling.{Lost, Fell, Fall, fallen, Season, Ready, query, Falling, Walking, nothing, Counted, Fade, Split, Span, CoreTimesAre}
 use Rattle.rings.proofs.WordLaws.{look, clash, and-i, and-l, and-r, no-i, no-e, same-truth, count-same, count-none, count-pos, count-le}
 use Rattle.rings.proofs.RingLaws.{touch-cases, touch-first, touch-second}
 use Rattle.rings.proofs.PairLaws.{count-drop}
@@ -171,8 +171,8 @@ module _ (d f s links : List ℕ) (q : Season) (R : Ready d f s links q) where
         let a = F .within in
         record { e = e; state = G; above = λ j k. subst (λ (c : ℕ). getD d j 0 ≤ c) (sym ee) (R .setting .rising j (r - 1) (omega arith) (omega arith)); within = omega arith; from = omega arith; dated = λ j k. F .dated j (omega arith) }
 
-    pub fade-end : r ≤ q .lo → (u : ℕ) → u < 4096 → getD x u 0 ≡ accountTime t (query (q .k)) (q .end) (q .start) u
-    fade-end h u k = fall-times t (query (q .k)) (q .start) (q .end) (q .lo) (R .setting) (subst (λ (c : ℕ). Falls 4096 (F .e) c tail tail x l w) (le-antisymm h (F .from)) (F .state)) u k
+    pub fade-end : r ≤ q .lo → CoreTimesAre d f s q x
+    fade-end h = record { long = F .state .len-x; times = λ u k. fall-times t (query (q .k)) (q .start) (q .end) (q .lo) (R .setting) (subst (λ (c : ℕ). Falls 4096 (F .e) c tail tail x l w) (le-antisymm h (F .from)) (F .state)) u k }
 
   -- ---- count_neighbours
 
@@ -411,3 +411,21 @@ module _ (d f s links : List ℕ) (q : Season) (R : Ready d f s links q) where
               };
               rest = λ v a b. same v (λ e. omega arith) ∙ W .rest v (omega arith) b;
             }
+
+  -- ---- the stages together
+
+  module _ {end : ℕ} (Sp : Span d (q .end) (q .lo) end) where
+    later-day : (j : ℕ) → end ≤ j → j < length d → q .end < dayOf t j
+    unfolding dayOf at
+    later-day = Sp .later
+
+    pub core-start : (x₀ : List ℕ) {x l w : List ℕ} → length x₀ ≡ 4096 → x ≡ replicate (length x₀) 0 → Counted t (q .lo) end l → length w ≡ 4096 → Falls 0 never end 0 0 x l w
+    core-start x₀ n ex C m = fall-start x₀ n ex C m (Sp .within) later-day
+
+    pub fade-start : {tail : ℕ} {x l w : List ℕ} → Falls 4096 never end tail tail x l w → Fade d f s q end tail x l w
+    unfolding dayOf at
+    fade-start F =
+        record {
+          e = never; state = F; within = Sp .within; from = Sp .ordered;
+          above = λ j k. let a = Sp .inside j k in let b = R .setting .fits in omega arith;
+          dated = λ j k. (R .sound .rows j (let a = Sp .within in omega arith) .day-from, Sp .inside j k) }

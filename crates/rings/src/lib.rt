@@ -1,5 +1,6 @@
 // Rings of a dated payment table.
 
+pub mod checks;
 pub mod links;
 pub mod peel;
 pub mod refusal;

@@ -2,13 +2,13 @@
 // times: 0 while an account has not fallen, then its core time; left: its neighbours left; queue: who fell and is still to be walked.
 // Each account is walked once and each row leaves once, so the work is linear in the rows of the window.
 ghost use mathlib.Core.Path.{_≡_};
-ghost use Prim.Native.Nat.{ℕ, _+_, _*_, _≤_, _<_};
+ghost use Prim.Native.Nat.{_+_, _*_, _≤_, _<_};
 ghost use lib.ListN.{length, getD};
 ghost use lib.Dec.{leb};
 ghost use Rattle.rings.specs.Words.{_and_};
-ghost use Rattle.rings.specs.Table.{tableOf, dayOf};
-ghost use Rattle.rings.specs.CoreTimes.{never, accountTime};
-ghost use Rattle.rings.specs.Inner.Peeling.{Lost, Ready, query, season, Falling, Walking, Counted, Fade};
+ghost use Rattle.rings.specs.Table.{tableOf};
+ghost use Rattle.rings.specs.CoreTimes.{never};
+ghost use Rattle.rings.specs.Inner.Peeling.{Lost, Ready, season, Falling, Walking, Counted, Fade, Span, CoreTimesAre};
 use crate::links::clear;
 use crate::links::entry;
 use crate::links::other;
@@ -222,7 +222,7 @@ fn fade(
 )
     requires { ⌜ Ready (now days) (now first) (now second) (now links) (season k start stop lo) ⌝ }
     requires { ⌜ Fade (now days) (now first) (now second) (season k start stop lo) end tail (now times) (now left) (now queue) ⌝ }
-    ensures { λ _. ⌜ ((u : ℕ) → u < 4096 → getD (now (times .exit)) u 0 ≡ accountTime (tableOf (now (days .entry)) (now (first .entry)) (now (second .entry))) (query k) stop start u) ⌝ }
+    ensures { λ _. ⌜ CoreTimesAre (now (days .entry)) (now (first .entry)) (now (second .entry)) (season k start stop lo) (now (times .exit)) ⌝ }
 {
     let mut r = end;
     let mut last = tail;
@@ -316,4 +316,29 @@ fn weed(
         u += 1;
     }
     last
+}
+
+// The ring of the whole window: who has not fallen when nobody waits is met in it.
+pub fn core(days: &[u16], first: &[u16], second: &[u16], links: &[u16], k: u16, start: u16, stop: u16, lo: usize, end: usize, times: &mut [u16], left: &mut [u16], queue: &mut [u16]) -> usize
+    requires { ⌜ Ready (now days) (now first) (now second) (now links) (season k start stop lo) ⌝ }
+    requires { ⌜ Span (now days) stop lo end ⌝ }
+    requires { ⌜ (length (now times) ≡ 4096) × (length (now left) ≡ 4096) × (length (now queue) ≡ 4096) ⌝ }
+    ensures { λ t. ⌜ Falling (now (days .entry)) (now (first .entry)) (now (second .entry)) (season k start stop lo) 4096 never end t t (now (times .exit)) (now (left .exit)) (now (queue .exit)) ⌝ }
+{
+    clear(times);
+    clear(left);
+    count_neighbours(days, first, second, links, k, start, stop, lo, end, left);
+    let waiting = weed(days, first, second, links, k, start, stop, lo, end, times, left, queue);
+    drain(days, first, second, links, k, start, stop, lo, 65535, end, 0, waiting, times, left, queue)
+}
+
+// The core times of all accounts at one start.
+pub fn peel(days: &[u16], first: &[u16], second: &[u16], links: &[u16], k: u16, start: u16, stop: u16, lo: usize, end: usize, times: &mut [u16], left: &mut [u16], queue: &mut [u16])
+    requires { ⌜ Ready (now days) (now first) (now second) (now links) (season k start stop lo) ⌝ }
+    requires { ⌜ Span (now days) stop lo end ⌝ }
+    requires { ⌜ (length (now times) ≡ 4096) × (length (now left) ≡ 4096) × (length (now queue) ≡ 4096) ⌝ }
+    ensures { λ _. ⌜ CoreTimesAre (now (days .entry)) (now (first .entry)) (now (second .entry)) (season k start stop lo) (now (times .exit)) ⌝ }
+{
+    let tail = core(days, first, second, links, k, start, stop, lo, end, times, left, queue);
+    fade(days, first, second, links, k, start, stop, lo, end, tail, times, left, queue);
 }

@@ -1,10 +1,13 @@
 // Table check: the first check of every call that takes a table.
 ghost use mathlib.Core.Path.{_≡_};
-ghost use lib.ListN.{length};
+ghost use Prim.Native.Nat.{ℕ, suc, _<_, _≤_};
+ghost use lib.ListN.{length, getD};
 ghost use Rattle.rings.specs.Words.{run};
 ghost use Rattle.rings.specs.Table.{tableOf};
 ghost use Rattle.rings.specs.Checks.{inOrder};
 ghost use Rattle.rings.specs.TableCheck.{rowFaults, rowCheck, tableCheck};
+ghost use Rattle.rings.specs.Inner.Peeling.{Split};
+
 use crate::refusal::Refusal;
 use crate::refusal::Verdict;
 
@@ -66,4 +69,19 @@ pub fn check_table(days: &[u16], first: &[u16], second: &[u16]) -> Verdict
         return Verdict::Refused(Refusal::TooManyRows);
     }
     check_rows(days, first, second)
+}
+
+// How many rows are dated before a day, in a table whose days never fall.
+pub fn rows_before(days: &[u16], day: u16) -> usize
+    requires { ⌜ ((j : ℕ) → suc j < length (now days) → getD (now days) j 0 ≤ getD (now days) (suc j) 0) ⌝ }
+    ensures { λ r. ⌜ Split (now (days .entry)) day r ⌝ }
+{
+    let mut r = 0;
+    while r < days.len() {
+        if day <= days[r] {
+            return r;
+        }
+        r += 1;
+    }
+    r
 }

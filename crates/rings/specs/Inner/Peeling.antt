@@ -9,6 +9,8 @@
 --     Fall         all of it
 --     Season       what is peeled
 --     Ready        what every step works on: an accepted table, its links, and the setting
+--     Split        the rows before a day
+--     Span         the rows of a window, as a first row and an end
 --     Counted      d holds the fresh rows of each account below a row
 --     Fade         the rows from r on have left, and nobody waits
 --     Walk         the same while the rows of the account at the head of the queue are walked
@@ -22,7 +24,7 @@ use lib.Dec.{ltb, eqb}
 use Rattle.rings.specs.Words.{_and_, no, count}
 use Rattle.rings.specs.Table.{Table, tableOf, size, dayOf, firstOf, secondOf}
 use Rattle.rings.specs.Ring.{joins, touches, met, ring}
-use Rattle.rings.specs.CoreTimes.{never}
+use Rattle.rings.specs.CoreTimes.{never, accountTime}
 use Rattle.rings.specs.Inner.Sound.{Sound}
 use Rattle.rings.specs.Inner.Links.{otherOf, fresh, Linked}
 use Rattle.rings.specs.Inner.Support.{supporters}
@@ -162,3 +164,21 @@ pub record Fade (d f s : List ℕ) (p : Season) (r tail : ℕ) (x l w : List ℕ
   pub within : r ≤ length d
   pub from : p .lo ≤ r
   pub dated : (j : ℕ) → j < r → (1 ≤ dayOf (tableOf d f s) j) × (dayOf (tableOf d f s) j ≤ p .end)
+
+-- the rows before a day are those below r
+pub record Split (d : List ℕ) (day r : ℕ) : Type 0 where
+  pub within : r ≤ length d
+  pub before : (j : ℕ) → j < r → getD d j 0 < day
+  pub after : (j : ℕ) → r ≤ j → j < length d → day ≤ getD d j 0
+
+-- the rows dated by stop are those below end, and lo is among them or their end
+pub record Span (d : List ℕ) (stop lo end : ℕ) : Type 0 where
+  pub ordered : lo ≤ end
+  pub within : end ≤ length d
+  pub inside : (j : ℕ) → j < end → getD d j 0 ≤ stop
+  pub later : (j : ℕ) → end ≤ j → j < length d → stop < getD d j 0
+
+-- x holds the core times of the accounts
+pub record CoreTimesAre (d f s : List ℕ) (p : Season) (x : List ℕ) : Type 0 where
+  pub long : length x ≡ 4096
+  pub times : (u : ℕ) → u < 4096 → getD x u 0 ≡ accountTime (tableOf d f s) (query (p .k)) (p .end) (p .start) u

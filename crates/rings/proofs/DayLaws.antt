@@ -1,0 +1,59 @@
+-- Rows by day, in a table whose days never fall.
+--     Scan, scan-next, scan-found, scan-end     the loop of `rows_before`
+--     span-of        the rows of a window
+--     setting-of     what peeling works on
+-- Assumes nothing.
+use Prim.Native.Nat.{ℕ, zero, suc, _+_, _≤_, _<_}
+use native.Mathlib.Nat.{le-refl, le-trans, le-antisymm, eq-or-lt-of-le, not-suc-le-zero, le-of-suc-le-suc}
+use native.Mathlib.Omega.{arith}
+use mathlib.Core.Path.{_≡_, refl, sym, _∙_, subst}
+use mathlib.Core.Logic.{_⊎_, ⊎-elim}
+use mathlib.Core.Bool.{true, false}
+use mathlib.Core.List.{List}
+use lib.ListN.{length, getD}
+use lib.Dec.{leb}
+use borrow.Author.Tests.{leb-true, leb-false}
+use Rattle.rings.specs.Words.{at}
+use Rattle.rings.specs.Table.{Table, tableOf, dayOf, firstOf, secondOf}
+use Rattle.rings.specs.CoreTimes.{never}
+use Rattle.rings.specs.Inner.Sound.{Sound}
+use Rattle.rings.specs.Inner.Links.{Linked}
+use Rattle.rings.specs.Inner.Peeling.{Setting, Ready, season, query, Split, Span}
+use Rattle.rings.proofs.WordLaws.{look}
+
+pub record Scan (d : List ℕ) (day r : ℕ) : Type 0 where
+  pub within : r ≤ length d
+  pub before : (j : ℕ) → j < r → getD d j 0 < day
+
+pub scan-start : (d : List ℕ) (day : ℕ) → Scan d day 0
+scan-start d day = record { within = omega arith; before = λ j h. absurd (not-suc-le-zero h) }
+
+pub scan-next : {d : List ℕ} {day r : ℕ} → Scan d day r → r < length d → getD d r 0 < day → Scan d day (r + 1)
+scan-next {d} {day} {r} S l h = record { within = omega arith; before = λ j k. ⊎-elim (λ e. subst (λ (c : ℕ). getD d c 0 < day) (sym e) h) (λ o. S .before j o) (eq-or-lt-of-le (omega arith)) }
+
+-- days never fall, over any distance
+pub rising-all : (d : List ℕ) → ((j : ℕ) → suc j < length d → getD d j 0 ≤ getD d (suc j) 0) → (i j : ℕ) → i ≤ j → j < length d → getD d i 0 ≤ getD d j 0
+rising-all d up i zero h l = let e : i ≡ 0 = omega arith in rw e (le-refl (getD d 0 0))
+rising-all d up i (suc j) h l = ⊎-elim (λ e. rw e (le-refl (getD d (suc j) 0))) (λ o. le-trans (rising-all d up i j (le-of-suc-le-suc o) (omega arith)) (up j l)) (eq-or-lt-of-le h)
+
+pub scan-found : {d : List ℕ} {day r : ℕ} → ((j : ℕ) → suc j < length d → getD d j 0 ≤ getD d (suc j) 0) → Scan d day r → day ≤ getD d r 0 → Split d day r
+scan-found {d} {day} {r} up S h = record { within = S .within; before = S .before; after = λ j a b. le-trans h (rising-all d up r j a b) }
+
+pub scan-end : {d : List ℕ} {day r : ℕ} → Scan d day r → length d ≤ r → Split d day r
+scan-end S h = record { within = S .within; before = S .before; after = λ j a b. absurd (omega arith) }
+
+-- the rows of the window [s, e], where s ≤ e
+pub span-of : {d : List ℕ} {s e lo end : ℕ} → s ≤ e → Split d s lo → Split d (e + 1) end → Span d e lo end
+span-of {d} {s} {e} {lo} {end} h a b =
+    record {
+      within = b .within; inside = λ j k. let x = b .before j k in omega arith; later = λ j k l. let x = b .after j k l in omega arith;
+      ordered = ⊎-elim (λ y. leb-true lo end y) (λ y. let k = leb-false lo end y in let x = a .before end k in let w = a .within in let z = b .after end (le-refl end) (omega arith) in absurd (omega arith)) (look (leb lo end)) }
+
+pub setting-of : {d f s : List ℕ} {k start stop lo : ℕ} → Sound d f s → 1 ≤ k → stop ≤ 1024 → Split d start lo → Setting (tableOf d f s) (query k) start stop lo
+unfolding dayOf firstOf secondOf at
+setting-of {d} S one top a =
+    record {
+      fits = omega arith; some-k = one; from-lo = λ j l h. a .after j h l; before-lo = λ j h. a .before j h; rising = rising-all d (S .rising); accounts = λ j l. S .rows j l .accounts; small = λ j l. let x = S .rows j l .account-to in omega arith }
+
+pub ready-of : {d f s links : List ℕ} {k start stop lo : ℕ} → Sound d f s → Linked (tableOf d f s) links → 1 ≤ k → stop ≤ 1024 → Split d start lo → Ready d f s links (season k start stop lo)
+ready-of S L one top a = record { sound = S; linked = L; setting = setting-of S one top a }

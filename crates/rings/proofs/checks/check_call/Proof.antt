@@ -1,0 +1,46 @@
+use Rattle.rings.proofs.TableLaws.{table-sound}
+use Rattle.rings.proofs.CheckLaws.{then-refused, then-accepted}
+use mathlib.Core.Path.{_∙_, sym}
+use native.Mathlib.Omega.{arith}
+use borrow.Author.Needs.{needs}
+use Rattle.rings.proofs.checks.check_call.Statement.{statement}
+use Rattle.rings.proofs.checks.check_call.Tie as tie
+use Rattle.rings.proofs.checks.check_call.Reads as reads
+use Rattle.rings.proofs.checks.check_call.Lts as lts
+use Rattle.rings.proofs.checks.check_numbers.Reads as check-numbers-reads
+use Rattle.rings.proofs.table.check_table.Reads as check-table-reads
+
+-- src/checks.rt:84:9
+check-table-requires : tie.Need-check-table-requires
+check-table-requires c κs = search needs
+
+-- src/checks.rt:86:26
+enum-known-found : tie.Need-enum-known-found
+enum-known-found c = search needs
+
+-- src/checks.rt:87:44
+enum-told : tie.Need-enum-told
+enum-told c = search needs
+
+-- src/checks.rt:87:30
+check-numbers-requires : tie.Need-check-numbers-requires
+check-numbers-requires c κs = table-sound _ _ _ (sym (c .before .before .check-table .ensures) ∙ c .enum-told .given .1) .most
+
+-- src/checks.rt:81:1
+returns : tie.Need-returns
+returns c = sym (then-refused _ (sym (c .before .before .before .check-table .ensures) ∙ c .before .found .given .1))
+
+-- src/checks.rt:81:1
+returns-2 : tie.Need-returns-2
+returns-2 c = c .check-numbers .ensures ∙ sym (then-accepted _ (sym (c .before .before .before .check-table .ensures) ∙ c .before .enum-told .given .1))
+
+pub check-call-spec : {M : Type 1} → statement M
+check-call-spec =
+    tie.close
+    (tie.spec
+    check-table-requires
+    enum-known-found
+    enum-told
+    check-numbers-requires
+    returns
+    returns-2)

@@ -1,0 +1,37 @@
+use Rattle.rings.proofs.StageLaws.{fade-start}
+use borrow.Author.Needs.{needs}
+use Rattle.rings.proofs.peel.peel.Statement.{statement}
+use Rattle.rings.proofs.peel.peel.Tie as tie
+use Rattle.rings.proofs.peel.peel.Reads as reads
+use Rattle.rings.proofs.peel.peel.Lts as lts
+use Rattle.rings.proofs.peel.core.Reads as core-reads
+use Rattle.rings.proofs.peel.fade.Reads as fade-reads
+
+-- src/peel.rt:342:9
+core-requires : tie.Need-core-requires
+core-requires c κs = c .before .before .before .before .before .before .before .before .before .before .pre
+
+-- src/peel.rt:343:5
+fade-requires : tie.Need-fade-requires
+fade-requires c κs = (c .before .before .before .before .before .before .before .before .before .before .before .before .before .before .before .before .before .before .before .before .pre .0, fade-start _ _ _ _ _ (c .before .before .before .before .before .before .before .before .before .before .before .before .before .before .before .before .before .before .before .before .pre .0) (c .before .before .before .before .before .before .before .before .before .before .before .before .before .before .before .before .before .before .before .before .pre .1 .0) (c .before .before .before .before .before .before .before .before .before .core .ensures))
+
+-- src/peel.rt:336:1
+same-length : tie.Need-same-length
+same-length c = search needs
+
+-- src/peel.rt:336:1
+same-length-2 : tie.Need-same-length-2
+same-length-2 c = search needs
+
+-- src/peel.rt:336:1
+same-length-3 : tie.Need-same-length-3
+same-length-3 c = search needs
+
+-- src/peel.rt:336:1
+returns : tie.Need-returns
+returns c = c .before .before .before .before .before .before .fade .ensures
+
+pub peel-spec : {M : Type 1} → statement M
+peel-spec =
+    tie.close
+    (tie.spec core-requires fade-requires same-length same-length-2 same-length-3 returns)

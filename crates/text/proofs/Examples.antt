@@ -1,0 +1,120 @@
+-- The definitions computed at 01's own texts and at the edges of its rules.
+--
+--   zero-field largest-field large-field needless-zero two-zeros all-blank empty-field blank-behind two-numbers million     fields
+--   lone-end final-end            lines
+--   example example-reads example-room example-days     01's example table
+--   broken-first large-line       12 before 13, and both before 10
+--   example-query empty-query     01's query line, and none
+--   example-line example-refused  01's printed lines
+-- Assumes nothing.
+use mathlib.Core.Path.{_≡_, refl}
+use mathlib.Core.List.{List, [], _∷_}
+use Prim.Native.Nat.{ℕ}
+use Rattle.text.specs.Decimal.{fieldOf, fieldUpTo, numeralUpTo, unblank, isNumeral, leadsWell, allDigits, isDigit, value}
+use Rattle.text.specs.Line.{linesOf, prepend, isWhole, judged, lineAs, stepAs, rowOf, queryOf}
+use Rattle.text.specs.Table.{judgedFrom, tableReadOf, daysOf}
+use Rattle.text.specs.Print.{printed, columnOf, listingLine, refusedLine}
+use Rattle.text.specs.declared.decimal.Field.the-variants.{Number, Large, Broken}
+use Rattle.text.specs.declared.lines.QueryRead.the-variants.{Query, BadLength}
+use Rattle.text.specs.declared.table.TableRead.the-variants.{Rows, BrokenField, LargeNumber, Room}
+
+-- ---- fields
+
+zero-field : fieldOf (32 ∷ 32 ∷ 32 ∷ 32 ∷ 48 ∷ []) ≡ Number 0
+unfolding fieldOf fieldUpTo numeralUpTo unblank isNumeral leadsWell allDigits isDigit value
+zero-field = refl
+
+largest-field : fieldOf (32 ∷ 54 ∷ 53 ∷ 53 ∷ 51 ∷ 53 ∷ []) ≡ Number 65535
+unfolding fieldOf fieldUpTo numeralUpTo unblank isNumeral leadsWell allDigits isDigit value
+largest-field = refl
+
+large-field : fieldOf (32 ∷ 54 ∷ 53 ∷ 53 ∷ 51 ∷ 54 ∷ []) ≡ Large
+unfolding fieldOf fieldUpTo numeralUpTo unblank isNumeral leadsWell allDigits isDigit value
+large-field = refl
+
+needless-zero : fieldOf (48 ∷ 54 ∷ 53 ∷ 53 ∷ 51 ∷ 54 ∷ []) ≡ Broken
+unfolding fieldOf fieldUpTo numeralUpTo unblank isNumeral leadsWell allDigits isDigit value
+needless-zero = refl
+
+two-zeros : fieldOf (48 ∷ 48 ∷ []) ≡ Broken
+unfolding fieldOf fieldUpTo numeralUpTo unblank isNumeral leadsWell allDigits isDigit value
+two-zeros = refl
+
+all-blank : fieldOf (32 ∷ 32 ∷ 32 ∷ 32 ∷ 32 ∷ []) ≡ Broken
+unfolding fieldOf fieldUpTo numeralUpTo unblank isNumeral leadsWell allDigits isDigit value
+all-blank = refl
+
+empty-field : fieldOf ([]) ≡ Broken
+unfolding fieldOf fieldUpTo numeralUpTo unblank isNumeral leadsWell allDigits isDigit value
+empty-field = refl
+
+blank-behind : fieldOf (49 ∷ 50 ∷ 32 ∷ []) ≡ Broken
+unfolding fieldOf fieldUpTo numeralUpTo unblank isNumeral leadsWell allDigits isDigit value
+blank-behind = refl
+
+two-numbers : fieldOf (49 ∷ 32 ∷ 32 ∷ 50 ∷ []) ≡ Broken
+unfolding fieldOf fieldUpTo numeralUpTo unblank isNumeral leadsWell allDigits isDigit value
+two-numbers = refl
+
+million : fieldOf (49 ∷ 48 ∷ 48 ∷ 48 ∷ 48 ∷ 48 ∷ 48 ∷ []) ≡ Large
+unfolding fieldOf fieldUpTo numeralUpTo unblank isNumeral leadsWell allDigits isDigit value
+million = refl
+
+-- ---- lines
+
+lone-end : linesOf (10 ∷ []) ≡ (10 ∷ []) ∷ []
+unfolding linesOf prepend
+lone-end = refl
+
+final-end : linesOf (49 ∷ 10 ∷ 10 ∷ 50 ∷ []) ≡ (49 ∷ 10 ∷ []) ∷ (10 ∷ []) ∷ (50 ∷ []) ∷ []
+unfolding linesOf prepend
+final-end = refl
+
+-- ---- 01's example
+
+-- "    1     1     2" and the five lines behind it
+example : List ℕ
+example =
+    32 ∷ 32 ∷ 32 ∷ 32 ∷ 49 ∷ 32 ∷ 32 ∷ 32 ∷ 32 ∷ 32 ∷ 49 ∷ 32 ∷ 32 ∷ 32 ∷ 32 ∷ 32 ∷ 50 ∷ 10 ∷
+    32 ∷ 32 ∷ 32 ∷ 32 ∷ 50 ∷ 32 ∷ 32 ∷ 32 ∷ 32 ∷ 32 ∷ 50 ∷ 32 ∷ 32 ∷ 32 ∷ 32 ∷ 32 ∷ 51 ∷ 10 ∷
+    32 ∷ 32 ∷ 32 ∷ 32 ∷ 50 ∷ 32 ∷ 32 ∷ 32 ∷ 32 ∷ 32 ∷ 49 ∷ 32 ∷ 32 ∷ 32 ∷ 32 ∷ 32 ∷ 51 ∷ 10 ∷
+    32 ∷ 32 ∷ 32 ∷ 32 ∷ 52 ∷ 32 ∷ 32 ∷ 32 ∷ 32 ∷ 32 ∷ 49 ∷ 32 ∷ 32 ∷ 32 ∷ 32 ∷ 32 ∷ 50 ∷ 10 ∷
+    32 ∷ 32 ∷ 32 ∷ 32 ∷ 53 ∷ 32 ∷ 32 ∷ 32 ∷ 32 ∷ 32 ∷ 51 ∷ 32 ∷ 32 ∷ 32 ∷ 32 ∷ 32 ∷ 52 ∷ 10 ∷
+    32 ∷ 32 ∷ 32 ∷ 32 ∷ 54 ∷ 32 ∷ 32 ∷ 32 ∷ 32 ∷ 32 ∷ 50 ∷ 32 ∷ 32 ∷ 32 ∷ 32 ∷ 32 ∷ 52 ∷ 10 ∷ []
+
+example-reads : tableReadOf example 6 7 6 ≡ Rows 6
+unfolding example tableReadOf judgedFrom rowOf lineAs judged isWhole linesOf prepend fieldOf fieldUpTo numeralUpTo unblank isNumeral leadsWell allDigits isDigit value
+example-reads = refl
+
+example-room : tableReadOf example 6 5 6 ≡ Room
+unfolding example tableReadOf judgedFrom rowOf lineAs judged isWhole linesOf prepend fieldOf fieldUpTo numeralUpTo unblank isNumeral leadsWell allDigits isDigit value
+example-room = refl
+
+example-days : daysOf example ≡ 1 ∷ 2 ∷ 2 ∷ 4 ∷ 5 ∷ 6 ∷ []
+unfolding example daysOf rowOf lineAs judged isWhole linesOf prepend fieldOf fieldUpTo numeralUpTo unblank isNumeral leadsWell allDigits isDigit value
+example-days = refl
+
+-- a broken field of line 1 comes before a large one of it
+broken-first : tableReadOf (32 ∷ 32 ∷ 32 ∷ 32 ∷ 120 ∷ 32 ∷ 54 ∷ 53 ∷ 53 ∷ 51 ∷ 54 ∷ 32 ∷ 32 ∷ 32 ∷ 32 ∷ 32 ∷ 49 ∷ 10 ∷ []) 1 1 1 ≡ BrokenField 1
+unfolding tableReadOf judgedFrom rowOf lineAs judged isWhole linesOf prepend fieldOf fieldUpTo numeralUpTo unblank isNumeral leadsWell allDigits isDigit value
+broken-first = refl
+
+large-line : tableReadOf (32 ∷ 32 ∷ 32 ∷ 32 ∷ 49 ∷ 32 ∷ 54 ∷ 53 ∷ 53 ∷ 51 ∷ 54 ∷ 32 ∷ 32 ∷ 32 ∷ 32 ∷ 32 ∷ 49 ∷ 10 ∷ []) 0 0 0 ≡ LargeNumber 1
+unfolding tableReadOf judgedFrom rowOf lineAs judged isWhole linesOf prepend fieldOf fieldUpTo numeralUpTo unblank isNumeral leadsWell allDigits isDigit value
+large-line = refl
+
+example-query : queryOf (32 ∷ 32 ∷ 32 ∷ 32 ∷ 50 ∷ 32 ∷ 32 ∷ 32 ∷ 32 ∷ 49 ∷ 32 ∷ 32 ∷ 32 ∷ 32 ∷ 54 ∷ 10 ∷ []) ≡ Query 2 1 6
+unfolding queryOf stepAs lineAs judged isWhole linesOf prepend fieldOf fieldUpTo numeralUpTo unblank isNumeral leadsWell allDigits isDigit value
+example-query = refl
+
+empty-query : queryOf [] ≡ BadLength
+unfolding queryOf stepAs lineAs judged isWhole linesOf prepend fieldOf fieldUpTo numeralUpTo unblank isNumeral leadsWell allDigits isDigit value
+empty-query = refl
+
+example-line : listingLine 1 4 3 4 ≡ 32 ∷ 32 ∷ 32 ∷ 32 ∷ 49 ∷ 32 ∷ 32 ∷ 32 ∷ 32 ∷ 52 ∷ 32 ∷ 32 ∷ 32 ∷ 32 ∷ 51 ∷ 32 ∷ 32 ∷ 32 ∷ 32 ∷ 32 ∷ 52 ∷ 10 ∷ []
+unfolding listingLine printed columnOf
+example-line = refl
+
+example-refused : refusedLine 2 0 ≡ 114 ∷ 101 ∷ 102 ∷ 117 ∷ 115 ∷ 101 ∷ 100 ∷ 32 ∷ 32 ∷ 32 ∷ 32 ∷ 50 ∷ 32 ∷ 32 ∷ 32 ∷ 32 ∷ 32 ∷ 48 ∷ 10 ∷ []
+unfolding refusedLine printed columnOf
+example-refused = refl

@@ -1,0 +1,204 @@
+-- Laws of decimal fields, over plain lists.
+--
+--   unblank-at unblank-past      a list that starts with a blank, or not
+--   unblank-yes unblank-no unblank-end            a step over a blank, the first byte that is none, the end
+--   digit-yes digit-between      a digit, and the bytes that are one
+--   digits-next digits-low digits-high digits-end   a step of the test that every byte is a digit
+--   digits-drop digit-at         a part of digits, and one of them
+--   numeral-none numeral-one numeral-zero numeral-more   the test for a numeral, by the code's cases
+--   numeral-digits     a numeral is all digits
+--   value-below        digits have a value below 10 to their number
+--   value-next value-end value-sum   a digit's part of the value, the end, and that the sum fits
+--   numeral-above      a numeral of more than k digits is at least 10 ^ k
+--   broken-field large-field number-field   what a field holds, for any limit
+--   tail tail-is       the part of a slice behind a position
+--   tail-broken tail-large tail-high tail-number     what a field holds, by the code's cases, for any limit
+-- Assumes nothing.
+use Prim.Native.Nat.{ℕ, zero, suc, _+_, _-_, _*_, _^_, _≤_, _<_}
+use mathlib.Core.Path.{_≡_, refl, sym, ap, _∙_}
+use mathlib.Core.Bool.{Bool, true, false, cond, _&&_, true≢false}
+use mathlib.Core.Logic.{_≢_}
+use mathlib.Core.List.{List, [], _∷_}
+use native.Mathlib.Nat.{pow-succ', pow-le-pow-right, mul-le-mul-right, le-of-eq, lt-of-lt-of-le, not-suc-le-zero, le-of-suc-le-suc}
+use native.Mathlib.Numerals.{add-one}
+use native.Mathlib.Omega.{arith}
+use lib.Arith.{digits-lt}
+use lib.Dec.{leb, ltb, eqb, lit<}
+use lib.ListN.{length, getD, take, drop, length-drop}
+use lib.Seq.{drop-cons, drop-length, take-all}
+use borrow.Author.Tests.{leb-true, eq-eqb, ne-eqb, le-leb, lt-leb, lt-ltb}
+use Rattle.text.specs.Decimal.{unblank, isDigit, allDigits, leadsWell, isNumeral, value, numeralUpTo, fieldUpTo}
+use Rattle.text.specs.declared.decimal.Field.the-variants.{Number, Large, Broken}
+use Rattle.text.proofs.Tests.{and-left, and-right, pick-true, pick-false}
+
+-- ---- blanks
+
+unblank-cons : (b : ℕ) (bs : List ℕ) → unblank (b ∷ bs) ≡ cond (eqb b 32) (unblank bs) (b ∷ bs)
+unfolding unblank
+unblank-cons b bs = refl
+
+pub unblank-at : (b : ℕ) (bs : List ℕ) → b ≡ 32 → unblank (b ∷ bs) ≡ unblank bs
+unblank-at b bs e = unblank-cons b bs ∙ pick-true _ _ _ (eq-eqb _ _ e)
+
+pub unblank-past : (b : ℕ) (bs : List ℕ) → (b ≡ 32 → ⊥) → unblank (b ∷ bs) ≡ b ∷ bs
+unblank-past b bs e = unblank-cons b bs ∙ pick-false _ _ _ (ne-eqb _ _ e)
+
+pub unblank-yes : (f : List ℕ) (i : ℕ) → i < length f → getD f i 0 ≡ 32 → unblank (drop i f) ≡ unblank (drop (i + 1) f)
+unblank-yes f i h e =
+    ap unblank (drop-cons f i 0 h) ∙ unblank-at _ _ e ∙ ap (λ (n : ℕ). unblank (drop n f)) (sym (add-one i))
+
+pub unblank-no : (f : List ℕ) (i : ℕ) → i < length f → (getD f i 0 ≡ 32 → ⊥) → drop i f ≡ unblank (drop i f)
+unblank-no f i h e =
+    drop-cons f i 0 h ∙ sym (ap unblank (drop-cons f i 0 h) ∙ unblank-past _ _ e)
+
+pub unblank-end : (f : List ℕ) (i : ℕ) → i ≡ length f → drop i f ≡ unblank (drop i f)
+unfolding unblank
+unblank-end f i e = rw (e, drop-length f)
+
+-- ---- digits
+
+digits-cons : (f : List ℕ) (i : ℕ) → i < length f → allDigits (drop i f) ≡ (isDigit (getD f i 0) && allDigits (drop (suc i) f))
+unfolding allDigits
+digits-cons f i h = rw (drop-cons f i 0 h)
+
+pub digit-yes : (b : ℕ) → 48 ≤ b → b ≤ 57 → isDigit b ≡ true
+unfolding isDigit
+digit-yes b l h = rw (le-leb 48 b l, le-leb b 57 h)
+
+pub digit-between : (b : ℕ) → isDigit b ≡ true → (48 ≤ b) × (b ≤ 57)
+unfolding isDigit
+digit-between b e = (leb-true 48 b (and-left (leb 48 b) (leb b 57) e), leb-true b 57 (and-right (leb 48 b) (leb b 57) e))
+
+pub digits-next : (f : List ℕ) (i : ℕ) → i < length f → 48 ≤ getD f i 0 → getD f i 0 ≤ 57 → allDigits (drop i f) ≡ allDigits (drop (i + 1) f)
+digits-next f i h l g = digits-cons f i h ∙ rw (digit-yes (getD f i 0) l g, add-one)
+
+pub digits-low : (f : List ℕ) (i : ℕ) → i < length f → getD f i 0 < 48 → allDigits (drop i f) ≡ false
+unfolding isDigit
+digits-low f i h l = digits-cons f i h ∙ rw (lt-leb 48 (getD f i 0) l)
+
+and-false : (a : Bool) → (a && false) ≡ false
+and-false true = refl
+and-false false = refl
+
+pub digits-high : (f : List ℕ) (i : ℕ) → i < length f → 57 < getD f i 0 → allDigits (drop i f) ≡ false
+unfolding isDigit
+digits-high f i h g = digits-cons f i h ∙ rw (lt-leb (getD f i 0) 57 g, and-false (leb 48 (getD f i 0)))
+
+pub digits-end : (f : List ℕ) (i : ℕ) → i ≡ length f → allDigits (drop i f) ≡ true
+unfolding allDigits
+digits-end f i e = rw (e, drop-length f)
+
+-- ---- numerals
+
+pub numeral-none : (f : List ℕ) → length f ≡ 0 → isNumeral f ≡ false
+unfolding isNumeral
+numeral-none f e = rw e
+
+pub numeral-one : (f : List ℕ) → length f ≡ 1 → isNumeral f ≡ allDigits f
+unfolding isNumeral leadsWell
+numeral-one f e = rw e
+
+pub numeral-zero : (f : List ℕ) → 1 < length f → getD f 0 0 ≡ 48 → isNumeral f ≡ false
+unfolding isNumeral leadsWell
+numeral-zero f h e = let g : 0 < length f = omega arith in rw (lt-ltb 0 (length f) g, lt-ltb 1 (length f) h, eq-eqb (getD f 0 0) 48 e)
+
+pub numeral-more : (f : List ℕ) → 1 < length f → (getD f 0 0 ≡ 48 → ⊥) → isNumeral f ≡ allDigits f
+unfolding isNumeral leadsWell
+numeral-more f h e = let g : 0 < length f = omega arith in rw (lt-ltb 0 (length f) g, lt-ltb 1 (length f) h, ne-eqb (getD f 0 0) 48 e)
+
+pub numeral-digits : (f : List ℕ) → isNumeral f ≡ true → allDigits f ≡ true
+unfolding isNumeral
+numeral-digits f e = and-right (leadsWell f) (allDigits f) (and-right (ltb 0 (length f)) (leadsWell f && allDigits f) e)
+
+-- ---- values
+
+pub value-below : (ds : List ℕ) → allDigits ds ≡ true → value ds < 10 ^ length ds
+unfolding allDigits value
+value-below [] e = lit< tt
+value-below (b ∷ bs) e =
+    let d : (48 ≤ b) × (b ≤ 57) = digit-between b (and-left (isDigit b) (allDigits bs) e) in
+    let h : b - 48 < 10 = omega arith in
+    rw pow-succ' (digits-lt h (value-below bs (and-right (isDigit b) (allDigits bs) e)))
+
+pub digits-drop : (f : List ℕ) (i : ℕ) → allDigits f ≡ true → allDigits (drop i f) ≡ true
+unfolding allDigits
+digits-drop f zero e = e
+digits-drop [] (suc i) e = e
+digits-drop (b ∷ bs) (suc i) e = digits-drop bs i (and-right (isDigit b) (allDigits bs) e)
+
+pub digit-at : (f : List ℕ) (i : ℕ) → allDigits f ≡ true → i < length f → (48 ≤ getD f i 0) × (getD f i 0 ≤ 57)
+digit-at f i e h = digit-between (getD f i 0) (and-left _ _ (sym (digits-cons f i h) ∙ digits-drop f i e))
+
+-- a digit's part of the value, where p is its place value
+pub value-next : (f : List ℕ) (i p : ℕ) → i < length f → p ≡ 10 ^ (length f - 1 - i) → value (drop i f) ≡ (getD f i 0 - 48) * p + value (drop (i + 1) f)
+unfolding value
+value-next f i p h q =
+    let e : length (drop (suc i) f) ≡ length f - 1 - i = length-drop (suc i) f ∙ omega arith in
+    ap value (drop-cons f i 0 h) ∙ rw (e, q, add-one)
+
+pub value-end : (f : List ℕ) (i : ℕ) → i ≡ length f → value (drop i f) ≡ 0
+unfolding value
+value-end f i e = rw (e, drop-length f)
+
+-- the part of one digit fits beside the sum so far
+pub value-sum : (f : List ℕ) (i p sum : ℕ) → i < length f → p ≡ 10 ^ (length f - 1 - i) → allDigits f ≡ true → length f ≤ 5 → sum + value (drop i f) ≡ value f
+    → sum + (getD f i 0 - 48) * p < 10 ^ 5
+value-sum f i p sum h q e l s =
+    let m : 10 ^ length f ≤ 10 ^ 5 = pow-le-pow-right (lit< tt) l in
+    omega (arith, value-below f e, value-next f i p h q)
+
+leads : (ds : List ℕ) → isNumeral ds ≡ true → 1 < length ds → getD ds 0 0 ≡ 48 → ⊥
+leads ds e h z = true≢false (sym e ∙ numeral-zero ds h z)
+
+-- a numeral of more than k digits is at least 10 ^ k
+pub numeral-above : (ds : List ℕ) (k : ℕ) → isNumeral ds ≡ true → 0 < k → k < length ds → 10 ^ k ≤ value ds
+unfolding value
+numeral-above [] k e p h = absurd (not-suc-le-zero h)
+numeral-above (b ∷ bs) k e p h =
+    let l : 1 < length (b ∷ bs) = omega arith in
+    let d : (48 ≤ b) × (b ≤ 57) = digit-at (b ∷ bs) 0 (numeral-digits (b ∷ bs) e) (omega arith) in
+    let n : b ≢ 48 = leads (b ∷ bs) e l in
+    let o : 1 ≤ b - 48 = omega arith in
+    let m : 10 ^ k ≤ 10 ^ length bs = pow-le-pow-right (lit< tt) (le-of-suc-le-suc h) in
+    omega (arith, mul-le-mul-right (10 ^ length bs) o)
+
+-- ---- fields, for any limit
+
+module _ (limit : ℕ) (f : List ℕ) where
+  pub broken-field : isNumeral (unblank f) ≡ false → fieldUpTo limit f ≡ Broken
+  unfolding fieldUpTo numeralUpTo
+  broken-field e = pick-false _ _ _ e
+
+  pub large-field : isNumeral (unblank f) ≡ true → limit < value (unblank f) → fieldUpTo limit f ≡ Large
+  unfolding fieldUpTo numeralUpTo
+  large-field e h = pick-true _ _ _ e ∙ pick-false _ _ _ (lt-leb _ _ h)
+
+  pub number-field : isNumeral (unblank f) ≡ true → value (unblank f) ≤ limit → fieldUpTo limit f ≡ Number (value (unblank f))
+  unfolding fieldUpTo numeralUpTo
+  number-field e h = pick-true _ _ _ e ∙ pick-true _ _ _ (le-leb _ _ h)
+
+-- ---- the field without its blanks, as the part of the slice that the code takes
+
+abbrev pub tail : List ℕ → ℕ → List ℕ
+tail f r = take (length f - r) (drop r f)
+
+pub tail-is : (f : List ℕ) (r : ℕ) → tail f r ≡ drop r f
+tail-is f r = take-all (length f - r) (drop r f) (le-of-eq (length-drop r f))
+
+module _ (limit : ℕ) (f : List ℕ) (r : ℕ) (e : drop r f ≡ unblank f) where
+  pub tail-broken : {b : Bool} → b ≡ isNumeral (tail f r) → b ≡ false → Broken ≡ fieldUpTo limit f
+  tail-broken p q = sym (broken-field limit f (ap isNumeral (sym (tail-is f r ∙ e)) ∙ sym p ∙ q))
+
+  is-numeral : {b : Bool} → b ≡ isNumeral (tail f r) → b ≡ true → isNumeral (unblank f) ≡ true
+  is-numeral p q = ap isNumeral (sym (tail-is f r ∙ e)) ∙ sym p ∙ q
+
+  pub tail-large : {b : Bool} (k : ℕ) → b ≡ isNumeral (tail f r) → b ≡ true → 0 < k → k < length (tail f r) → limit < 10 ^ k → Large ≡ fieldUpTo limit f
+  tail-large k p q z h l =
+      sym (large-field limit f (is-numeral p q) (lt-of-lt-of-le l (numeral-above (unblank f) k (is-numeral p q) z (rw (tail-is f r ∙ e) at h))))
+
+  pub tail-high : {b : Bool} {n : ℕ} → b ≡ isNumeral (tail f r) → b ≡ true → n ≡ value (tail f r) → limit < n → Large ≡ fieldUpTo limit f
+  tail-high p q v h = sym (large-field limit f (is-numeral p q) (rw (v ∙ ap value (tail-is f r ∙ e)) at h))
+
+  pub tail-number : {b : Bool} {n : ℕ} → b ≡ isNumeral (tail f r) → b ≡ true → n ≡ value (tail f r) → n ≤ limit → Number n ≡ fieldUpTo limit f
+  tail-number p q v h =
+      ap Number (v ∙ ap value (tail-is f r ∙ e)) ∙ sym (number-field limit f (is-numeral p q) (rw (v ∙ ap value (tail-is f r ∙ e)) at h))

@@ -1,0 +1,10 @@
+pub mod Tests
+pub mod Listed
+pub mod FieldLaws
+pub mod LineLaws
+pub mod PasteLaws
+pub mod TableLaws
+pub mod PrintLaws
+pub mod ReadBack
+pub mod ListingLaws
+pub mod Examples

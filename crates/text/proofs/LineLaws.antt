@@ -1,0 +1,236 @@
+-- Laws of lines, over plain lists.
+--
+--   lines-end lines-more prepend-cons     the lines, byte by byte
+--   first-end first-more      the first line, byte by byte
+--   first-length first-ends first-part first-take   how long the first line is, and its bytes
+--   lines-first               a text is its first line and the lines behind it
+--   short-line early-end open-line whole-line line-ends     the test for a whole line, by the code's cases
+--   whole-size whole-first whole-fits     a whole first line is the text's first bytes
+--   part-of                   a part of the first bytes is a part of the text
+--   step-none step-first step-short step-whole step-judged   what the first line holds, by the code's cases
+--   step-past step-within     past the text there is no line; within it, the part that the code takes
+--   next-start lines-from step-from     where each line before line n is 18 bytes, the reader finds line n
+-- Assumes nothing.
+use Prim.Native.Nat.{ℕ, zero, suc, _+_, _-_, _*_, _/_, _≤_, _<_, suc-le-suc}
+use mathlib.Core.Path.{_≡_, refl, sym, ap, _∙_}
+use mathlib.Core.Bool.{Bool, true, false, cond, _&&_}
+use mathlib.Core.Logic.{_⊎_, inl, inr, ⊎-elim}
+use mathlib.Core.List.{List, [], _∷_}
+use native.Mathlib.Nat.{le-refl, le-of-suc-le-suc, not-suc-le-zero, zero-add}
+use native.Mathlib.Numerals.{add-one}
+use native.Mathlib.Omega.{arith}
+use lib.Dec.{eqb}
+use lib.ListN.{length, getD, take, drop, length-drop}
+use lib.Seq.{take-take, length-take-le, getD-take, drop-drop, drop-cons}
+use borrow.Author.Tests.{eq-eqb, ne-eqb, eqb-true, eqb-false}
+use Rattle.text.specs.Decimal.{fieldOf}
+use Rattle.text.specs.Line.{prepend, linesOf, firstLine, isWhole, judged, lineAs, stepAs, stepAt}
+use Rattle.text.specs.declared.lines.Line.{Line}
+use Rattle.text.specs.declared.lines.Line.the-variants.{End, BadLength}
+use Rattle.text.specs.declared.decimal.Field.{Field}
+use Rattle.text.proofs.FieldLaws.{tail, tail-is}
+use Rattle.text.proofs.Tests.{look, and-left, both-true, pick-true, pick-false}
+
+-- ---- the first line
+
+lines-cons : (b : ℕ) (bs : List ℕ) → linesOf (b ∷ bs) ≡ cond (eqb b 10) ((b ∷ []) ∷ linesOf bs) (prepend b (linesOf bs))
+unfolding linesOf
+lines-cons b bs = refl
+
+pub lines-end : (b : ℕ) (bs : List ℕ) → b ≡ 10 → linesOf (b ∷ bs) ≡ (b ∷ []) ∷ linesOf bs
+lines-end b bs e = lines-cons b bs ∙ pick-true _ _ _ (eq-eqb b 10 e)
+
+pub lines-more : (b : ℕ) (bs : List ℕ) → (b ≡ 10 → ⊥) → linesOf (b ∷ bs) ≡ prepend b (linesOf bs)
+lines-more b bs e = lines-cons b bs ∙ pick-false _ _ _ (ne-eqb b 10 e)
+
+pub first-end : (b : ℕ) (bs : List ℕ) → b ≡ 10 → firstLine (b ∷ bs) ≡ b ∷ []
+unfolding firstLine
+first-end b bs e = rw (lines-end b bs e)
+
+prepend-first : (b : ℕ) (ls : List (List ℕ)) → getD (prepend b ls) 0 [] ≡ b ∷ getD ls 0 []
+unfolding prepend
+prepend-first b [] = refl
+prepend-first b (l ∷ ls) = refl
+
+pub first-more : (b : ℕ) (bs : List ℕ) → (b ≡ 10 → ⊥) → firstLine (b ∷ bs) ≡ b ∷ firstLine bs
+unfolding firstLine
+first-more b bs e = rw (lines-more b bs e) (prepend-first b (linesOf bs))
+
+-- a byte is the line's end or it is not
+ends : (b : ℕ) → (b ≡ 10) ⊎ (b ≡ 10 → ⊥)
+ends b = ⊎-elim (λ t. inl (eqb-true b 10 t)) (λ t. inr (eqb-false b 10 t)) (look (eqb b 10))
+
+pub first-length : (s : List ℕ) → length (firstLine s) ≤ length s
+unfolding firstLine linesOf
+first-length [] = le-refl 0
+first-length (b ∷ bs) =
+    ⊎-elim (λ e. rw (first-end b bs e) (omega arith))
+    (λ e. rw (first-more b bs e) (suc-le-suc (first-length bs))) (ends b)
+
+pub first-ends : (s : List ℕ) (i : ℕ) → i < length s → getD s i 0 ≡ 10 → length (firstLine s) ≤ suc i
+first-ends [] i h e = absurd (not-suc-le-zero h)
+first-ends (b ∷ bs) zero h e = rw (first-end b bs e) (le-refl 1)
+first-ends (b ∷ bs) (suc i) h e =
+    ⊎-elim (λ t. rw (first-end b bs t) (omega arith))
+    (λ t. rw (first-more b bs t) (suc-le-suc (first-ends bs i (le-of-suc-le-suc h) e))) (ends b)
+
+-- the first line is the text's first bytes
+pub first-part : (s : List ℕ) → firstLine s ≡ take (length (firstLine s)) s
+unfolding firstLine linesOf
+first-part [] = refl
+first-part (b ∷ bs) =
+    ⊎-elim (λ e. rw (first-end b bs e)) (λ e. rw (first-more b bs e) (ap (λ (l : List ℕ). b ∷ l) (first-part bs))) (ends b)
+
+pub first-take : (s : List ℕ) (k : ℕ) → k < length s → ((i : ℕ) → i < k → getD s i 0 ≡ 10 → ⊥) → getD s k 0 ≡ 10 → firstLine s ≡ take (suc k) s
+first-take [] k h n e = absurd (not-suc-le-zero h)
+first-take (b ∷ bs) zero h n e = first-end b bs e
+first-take (b ∷ bs) (suc k) h n e =
+    first-more b bs (n 0 (omega arith))
+    ∙ ap (λ (l : List ℕ). b ∷ l) (first-take bs k (le-of-suc-le-suc h) (λ i l. n (suc i) (suc-le-suc l)) e)
+
+pub prepend-cons : (b : ℕ) (l : List ℕ) (ls : List (List ℕ)) → prepend b (l ∷ ls) ≡ (b ∷ l) ∷ ls
+unfolding prepend
+prepend-cons b l ls = refl
+
+lines-one : (b : ℕ) → linesOf (b ∷ []) ≡ (b ∷ []) ∷ []
+unfolding linesOf prepend
+lines-one b = ⊎-elim (λ e. lines-end b [] e) (λ e. lines-more b [] e) (ends b)
+
+pub lines-first : (s : List ℕ) → 0 < length s → linesOf s ≡ firstLine s ∷ linesOf (drop (length (firstLine s)) s)
+unfolding firstLine linesOf
+lines-first [] h = absurd (not-suc-le-zero h)
+lines-first (b ∷ []) h = rw (lines-one b)
+lines-first (b ∷ d ∷ bs) h = go (lines-first (d ∷ bs) (omega arith))
+  where
+    go : linesOf (d ∷ bs) ≡ firstLine (d ∷ bs) ∷ linesOf (drop (length (firstLine (d ∷ bs))) (d ∷ bs)) → linesOf (b ∷ d ∷ bs) ≡ firstLine (b ∷ d ∷ bs) ∷ linesOf (drop (length (firstLine (b ∷ d ∷ bs))) (b ∷ d ∷ bs))
+    go ih =
+        ⊎-elim (λ e. rw (first-end b (d ∷ bs) e) (lines-end b (d ∷ bs) e))
+        (λ e. rw (first-more b (d ∷ bs) e) (lines-more b (d ∷ bs) e ∙ ap (prepend b) ih ∙ prepend-cons b _ _)) (ends b)
+
+-- ---- the test for a whole line
+
+whole-no-size : (n : ℕ) (l : List ℕ) → (length l ≡ n → ⊥) → isWhole n l ≡ false
+unfolding isWhole
+whole-no-size n l h = rw (ne-eqb (length l) n h)
+
+pub short-line : (s : List ℕ) (n : ℕ) → length s < n → isWhole n (firstLine s) ≡ false
+short-line s n h = whole-no-size n (firstLine s) (λ e. omega (arith, first-length s))
+
+pub early-end : (s : List ℕ) (n i : ℕ) → i < n - 1 → n ≤ length s → getD s i 0 ≡ 10 → isWhole n (firstLine s) ≡ false
+early-end s n i h l e = whole-no-size n (firstLine s) (λ q. omega (arith, first-ends s i (omega arith) e))
+
+and-false : (a b : Bool) → (a ≡ true → b ≡ false) → (a && b) ≡ false
+and-false true b h = h refl
+and-false false b h = refl
+
+pub open-line : (s : List ℕ) (n : ℕ) → 0 < n → n ≤ length s → (getD s (n - 1) 0 ≡ 10 → ⊥) → isWhole n (firstLine s) ≡ false
+unfolding isWhole
+open-line s n p l h = and-false (eqb (length (firstLine s)) n) (eqb (getD (firstLine s) (n - 1) 0) 10) (λ t. ne-eqb _ _ (λ e. h (sym (same (eqb-true _ _ t)) ∙ e)))
+  where
+    same : length (firstLine s) ≡ n → getD (firstLine s) (n - 1) 0 ≡ getD s (n - 1) 0
+    same q = ap (λ (x : List ℕ). getD x (n - 1) 0) (first-part s ∙ ap (λ (k : ℕ). take k s) q) ∙ getD-take n s (n - 1) 0 (omega arith)
+
+pub whole-line : (s : List ℕ) (n : ℕ) → 0 < n → n ≤ length s → ((i : ℕ) → i < n - 1 → getD s i 0 ≡ 10 → ⊥) → getD s (n - 1) 0 ≡ 10 → isWhole n (firstLine s) ≡ true
+unfolding isWhole
+whole-line s n p l h e =
+    let k : suc (n - 1) ≡ n = omega arith in
+    let f : firstLine s ≡ take n s = first-take s (n - 1) (omega arith) h e ∙ ap (λ (m : ℕ). take m s) k in
+    both-true _ _ (eq-eqb _ _ (ap length f ∙ length-take-le n s l)) (eq-eqb _ _ (ap (λ (x : List ℕ). getD x (n - 1) 0) f ∙ getD-take n s (n - 1) 0 (omega arith) ∙ e))
+
+-- the byte at the end decides
+pub line-ends : (s : List ℕ) (n i : ℕ) → 0 < n → n ≤ length s → n - 1 ≤ i → ((k : ℕ) → k < i → getD s k 0 ≡ 10 → ⊥) → isWhole n (firstLine s) ≡ eqb (getD s (n - 1) 0) 10
+line-ends s n i p l m h =
+    ⊎-elim (λ e. whole-line s n p l (λ k q. h k (omega arith)) e ∙ sym (eq-eqb _ _ e))
+    (λ e. open-line s n p l e ∙ sym (ne-eqb _ _ e)) (ends (getD s (n - 1) 0))
+
+pub whole-size : (n : ℕ) (l : List ℕ) → isWhole n l ≡ true → length l ≡ n
+unfolding isWhole
+whole-size n l e = eqb-true _ _ (and-left (eqb (length l) n) (eqb (getD l (n - 1) 0) 10) e)
+
+pub whole-first : (s : List ℕ) (n : ℕ) → isWhole n (firstLine s) ≡ true → firstLine s ≡ take n s
+whole-first s n e = first-part s ∙ ap (λ (k : ℕ). take k s) (whole-size n (firstLine s) e)
+
+-- ---- fields of the first line
+
+pub part-of : (a b n : ℕ) (s : List ℕ) → a + b ≤ n → take b (drop a (take n s)) ≡ take b (drop a s)
+part-of zero b n s h = take-take b n s (rw (← zero-add b) (omega arith))
+part-of (suc a) b zero s h = let z : ⊥ = omega arith in absurd z
+part-of (suc a) b (suc n) [] h = refl
+part-of (suc a) b (suc n) (x ∷ s) h = part-of a b n s (omega arith)
+
+-- ---- what the first line holds
+
+pub step-none : (a b c : ℕ) (s : List ℕ) → length s ≡ 0 → stepAs a b c (linesOf s) ≡ End
+unfolding stepAs linesOf
+step-none a b c [] e = refl
+step-none a b c (x ∷ s) e = let z : ⊥ = omega arith in absurd z
+
+pub step-first : (a b c : ℕ) (s : List ℕ) → 0 < length s → stepAs a b c (linesOf s) ≡ lineAs a b c (firstLine s)
+unfolding stepAs
+step-first a b c s h = ap (stepAs a b c) (lines-first s h)
+
+pub step-short : (a b c : ℕ) (s : List ℕ) → 0 < length s → isWhole (a + b + c + 1) (firstLine s) ≡ false → stepAs a b c (linesOf s) ≡ BadLength
+unfolding lineAs
+step-short a b c s h e = step-first a b c s h ∙ pick-false _ _ _ e
+
+pub step-whole : (a b c : ℕ) (s : List ℕ) → 0 < length s → isWhole (a + b + c + 1) (firstLine s) ≡ true
+    → stepAs a b c (linesOf s) ≡ judged (fieldOf (take a s)) (fieldOf (take b (drop a s))) (fieldOf (take c (drop (a + b) s)))
+unfolding lineAs
+step-whole a b c s h e =
+    step-first a b c s h ∙ pick-true _ _ _ e
+    ∙ rw (whole-first s (a + b + c + 1) e, part-of a b (a + b + c + 1) s (omega arith), part-of (a + b) c (a + b + c + 1) s (omega arith), take-take a (a + b + c + 1) s (omega arith))
+
+pub step-past : (text : List ℕ) (n : ℕ) → length text / 18 < n → stepAt text n ≡ End
+unfolding stepAt
+step-past text n h = step-none 5 6 6 (drop (18 * n) text) (length-drop (18 * n) text ∙ omega arith)
+
+pub whole-fits : (s : List ℕ) (n : ℕ) → isWhole n (firstLine s) ≡ true → n ≤ length s
+whole-fits s n e = omega (arith, first-length s, whole-size n (firstLine s) e)
+
+-- the line's answer from the parts that the code takes
+pub step-judged : (a b c : ℕ) (s : List ℕ) {x y z : Field} {r : Line} → 0 < length s → isWhole (a + b + c + 1) (firstLine s) ≡ true
+    → x ≡ fieldOf (take (a - 0) s) → y ≡ fieldOf (take (a + b - a) (drop a s)) → z ≡ fieldOf (take (a + b + c - (a + b)) (drop (a + b) s))
+    → r ≡ judged x y z → r ≡ stepAs a b c (linesOf s)
+step-judged a b c s h e p q t j =
+    let i : a - 0 ≡ a = omega arith in
+    let k : a + b - a ≡ b = omega arith in
+    let l : a + b + c - (a + b) ≡ c = omega arith in
+    j ∙ rw (p, q, t, i, k, l) (sym (step-whole a b c s h e))
+
+pub step-within : (text : List ℕ) (n : ℕ) {r : Line} → r ≡ stepAs 5 6 6 (linesOf (tail text (18 * n))) → r ≡ stepAt text n
+unfolding stepAt
+step-within text n e = e ∙ ap (λ (s : List ℕ). stepAs 5 6 6 (linesOf s)) (tail-is text (18 * n))
+
+-- ---- the line reader's place
+
+-- line n + 1 starts 18 bytes behind line n
+pub next-start : (text : List ℕ) (n : ℕ) → drop 18 (drop (18 * n) text) ≡ drop (18 * (n + 1)) text
+next-start text n = let e : 18 * n + 18 ≡ 18 * (n + 1) = omega arith in drop-drop 18 (18 * n) text ∙ ap (λ (k : ℕ). drop k text) e
+
+some-bytes : (s : List ℕ) → 0 < length (linesOf s) → 0 < length s
+unfolding linesOf
+some-bytes [] h = h
+some-bytes (x ∷ xs) h = omega arith
+
+-- one line on, where s starts line n of the lines ls
+next-lines : (s : List ℕ) (ls : List (List ℕ)) (n : ℕ) {t : List ℕ} → linesOf s ≡ drop n ls → n < length ls → isWhole 18 (getD ls n []) ≡ true → drop 18 s ≡ t → linesOf t ≡ drop (suc n) ls
+unfolding firstLine
+next-lines s ls n e h w q =
+    let d : drop n ls ≡ getD ls n [] ∷ drop (suc n) ls = drop-cons ls n [] h in
+    let f : firstLine s ≡ getD ls n [] = ap (λ (x : List (List ℕ)). getD x 0 []) (e ∙ d) in
+    let z : length (firstLine s) ≡ 18 = ap length f ∙ whole-size 18 (getD ls n []) w in
+    let p : 0 < length s = some-bytes s (omega (arith, ap length (e ∙ d))) in
+    ap linesOf (sym q) ∙ ap (λ (k : ℕ). linesOf (drop k s)) (sym z) ∙ ap (drop 1) (sym (lines-first s p) ∙ e ∙ d)
+
+-- where each line before line n is 18 bytes, the lines from line n on are those of the text from byte 18 n on
+pub lines-from : (text : List ℕ) (n : ℕ) → n ≤ length (linesOf text) → ((i : ℕ) → i < n → isWhole 18 (getD (linesOf text) i []) ≡ true) → linesOf (drop (18 * n) text) ≡ drop n (linesOf text)
+lines-from text zero h w = refl
+lines-from text (suc n) h w = go (lines-from text n (omega arith) (λ i l. w i (omega arith)))
+  where
+    go : linesOf (drop (18 * n) text) ≡ drop n (linesOf text) → linesOf (drop (18 * suc n) text) ≡ drop (suc n) (linesOf text)
+    go e = next-lines (drop (18 * n) text) (linesOf text) n e h (w n (omega arith)) (next-start text n ∙ ap (λ (k : ℕ). drop (18 * k) text) (add-one n))
+
+-- what the line reader finds there is what line n holds
+pub step-from : (text : List ℕ) (n : ℕ) → n ≤ length (linesOf text) → ((i : ℕ) → i < n → isWhole 18 (getD (linesOf text) i []) ≡ true) → stepAt text n ≡ stepAs 5 6 6 (drop n (linesOf text))
+unfolding stepAt
+step-from text n h w = ap (stepAs 5 6 6) (lines-from text n h w)

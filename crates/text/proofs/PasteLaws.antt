@@ -1,0 +1,99 @@
+-- A list written over another from a position on, element by element and piece by piece.
+--
+--   Pasting pasting-none pasting-more pasting-all     through a loop that writes one element a turn
+--   pasted-length     the buffer keeps its length
+--   pasted-start      written from the start
+--   pasted-pasted     two pieces, one behind the other, are their join
+--   Pieces piece-first piece-more     through calls that write one piece behind the other
+-- Assumes nothing.
+use Prim.Native.Nat.{ℕ, _+_, _≤_, _<_}
+use mathlib.Core.Path.{_≡_, refl, sym, ap, _∙_}
+use mathlib.Core.List.{List, _++_, append-assoc}
+use native.Mathlib.Nat.{zero-add, add-assoc}
+use native.Mathlib.Numerals.{add-one}
+use native.Mathlib.Omega.{arith}
+use lib.ListN.{length, getD, take, drop, set, length-set, length-append}
+use lib.Seq.{paste, paste-zero, paste-suc, length-paste, take-length, length-take-le, take-at, drop-at, drop-drop}
+use Rattle.text.specs.Print.{pasted}
+
+-- ---- one element a turn
+
+-- d with s, of c elements, written from `at` on, of which the first j stand
+pub record Pasting (s d now : List ℕ) (at c j : ℕ) : Type 0 where
+  pub size : length s ≡ c
+  pub within : j ≤ c
+  pub room : at + c ≤ length d
+  pub long : length now ≡ length d
+  pub is : now ≡ paste d at s j
+
+pub pasting-none : (s d : List ℕ) (at c : ℕ) → length s ≡ c → at + c ≤ length d → Pasting s d d at c 0
+pasting-none s d at c e h = record { size = e; within = omega arith; room = h; long = refl; is = paste-zero d at s }
+
+-- x is stored at the next place k
+pub pasting-more : {s d now : List ℕ} {at c j : ℕ} (k x : ℕ) → Pasting s d now at c j → j < c → k ≡ at + j → x ≡ getD s j 0 → Pasting s d (set now k x) at c (j + 1)
+pasting-more {s} {d} {now} {at} {c} {j} k x p h e q =
+    record {
+      size = p .size;
+      within = omega arith;
+      room = p .room;
+      long = length-set now k x ∙ p .long;
+      is = rw (p .is, e, q, add-one) (paste-suc d at s j 0 (omega arith) (omega arith));
+    }
+
+pub pasting-all : {s d now : List ℕ} {at c j : ℕ} → Pasting s d now at c j → c ≤ j → now ≡ pasted d at s
+unfolding pasted
+pasting-all {s} {d} {now} {at} {c} {j} p h =
+    let e : j ≡ length s = omega arith in
+    p .is ∙ rw (e, take-length s)
+
+-- ---- the whole
+
+pub pasted-length : (d : List ℕ) (at : ℕ) (s : List ℕ) → at + length s ≤ length d → length (pasted d at s) ≡ length d
+unfolding pasted
+pasted-length d at s h = ap (λ (t : List ℕ). length (take at d ++ t ++ drop (at + length s) d)) (sym (take-length s)) ∙ length-paste d at s (length s) h (omega arith)
+
+pub pasted-start : (d s : List ℕ) (n : ℕ) → length s ≡ n → pasted d 0 s ≡ s ++ drop n d
+unfolding pasted
+pasted-start d s n e = rw (e, zero-add n)
+
+-- two pieces, one behind the other, are their join
+pub pasted-pasted : (d : List ℕ) (at : ℕ) (s t : List ℕ) → at + length s ≤ length d → pasted (pasted d at s) (at + length s) t ≡ pasted d at (s ++ t)
+unfolding pasted
+pasted-pasted d at s t h =
+    let n : length (take at d ++ s) ≡ at + length s = length-append (take at d) s ∙ ap (λ (k : ℕ). k + length s) (length-take-le at d (omega arith)) in
+    let a : take (at + length s) (take at d ++ s ++ drop (at + length s) d) ≡ take at d ++ s = take-at (take at d ++ s) (drop (at + length s) d) (at + length s) n in
+    let b : drop (at + length s + length t) (take at d ++ s ++ drop (at + length s) d) ≡ drop (at + length (s ++ t)) d =
+    sym (drop-drop (length t) (at + length s) (take at d ++ s ++ drop (at + length s) d))
+    ∙ ap (drop (length t)) (drop-at (take at d ++ s) (drop (at + length s) d) (at + length s) n)
+    ∙ drop-drop (length t) (at + length s) d ∙ ap (λ (k : ℕ). drop k d) (add-assoc at (length s) (length t) ∙ ap (λ (k : ℕ). at + k) (sym (length-append s t))) in
+    rw (a, b) (ap (λ (l : List ℕ). l ++ drop (at + length (s ++ t)) d) (append-assoc (take at d) s t))
+
+-- ---- piece by piece
+
+-- d with s written from `at` on; the next piece stands at `next`
+pub record Pieces (s d now : List ℕ) (at next : ℕ) : Type 0 where
+  pub stop : next ≡ at + length s
+  pub room : next ≤ length d
+  pub long : length now ≡ length d
+  pub is : now ≡ pasted d at s
+
+pub piece-first : {d now : List ℕ} {at next : ℕ} (s : List ℕ) (size : ℕ) → length s ≡ size → at + size ≤ length d → (next ≡ at + size) × (now ≡ pasted d at s) → Pieces s d now at next
+piece-first {d} {now} {at} {next} s size e h w =
+    let r : at + length s ≤ length d = omega arith in
+    let n : next ≡ at + size = w .0 in
+    record { stop = omega arith; room = omega arith; long = ap length (w .1) ∙ pasted-length d at s r; is = w .1 }
+
+pub piece-more : {s d now now′ : List ℕ} {at next next′ : ℕ} (t : List ℕ) (size : ℕ) → Pieces s d now at next → length t ≡ size → next + size ≤ length d
+    → (next′ ≡ next + size) × (now′ ≡ pasted now next t) → Pieces (s ++ t) d now′ at next′
+piece-more {s} {d} {now} {now′} {at} {next} {next′} t size p e h w =
+    let m : next ≡ at + length s = p .stop in
+    let l : length now ≡ length d = p .long in
+    let n : next′ ≡ next + size = w .0 in
+    let k : length (s ++ t) ≡ length s + length t = length-append s t in
+    let r : next + length t ≤ length now = omega arith in
+    record {
+      stop = omega arith;
+      room = omega arith;
+      long = ap length (w .1) ∙ pasted-length now next t r ∙ l;
+      is = w .1 ∙ rw (p .is, m) (pasted-pasted d at s t (omega arith));
+    }

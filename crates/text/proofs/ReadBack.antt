@@ -1,0 +1,252 @@
+-- What is printed reads back.
+--
+--   reads-back     a number that fits its field and is within the limit, printed and read, is that number
+--   reads-large    a number above the limit is Large
+--   field-back     the same for the fields of this crate
+--   wide-back      every number of 16 bits, in 5 columns or more
+--   row-back       a printed line of a table reads back as its row
+--   Small AllSmall     rows of numbers of 16 bits
+--   table-back days-back firsts-back seconds-back     a table's text reads back as its rows
+-- Assumes nothing.
+use Prim.Native.Nat.{ℕ, zero, suc, _+_, _-_, _*_, _/_, _%_, _^_, _≤_, _<_, min}
+use mathlib.Core.Path.{_≡_, refl, sym, ap, _∙_}
+use mathlib.Core.Bool.{Bool, true, false, cond, _&&_}
+use mathlib.Core.Logic.{_⊎_, inl, inr}
+use mathlib.Core.List.{List, [], _∷_, _++_, append-assoc, map}
+use native.Mathlib.Nat.{mod-one, mod-lt, mod-eq-of-lt, div-one, pow-succ', one-le-pow, le-div-iff-mul-le, div-lt-iff-lt-mul, not-suc-le-zero, one-mul, add-zero, zero-add}
+use native.Mathlib.Omega.{arith}
+use lib.Arith.{mod-mul}
+use lib.Dec.{ltb, lit<, lit≤}
+use lib.ListN.{length, getD, take, drop, length-append}
+use lib.Seq.{take-at, drop-at, getD-at}
+use borrow.Author.Tests.{eq-eqb, le-leb}
+use Rattle.text.specs.Decimal.{unblank, allDigits, isNumeral, value, fieldUpTo, fieldOf}
+use Rattle.text.specs.Line.{prepend, linesOf, isWhole, judged, lineAs, rowOf}
+use Rattle.text.specs.Table.{dayOf, firstOf, secondOf, daysOf, firstsOf, secondsOf, faultOr, judgedFrom, roomFor, tableReadOf}
+use Rattle.text.specs.Print.{columnOf, printed, tableLine, TableRow, tableText}
+use Rattle.text.specs.declared.decimal.Field.the-variants.{Number, Large}
+use Rattle.text.specs.declared.lines.Line.{Line}
+use Rattle.text.specs.declared.lines.Line.the-variants.{Row}
+use Rattle.text.specs.declared.table.TableRead.the-variants.{Rows}
+use Rattle.text.proofs.Tests.{lt-or-le, both-true, pick-true}
+use Rattle.text.proofs.FieldLaws.{unblank-at, unblank-past, digit-yes, numeral-one, numeral-more, number-field, large-field}
+use Rattle.text.proofs.LineLaws.{lines-end, lines-more, prepend-cons}
+use Rattle.text.proofs.PrintLaws.{column-unit, column-blank, column-digit, above, printed-length}
+
+-- the columns of places k - 1 down to 0 are digits, with the value n % 10 ^ k
+record Digits (k n : ℕ) : Type 0 where
+  digits : allDigits (printed k n) ≡ true
+  sum : value (printed k n) ≡ n % 10 ^ k
+
+no-digits : (n : ℕ) → Digits 0 n
+unfolding printed allDigits value
+no-digits n = record { digits = refl; sum = sym (mod-one n) }
+
+-- one digit more
+one-more : (k n : ℕ) → columnOf k n ≡ 48 + n / 10 ^ k % 10 → Digits k n → Digits (suc k) n
+unfolding printed allDigits value
+one-more k n e d =
+    let b : n / 10 ^ k % 10 < 10 = mod-lt (n / 10 ^ k) (lit< tt) in
+    let f : 48 ≤ columnOf k n = omega arith in
+    let g : columnOf k n ≤ 57 = omega arith in
+    let h : columnOf k n - 48 ≡ n / 10 ^ k % 10 = omega arith in
+    record {
+      digits = both-true _ _ (digit-yes (columnOf k n) f g) (d .digits);
+      sum = rw (h, printed-length k n, d .sum, pow-succ') (sym (mod-mul n (lit< tt) (one-le-pow k 10 (lit< tt))));
+    }
+
+all-digits : (k n : ℕ) → 10 ^ k ≤ n → Digits k n
+all-digits zero n h = no-digits n
+all-digits (suc k) n h =
+    let e : 10 ^ suc k ≡ 10 * 10 ^ k = pow-succ' 10 k in
+    let l : 10 ^ k ≤ n = omega arith in
+    one-more k n (column-digit k n l) (all-digits k n l)
+
+-- a printed field without its blanks is the number's numeral
+record Numeral (w n : ℕ) : Type 0 where
+  numeral : isNumeral (unblank (printed w n)) ≡ true
+  sum : value (unblank (printed w n)) ≡ n
+
+-- a field whose first column is a digit
+starts : (k n : ℕ) → n < 10 ^ suc k → Digits (suc k) n → (columnOf k n ≡ 32 → ⊥) → isNumeral (printed (suc k) n) ≡ true → Numeral (suc k) n
+unfolding printed
+starts k n h d b t =
+    let u : unblank (printed (suc k) n) ≡ printed (suc k) n = unblank-past (columnOf k n) (printed k n) b in
+    record { numeral = ap isNumeral u ∙ t; sum = ap value u ∙ d .sum ∙ mod-eq-of-lt h }
+
+unit : (n : ℕ) → n < 10 ^ 1 → Numeral 1 n
+unfolding printed
+unit n h =
+    let e : columnOf 0 n ≡ 48 + n / 10 ^ 0 % 10 = column-unit n ∙ rw (div-one n) in
+    let d : Digits 1 n = one-more 0 n e (no-digits n) in
+    starts 0 n h d (λ q. omega arith) (numeral-one (printed 1 n) (printed-length 1 n) ∙ d .digits)
+
+leading : (k n : ℕ) → 0 < k → 10 ^ k ≤ n → n < 10 ^ suc k → Numeral (suc k) n
+unfolding printed
+leading k n p l h =
+    let z : 0 < 10 ^ k = one-le-pow k 10 (lit< tt) in
+    let o : 1 ≤ n / 10 ^ k = le-div-iff-mul-le z .1 (rw (one-mul (10 ^ k)) l) in
+    let m : n < 10 * 10 ^ k = rw (← pow-succ' 10 k) h in
+    let q : n / 10 ^ k < 10 = div-lt-iff-lt-mul z .1 m in
+    let e : columnOf k n ≡ 48 + n / 10 ^ k % 10 = column-digit k n l in
+    let d : Digits (suc k) n = one-more k n e (all-digits k n l) in
+    let s : 1 < length (printed (suc k) n) = omega (arith, printed-length (suc k) n) in
+    starts k n h d (λ t. omega arith) (numeral-more (printed (suc k) n) s (λ t. omega arith) ∙ d .digits)
+
+blank : (k n : ℕ) → 0 < k → n < 10 ^ k → Numeral k n → Numeral (suc k) n
+unfolding printed
+blank k n p h r =
+    let u : unblank (printed (suc k) n) ≡ unblank (printed k n) = unblank-at (columnOf k n) (printed k n) (column-blank k n p h) in
+    record { numeral = ap isNumeral u ∙ r .numeral; sum = ap value u ∙ r .sum }
+
+numeral-back : (w n : ℕ) → 0 < w → n < 10 ^ w → Numeral w n
+numeral-back zero n p h = absurd (not-suc-le-zero p)
+numeral-back (suc zero) n p h = unit n h
+numeral-back (suc (suc k)) n p h = go (numeral-back (suc k) n (omega arith)) (lt-or-le n (10 ^ suc k))
+  where
+    go : (n < 10 ^ suc k → Numeral (suc k) n) → (n < 10 ^ suc k) ⊎ (10 ^ suc k ≤ n) → Numeral (suc (suc k)) n
+    go r (inl l) = blank (suc k) n (omega arith) l (r l)
+    go r (inr l) = leading (suc k) n (omega arith) l h
+
+-- ---- for any limit and any width
+
+module _ (limit w n : ℕ) (p : 0 < w) (h : n < 10 ^ w) where
+  pub reads-back : n ≤ limit → fieldUpTo limit (printed w n) ≡ Number n
+  reads-back l =
+      let r : Numeral w n = numeral-back w n p h in
+      number-field limit (printed w n) (r .numeral) (rw (r .sum) l) ∙ ap Number (r .sum)
+
+  pub reads-large : limit < n → fieldUpTo limit (printed w n) ≡ Large
+  reads-large l =
+      let r : Numeral w n = numeral-back w n p h in
+      large-field limit (printed w n) (r .numeral) (rw (r .sum) l)
+
+-- ---- the fields of this crate
+
+pub field-back : (w n : ℕ) → 0 < w → n < 10 ^ w → n ≤ 65535 → fieldOf (printed w n) ≡ Number n
+unfolding fieldOf
+field-back w n p h l = reads-back 65535 w n p h l
+
+-- a number of 16 bits fits 5 columns and more
+pub wide-back : (w n : ℕ) → 5 ≤ w → n < 2 ^ 16 → fieldOf (printed w n) ≡ Number n
+wide-back w n p h = field-back w n (omega arith) (above w n p h) (omega arith)
+
+-- ---- a line of a table
+
+line-whole : (p : List ℕ) (n : ℕ) → length p ≡ n → isWhole (n + 1) (p ++ 10 ∷ []) ≡ true
+unfolding isWhole
+line-whole p n e =
+    let q : n + 1 - 1 ≡ n = omega arith in
+    let g : getD (p ++ 10 ∷ []) (n + 1 - 1) 0 ≡ 10 = ap (λ (k : ℕ). getD (p ++ 10 ∷ []) k 0) q ∙ getD-at p 10 [] 0 n e in
+    both-true _ _ (eq-eqb _ _ (length-append p (10 ∷ []) ∙ ap (λ (k : ℕ). k + 1) e)) (eq-eqb _ _ g)
+
+module _ (a b c : List ℕ) (rest : List ℕ) where
+  first-part : (n : ℕ) → length a ≡ n → take n (a ++ b ++ c ++ rest) ≡ a
+  first-part n e = rw (append-assoc (a ++ b) c rest, append-assoc a b (c ++ rest)) (take-at a (b ++ (c ++ rest)) n e)
+
+  second-part : (n m : ℕ) → length a ≡ n → length b ≡ m → take m (drop n (a ++ b ++ c ++ rest)) ≡ b
+  second-part n m e f =
+      rw (append-assoc (a ++ b) c rest, append-assoc a b (c ++ rest))
+      (ap (take m) (drop-at a (b ++ (c ++ rest)) n e) ∙ take-at b (c ++ rest) m f)
+
+  third-part : (n m : ℕ) → length (a ++ b) ≡ n → length c ≡ m → take m (drop n (a ++ b ++ c ++ rest)) ≡ c
+  third-part n m e f = rw (append-assoc (a ++ b) c rest) (ap (take m) (drop-at (a ++ b) (c ++ rest) n e) ∙ take-at c rest m f)
+
+-- a printed row reads back as its row
+pub row-back : (day first second : ℕ) → day < 2 ^ 16 → first < 2 ^ 16 → second < 2 ^ 16 → rowOf (tableLine day first second) ≡ Row day first second
+unfolding rowOf lineAs tableLine judged
+row-back day first second p q r =
+    let d : List ℕ = printed 5 day in
+    let f : List ℕ = printed 6 first in
+    let s : List ℕ = printed 6 second in
+    let l : List ℕ = d ++ f ++ s ++ 10 ∷ [] in
+    let x : fieldOf (take 5 l) ≡ Number day = ap fieldOf (first-part d f s (10 ∷ []) 5 (printed-length 5 day)) ∙ wide-back 5 day (lit≤ tt) p in
+    let y : fieldOf (take 6 (drop 5 l)) ≡ Number first = ap fieldOf (second-part d f s (10 ∷ []) 5 6 (printed-length 5 day) (printed-length 6 first)) ∙ wide-back 6 first (lit≤ tt) q in
+    let z : fieldOf (take 6 (drop 11 l)) ≡ Number second =
+    ap fieldOf (third-part d f s (10 ∷ []) 11 6 (simp (length-append, printed-length)) (printed-length 6 second)) ∙ wide-back 6 second (lit≤ tt) r in
+    pick-true _ _ _ (line-whole (d ++ f ++ s) 17 (simp (length-append, printed-length))) ∙ rw (x, y, z)
+
+-- ---- a whole table
+
+-- no byte ends a line
+abbrev Inner : List ℕ → Type 0
+Inner [] = Unit {0}
+Inner (b ∷ bs) = (b ≡ 10 → ⊥) × Inner bs
+
+inner-append : (p q : List ℕ) → Inner p → Inner q → Inner (p ++ q)
+inner-append [] q i j = j
+inner-append (b ∷ p) q i j = (i .0, inner-append p q (i .1) j)
+
+column-inner : (blank : Bool) (d : ℕ) → cond blank 32 (48 + d) ≡ 10 → ⊥
+column-inner true d e = omega arith
+column-inner false d e = omega arith
+
+printed-inner : (k n : ℕ) → Inner (printed k n)
+unfolding printed columnOf
+printed-inner zero n = tt
+printed-inner (suc k) n = (column-inner (ltb 0 k && ltb n (10 ^ k)) (n / 10 ^ k % 10), printed-inner k n)
+
+-- a line with its end, in front of more text
+lines-behind : (p rest : List ℕ) → Inner p → linesOf (p ++ 10 ∷ rest) ≡ (p ++ 10 ∷ []) ∷ linesOf rest
+lines-behind [] rest i = lines-end 10 rest refl
+lines-behind (b ∷ p) rest i =
+    lines-more b (p ++ 10 ∷ rest) (i .0) ∙ ap (prepend b) (lines-behind p rest (i .1)) ∙ prepend-cons b (p ++ 10 ∷ []) (linesOf rest)
+
+row-lines : (day first second : ℕ) (rest : List ℕ) → linesOf (tableLine day first second ++ rest) ≡ tableLine day first second ∷ linesOf rest
+unfolding tableLine
+row-lines day first second rest =
+    let p : List ℕ = printed 5 day ++ printed 6 first ++ printed 6 second in
+    ap linesOf (append-assoc p (10 ∷ []) rest)
+    ∙ lines-behind p rest (inner-append (printed 5 day ++ printed 6 first) (printed 6 second) (inner-append (printed 5 day) (printed 6 first) (printed-inner 5 day) (printed-inner 6 first)) (printed-inner 6 second))
+
+-- each number is one of 16 bits
+pub record Small (r : TableRow) : Type 0 where
+  pub day-fits : r .day < 2 ^ 16
+  pub first-fits : r .first < 2 ^ 16
+  pub second-fits : r .second < 2 ^ 16
+
+abbrev pub AllSmall : List TableRow → Type 0
+AllSmall [] = Unit {0}
+AllSmall (r ∷ rs) = Small r × AllSmall rs
+
+rowIn : TableRow → Line
+rowIn r = Row (r .day) (r .first) (r .second)
+
+small-back : (r : TableRow) → Small r → rowOf (tableLine (r .day) (r .first) (r .second)) ≡ rowIn r
+unfolding rowIn
+small-back r s = row-back (r .day) (r .first) (r .second) (s .day-fits) (s .first-fits) (s .second-fits)
+
+judged-back : (n : ℕ) (rs : List TableRow) → AllSmall rs → judgedFrom n (linesOf (tableText rs)) ≡ Rows (n + length rs)
+unfolding judgedFrom tableText linesOf rowIn
+judged-back n [] a = ap Rows (sym (add-zero n))
+judged-back n (r ∷ rs) a =
+    let e : n + 1 + length rs ≡ n + suc (length rs) = omega arith in
+    ap (judgedFrom n) (row-lines (r .day) (r .first) (r .second) (tableText rs))
+    ∙ ap (λ (x : Line). faultOr (n + 1) x (judgedFrom (n + 1) (linesOf (tableText rs)))) (small-back r (a .0))
+    ∙ judged-back (n + 1) rs (a .1) ∙ ap Rows e
+
+column-back : (f : Line → ℕ) (rs : List TableRow) → AllSmall rs → map (λ (l : List ℕ). f (rowOf l)) (linesOf (tableText rs)) ≡ map (λ (r : TableRow). f (rowIn r)) rs
+unfolding tableText linesOf
+column-back f [] a = refl
+column-back f (r ∷ rs) a =
+    ap (map (λ (l : List ℕ). f (rowOf l))) (row-lines (r .day) (r .first) (r .second) (tableText rs))
+    ∙ ap (λ (x : ℕ). x ∷ map (λ (l : List ℕ). f (rowOf l)) (linesOf (tableText rs))) (ap f (small-back r (a .0)))
+    ∙ ap (λ (xs : List ℕ). f (rowIn r) ∷ xs) (column-back f rs (a .1))
+
+-- a table's text reads back as its rows, where the columns have room
+module _ (rs : List TableRow) (a : AllSmall rs) where
+  pub table-back : (d f s : ℕ) → length rs ≤ min d (min f s) → tableReadOf (tableText rs) d f s ≡ Rows (length rs)
+  unfolding tableReadOf
+  table-back d f s h = ap (roomFor (min d (min f s))) (judged-back 0 rs a ∙ ap Rows (zero-add (length rs))) ∙ pick-true _ _ _ (le-leb _ _ h)
+
+  pub days-back : daysOf (tableText rs) ≡ map (λ (r : TableRow). r .day) rs
+  unfolding daysOf rowIn
+  days-back = column-back dayOf rs a
+
+  pub firsts-back : firstsOf (tableText rs) ≡ map (λ (r : TableRow). r .first) rs
+  unfolding firstsOf rowIn
+  firsts-back = column-back firstOf rs a
+
+  pub seconds-back : secondsOf (tableText rs) ≡ map (λ (r : TableRow). r .second) rs
+  unfolding secondsOf rowIn
+  seconds-back = column-back secondOf rs a

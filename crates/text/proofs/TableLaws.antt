@@ -1,0 +1,181 @@
+-- Laws of the table reader, over plain lists.
+--
+--   is-end never-end   no line of a text is its end
+--   Step           a first line of 18 bytes, and the other lines behind it
+--   at-end at-fault at-row    the lowest fault from line n on, by what the reader finds at line n
+--   rows-count     a text of rows alone has as many lines as rows
+--   found-at       in a text of rows alone the reader finds each line in its place
+--   column-at column-length     a column's number at a row is that of the line found there; a column has as many as rows
+--   cell           the number that the loop writes
+--   answer short enough     the reader's answer, by the code's cases
+-- Assumes nothing.
+use Prim.Native.Nat.{ℕ, zero, suc, _+_, _*_, _≤_, _<_, min}
+use mathlib.Core.Path.{_≡_, refl, sym, ap, _∙_}
+use mathlib.Core.Bool.{Bool, true, false, cond, _||_}
+use mathlib.Core.Logic.{⊎-elim}
+use mathlib.Core.List.{List, [], _∷_, map}
+use native.Mathlib.Nat.{not-suc-le-zero, le-of-suc-le-suc}
+use native.Mathlib.Omega.{arith}
+use lib.ListN.{length, getD, take, drop, length-drop, length-map, List·getD-map}
+use borrow.Author.Tests.{lt-leb, le-leb}
+use lib.Seq.{drop-cons}
+use Rattle.text.specs.Decimal.{fieldOf, isBroken, isLarge, numberOf}
+use Rattle.text.specs.Line.{linesOf, firstLine, isWhole, judged, lineAs, stepAs, rowOf, stepAt}
+use Rattle.text.specs.Table.{faultOr, judgedFrom, roomFor, tableReadOf}
+use Rattle.text.specs.declared.decimal.Field.{Field}
+use Rattle.text.specs.declared.lines.Line.{Line}
+use Rattle.text.specs.declared.lines.Line.the-variants as line
+use Rattle.text.specs.declared.table.TableRead.{TableRead}
+use Rattle.text.specs.declared.table.TableRead.the-variants.{Rows, LineLength, Room}
+use Rattle.text.proofs.Tests.{look, pick-true, pick-false, zero-one}
+use Rattle.text.proofs.LineLaws.{lines-first, next-start, step-none, step-short, step-from, whole-size, whole-fits}
+
+-- ---- no line is the text's end
+
+-- 1 at the end, 0 at what a line holds
+abbrev pub is-end : Line → ℕ
+is-end (line.Row d a b) = 0
+is-end line.End = 1
+is-end line.BadLength = 0
+is-end line.BadField = 0
+is-end line.LargeNumber = 0
+
+judged-is : (broken large : Bool) (d a b : ℕ) → is-end (cond broken line.BadField (cond large line.LargeNumber (line.Row d a b))) ≡ 0
+judged-is true large d a b = refl
+judged-is false true d a b = refl
+judged-is false false d a b = refl
+
+line-is : (whole : Bool) (r : Line) → is-end r ≡ 0 → is-end (cond whole r line.BadLength) ≡ 0
+line-is true r e = e
+line-is false r e = refl
+
+fields-are : (x y z : Field) → is-end (judged x y z) ≡ 0
+unfolding judged
+fields-are x y z = judged-is (isBroken x || isBroken y || isBroken z) (isLarge x || isLarge y || isLarge z) (numberOf x) (numberOf y) (numberOf z)
+
+pub never-end : (l : List ℕ) → is-end (rowOf l) ≡ 0
+unfolding rowOf lineAs
+never-end l = line-is (isWhole 18 l) (judged (fieldOf (take 5 l)) (fieldOf (take 6 (drop 5 l))) (fieldOf (take 6 (drop 11 l)))) (fields-are _ _ _)
+
+-- ---- the lowest fault from line n on
+
+fault-at : (n : ℕ) (ls : List (List ℕ)) (r : Line) → stepAs 5 6 6 ls ≡ r → is-end r ≡ 0 → judgedFrom n ls ≡ faultOr (n + 1) r (judgedFrom (n + 1) (drop 1 ls))
+unfolding stepAs judgedFrom rowOf
+fault-at n [] r e z = zero-one (sym (ap is-end e ∙ z))
+fault-at n (l ∷ ls) r e z = ap (λ (x : Line). faultOr (n + 1) x (judgedFrom (n + 1) ls)) e
+
+fault-none : (n : ℕ) (ls : List (List ℕ)) → stepAs 5 6 6 ls ≡ line.End → judgedFrom n ls ≡ Rows n
+unfolding stepAs judgedFrom rowOf
+fault-none n [] e = refl
+fault-none n (l ∷ ls) e = zero-one (sym (never-end l) ∙ ap is-end e)
+
+-- the first line is 18 bytes, and the other lines start behind it
+pub record Step (s : List ℕ) : Type 0 where
+  pub fits : 18 ≤ length s
+  pub split : linesOf s ≡ firstLine s ∷ linesOf (drop 18 s)
+
+whole-step : (s : List ℕ) → isWhole 18 (firstLine s) ≡ true → Step s
+whole-step s e =
+    let f : 18 ≤ length s = whole-fits s 18 e in
+    record {
+      fits = f;
+      split = lines-first s (omega arith) ∙ ap (λ (k : ℕ). firstLine s ∷ linesOf (drop k s)) (whole-size 18 (firstLine s) e);
+    }
+
+no-row : {A : Type 0} (d a b : ℕ) → line.BadLength ≡ line.Row d a b → A
+no-row d a b e = zero-one (cc)
+
+no-end-row : {A : Type 0} (d a b : ℕ) → line.End ≡ line.Row d a b → A
+no-end-row d a b e = zero-one (cc)
+
+row-step : (s : List ℕ) (d a b : ℕ) → stepAs 5 6 6 (linesOf s) ≡ line.Row d a b → Step s
+row-step [] d a b e = no-end-row d a b (sym (step-none 5 6 6 [] refl) ∙ e)
+row-step (x ∷ xs) d a b e =
+    ⊎-elim (λ t. whole-step (x ∷ xs) t) (λ t. no-row d a b (sym (step-short 5 6 6 (x ∷ xs) (omega arith) t) ∙ e))
+    (look (isWhole 18 (firstLine (x ∷ xs))))
+
+module _ (text : List ℕ) (n : ℕ) {r : Line} {found : TableRead} (so : judgedFrom n (linesOf (drop (18 * n) text)) ≡ found) (is : r ≡ stepAt text n) where
+  pub at-end : r ≡ line.End → Rows n ≡ found
+  unfolding stepAt
+  at-end e = sym (fault-none n _ (sym is ∙ e)) ∙ so
+
+  pub at-fault : (f : Line) → r ≡ f → is-end f ≡ 0 → faultOr (n + 1) f (judgedFrom (n + 1) (drop 1 (linesOf (drop (18 * n) text)))) ≡ found
+  unfolding stepAt
+  at-fault f e z = sym (fault-at n _ f (sym is ∙ e) z) ∙ so
+
+  pub at-row : (d a b : ℕ) → r ≡ line.Row d a b → (18 * (n + 1) ≤ length text) × (judgedFrom (n + 1) (linesOf (drop (18 * (n + 1)) text)) ≡ found)
+  unfolding stepAt
+  at-row d a b e =
+      let st : Step (drop (18 * n) text) = row-step (drop (18 * n) text) d a b (sym is ∙ e) in (
+        omega (arith, length-drop (18 * n) text),
+        ap (λ (s : List ℕ). judgedFrom (n + 1) (linesOf s)) (sym (next-start text n))
+            ∙ ap (λ (ls : List (List ℕ)). judgedFrom (n + 1) (drop 1 ls)) (sym (st .split)) ∙ at-fault (line.Row d a b) e refl,
+      )
+
+-- ---- a text of rows alone
+
+no-rows : {A : Type 0} (n c : ℕ) → LineLength n ≡ Rows c → A
+no-rows n c e = zero-one (cc)
+
+passes : (n c : ℕ) (r : Line) (later : TableRead) → faultOr n r later ≡ Rows c → later ≡ Rows c
+passes n c (line.Row d a b) later e = e
+passes n c line.End later e = e
+passes n c line.BadLength later e = no-rows n c e
+passes n c line.BadField later e = zero-one (cc)
+passes n c line.LargeNumber later e = zero-one (cc)
+
+row-whole : (n c : ℕ) (l : List ℕ) (later : TableRead) → faultOr n (rowOf l) later ≡ Rows c → isWhole 18 l ≡ true
+unfolding rowOf lineAs
+row-whole n c l later e =
+    ⊎-elim (λ t. t) (λ t. no-rows n c (ap (λ (x : Line). faultOr n x later) (sym (pick-false _ _ _ t)) ∙ e)) (look (isWhole 18 l))
+
+pub rows-count : (n c : ℕ) (ls : List (List ℕ)) → judgedFrom n ls ≡ Rows c → c ≡ n + length ls
+unfolding judgedFrom
+rows-count n c [] e = let q : n ≡ c = cc in omega arith
+rows-count n c (l ∷ ls) e = omega (arith, rows-count (n + 1) c ls (passes (n + 1) c (rowOf l) (judgedFrom (n + 1) ls) e))
+
+-- a line that is no row's length refuses
+rows-whole : (n c : ℕ) (ls : List (List ℕ)) → judgedFrom n ls ≡ Rows c → (i : ℕ) → i < length ls → isWhole 18 (getD ls i []) ≡ true
+unfolding judgedFrom
+rows-whole n c [] e i h = absurd (not-suc-le-zero h)
+rows-whole n c (l ∷ ls) e zero h = row-whole (n + 1) c l (judgedFrom (n + 1) ls) e
+rows-whole n c (l ∷ ls) e (suc i) h =
+    rows-whole (n + 1) c ls (passes (n + 1) c (rowOf l) (judgedFrom (n + 1) ls) e) i (le-of-suc-le-suc h)
+
+no-bytes : rowOf [] ≡ line.BadLength
+unfolding rowOf lineAs isWhole
+no-bytes = refl
+
+module _ (text : List ℕ) (c : ℕ) (so : judgedFrom 0 (linesOf text) ≡ Rows c) where
+  pub found-at : (i : ℕ) → i < c → stepAt text i ≡ rowOf (getD (linesOf text) i [])
+  unfolding stepAs rowOf
+  found-at i h =
+      let k : i < length (linesOf text) = omega (arith, rows-count 0 c (linesOf text) so) in
+      step-from text i (omega arith) (λ j q. rows-whole 0 c (linesOf text) so j (omega arith))
+      ∙ ap (stepAs 5 6 6) (drop-cons (linesOf text) i [] k)
+
+  -- a column of the text's rows, as the lines found give it
+  pub column-at : (f : Line → ℕ) → f line.BadLength ≡ 0 → (i : ℕ) → i < c → getD (map (λ (l : List ℕ). f (rowOf l)) (linesOf text)) i 0 ≡ f (stepAt text i)
+  column-at f z i h =
+      ap (getD (map (λ (l : List ℕ). f (rowOf l)) (linesOf text)) i) (sym (ap f no-bytes ∙ z))
+      ∙ List·getD-map (λ (l : List ℕ). f (rowOf l)) (linesOf text) i [] ∙ ap f (sym (found-at i h))
+
+  pub column-length : (f : Line → ℕ) → length (map (λ (l : List ℕ). f (rowOf l)) (linesOf text)) ≡ c
+  column-length f = length-map (linesOf text) (λ (l : List ℕ). f (rowOf l)) ∙ omega (arith, rows-count 0 c (linesOf text) so)
+
+pub cell : (text : List ℕ) (c : ℕ) → judgedFrom 0 (linesOf text) ≡ Rows c → (f : Line → ℕ) → f line.BadLength ≡ 0 → (i : ℕ) → i < c → {r : Line} {x : ℕ}
+    → r ≡ stepAt text i → x ≡ f r → x ≡ getD (map (λ (l : List ℕ). f (rowOf l)) (linesOf text)) i 0
+cell text c so f z i h e q = q ∙ ap f e ∙ sym (column-at text c so f z i h)
+
+-- ---- the reader's answer, by the code's cases
+
+module _ (text : List ℕ) (d f s : ℕ) {r : TableRead} (is : r ≡ judgedFrom 0 (linesOf text)) where
+  pub answer : {j : TableRead} → r ≡ j → roomFor (min d (min f s)) j ≡ tableReadOf text d f s
+  unfolding tableReadOf
+  answer e = ap (roomFor (min d (min f s))) (sym e ∙ is)
+
+  pub short : {n room : ℕ} → r ≡ Rows n → room ≡ min d (min f s) → room < n → Room ≡ tableReadOf text d f s
+  short {n} {room} e q h = sym (pick-false _ _ _ (lt-leb n (min d (min f s)) (rw (q) at h))) ∙ answer e
+
+  pub enough : {n room : ℕ} → r ≡ Rows n → room ≡ min d (min f s) → n ≤ room → Rows n ≡ tableReadOf text d f s
+  enough {n} {room} e q h = sym (pick-true _ _ _ (le-leb n (min d (min f s)) (rw (q) at h))) ∙ answer e

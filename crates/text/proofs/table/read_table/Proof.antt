@@ -1,0 +1,108 @@
+-- `text::table::read_table` meets its contract: one law for each way out; the columns are written only where all is judged.
+-- Assumes nothing.
+use mathlib.Core.Path.{refl, sym, _∙_}
+use native.Mathlib.Omega.{arith}
+use lib.ListN.{length}
+use borrow.Author.Needs.{needs}
+use Rattle.text.proofs.TableLaws.{answer, short, enough}
+use Rattle.text.proofs.table.read_table.Statement.{statement}
+use Rattle.text.proofs.table.read_table.Tie as tie
+
+check-lines-requires : tie.Need-check-lines-requires
+check-lines-requires c κs = tt
+
+enum-known-judged : tie.Need-enum-known-judged
+enum-known-judged c = search needs
+
+returns : tie.Need-returns
+returns c =
+    let a = c .before .before .before .before .before .before .before .before .args in
+    let check-lines = c .before .before .before .check-lines in
+    (answer (a .text .now) (length (a .days .now)) (length (a .first .now)) (length (a .second .now)) (check-lines .ensures) (c .before .judged .given .1), (refl, (refl, refl)))
+
+enum-known-judged-2 : tie.Need-enum-known-judged-2
+enum-known-judged-2 c = search needs
+
+returns-2 : tie.Need-returns-2
+returns-2 c =
+    let a = c .before .before .before .before .before .before .before .before .args in
+    let check-lines = c .before .before .before .check-lines in
+    (answer (a .text .now) (length (a .days .now)) (length (a .first .now)) (length (a .second .now)) (check-lines .ensures) (c .before .judged2 .given .1), (refl, (refl, refl)))
+
+enum-known-judged-3 : tie.Need-enum-known-judged-3
+enum-known-judged-3 c = search needs
+
+returns-3 : tie.Need-returns-3
+returns-3 c =
+    let a = c .before .before .before .before .before .before .before .before .args in
+    let check-lines = c .before .before .before .check-lines in
+    (answer (a .text .now) (length (a .days .now)) (length (a .first .now)) (length (a .second .now)) (check-lines .ensures) (c .before .judged3 .given .1), (refl, (refl, refl)))
+
+enum-told : tie.Need-enum-told
+enum-told c = search needs
+
+returns-4 : tie.Need-returns-4
+returns-4 c =
+    let a = c .before .before .before .before .before .before .before .args in
+    let check-lines = c .before .before .check-lines in
+    (answer (a .text .now) (length (a .days .now)) (length (a .first .now)) (length (a .second .now)) (check-lines .ensures) (c .enum-told .given .1), (refl, (refl, refl)))
+
+enum-known-judged-4 : tie.Need-enum-known-judged-4
+enum-known-judged-4 c = search needs
+
+least-requires : tie.Need-least-requires
+least-requires c κs = tt
+
+returns-5 : tie.Need-returns-5
+returns-5 c =
+    let a = c .before .before .before .before .before .before .before .before .before .before .args in
+    let check-lines = c .before .before .before .before .before .check-lines in
+    let judged4 = c .before .before .before .judged4 in
+    (short (a .text .now) (length (a .days .now)) (length (a .first .now)) (length (a .second .now)) (check-lines .ensures) (judged4 .given .1) (c .before .least .ensures) (c .if1 .taken), (refl, (refl, refl)))
+
+write-rows-requires : tie.Need-write-rows-requires
+write-rows-requires c κs =
+    let check-lines = c .before .before .before .before .before .before .before .before .check-lines in
+    let judged4 = c .before .before .before .before .before .before .judged4 in
+    (sym (check-lines .ensures) ∙ judged4 .given .1, omega arith)
+
+same-length : tie.Need-same-length
+same-length c = search needs
+
+same-length-2 : tie.Need-same-length-2
+same-length-2 c = search needs
+
+same-length-3 : tie.Need-same-length-3
+same-length-3 c = search needs
+
+returns-6 : tie.Need-returns-6
+returns-6 c =
+    let a = c .before .before .before .before .before .before .before .before .before .before .before .before .before .before .before .before .before .before .before .before .args in
+    let check-lines = c .before .before .before .before .before .before .before .before .before .before .before .before .before .before .before .check-lines in
+    let judged4 = c .before .before .before .before .before .before .before .before .before .before .before .before .before .judged4 in
+    let least = c .before .before .before .before .before .before .before .before .before .before .before .least in
+    let if1 = c .before .before .before .before .before .before .before .before .before .before .if1 in
+    let write-rows = c .before .before .before .before .before .before .write-rows in
+    (enough (a .text .now) (length (a .days .now)) (length (a .first .now)) (length (a .second .now)) (check-lines .ensures) (judged4 .given .1) (least .ensures) (if1 .left), write-rows .ensures)
+
+pub read-table-spec : {M : Type 1} → statement M
+read-table-spec =
+    tie.close
+    (tie.spec
+    check-lines-requires
+    enum-known-judged
+    returns
+    enum-known-judged-2
+    returns-2
+    enum-known-judged-3
+    returns-3
+    enum-told
+    returns-4
+    enum-known-judged-4
+    least-requires
+    returns-5
+    write-rows-requires
+    same-length
+    same-length-2
+    same-length-3
+    returns-6)

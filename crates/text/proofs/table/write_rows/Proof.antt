@@ -1,0 +1,122 @@
+-- `text::table::write_rows` meets its contract: the first i places of each column hold the text's; every line is a row, so the reader finds it in its place.
+-- Assumes nothing.
+use Prim.Native.Nat.{_-_}
+use mathlib.Core.Path.{refl, _∙_}
+use native.Mathlib.Omega.{arith}
+use Rattle.text.specs.Table.{dayOf, firstOf, secondOf, daysOf, firstsOf, secondsOf}
+use Rattle.text.proofs.PasteLaws.{Pasting, pasting-none, pasting-more, pasting-all, pasted-start}
+use Rattle.text.proofs.TableLaws.{cell, column-length}
+use Rattle.text.proofs.table.write_rows.Statement.{statement}
+use Rattle.text.proofs.table.write_rows.Tie as tie
+
+abbrev Inv-loop : tie.InvT-loop
+Inv-loop text days₀ first₀ second₀ count i₀ days first second i =
+    Pasting (daysOf text) days₀ days 0 count i × Pasting (firstsOf text) first₀ first 0 count i × Pasting (secondsOf text) second₀ second 0 count i
+
+abbrev μ-loop : tie.MeasureT-loop
+μ-loop text days₀ first₀ second₀ count i₀ days first second i = count - i
+
+loop-holds : tie.Need-loop-holds Inv-loop μ-loop
+unfolding daysOf firstsOf secondsOf
+loop-holds c =
+    let a = c .before .before .before .before .args in
+    let pre = c .before .before .before .before .pre in (
+      pasting-none _ _ _ _ (column-length (a .text .now) (a .count) (pre .0) dayOf) (omega arith),
+      pasting-none _ _ _ _ (column-length (a .text .now) (a .count) (pre .0) firstOf) (omega arith),
+      pasting-none _ _ _ _ (column-length (a .text .now) (a .count) (pre .0) secondOf) (omega arith),
+    )
+
+line-at-requires : tie.Need-line-at-requires Inv-loop μ-loop
+line-at-requires c κs = tt
+
+day-of-requires : tie.Need-day-of-requires Inv-loop μ-loop
+day-of-requires c κs = tt
+
+mul-days : tie.Need-mul-days Inv-loop μ-loop
+mul-days c = omega arith
+
+slice-write-days : tie.Need-slice-write-days Inv-loop μ-loop
+slice-write-days c = omega arith
+
+first-of-requires : tie.Need-first-of-requires Inv-loop μ-loop
+first-of-requires c κs = tt
+
+mul-first : tie.Need-mul-first Inv-loop μ-loop
+mul-first c = omega arith
+
+slice-write-first : tie.Need-slice-write-first Inv-loop μ-loop
+slice-write-first c = omega arith
+
+second-of-requires : tie.Need-second-of-requires Inv-loop μ-loop
+second-of-requires c κs = tt
+
+mul-second : tie.Need-mul-second Inv-loop μ-loop
+mul-second c = omega arith
+
+slice-write-second : tie.Need-slice-write-second Inv-loop μ-loop
+slice-write-second c = omega arith
+
+add-i : tie.Need-add-i Inv-loop μ-loop
+add-i c = omega arith
+
+loop-less : tie.Need-loop-less Inv-loop μ-loop
+loop-less c = omega arith
+
+loop-again : tie.Need-loop-again Inv-loop μ-loop
+unfolding daysOf firstsOf secondsOf
+loop-again c =
+    let a = c .before .before .before .before .before .before .before .before .before .before .args in
+    let pre = c .before .before .before .before .before .before .before .before .before .before .pre in
+    let l = c .before .before .before .before .before .loop in
+    let test = c .before .before .before .before .loop-test in
+    let line-at = c .before .before .before .line-at in
+    let day-of = c .before .before .day-of in (
+      pasting-more _ _ (l .inv .0) (test .taken) (omega arith) (cell (a .text .now) (a .count) (pre .0) dayOf refl (l .i) (test .taken) (line-at .ensures) (day-of .ensures)),
+      pasting-more _ _ (l .inv .1) (test .taken) (omega arith) (cell (a .text .now) (a .count) (pre .0) firstOf refl (l .i) (test .taken) (line-at .ensures) (c .before .first-of .ensures)),
+      pasting-more _ _ (l .inv .2) (test .taken) (omega arith) (cell (a .text .now) (a .count) (pre .0) secondOf refl (l .i) (test .taken) (line-at .ensures) (c .second-of .ensures)),
+    )
+
+same-length : tie.Need-same-length Inv-loop μ-loop
+same-length c = c .before .loop .inv .0 .long
+
+same-length-2 : tie.Need-same-length-2 Inv-loop μ-loop
+same-length-2 c = c .before .loop .inv .1 .long
+
+same-length-3 : tie.Need-same-length-3 Inv-loop μ-loop
+same-length-3 c = c .before .loop .inv .2 .long
+
+returns : tie.Need-returns Inv-loop μ-loop
+returns c =
+    let l = c .before .loop in
+    let test = c .loop-test in (
+      pasting-all (l .inv .0) (test .left) ∙ pasted-start _ _ _ (l .inv .0 .size),
+      (
+        pasting-all (l .inv .1) (test .left) ∙ pasted-start _ _ _ (l .inv .1 .size),
+        pasting-all (l .inv .2) (test .left) ∙ pasted-start _ _ _ (l .inv .2 .size),
+      ),
+    )
+
+pub write-rows-spec : {M : Type 1} → statement M
+write-rows-spec =
+    tie.close
+    (tie.spec
+    Inv-loop
+    μ-loop
+    loop-holds
+    line-at-requires
+    day-of-requires
+    mul-days
+    slice-write-days
+    first-of-requires
+    mul-first
+    slice-write-first
+    second-of-requires
+    mul-second
+    slice-write-second
+    add-i
+    loop-less
+    loop-again
+    same-length
+    same-length-2
+    same-length-3
+    returns)

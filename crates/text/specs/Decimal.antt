@@ -1,0 +1,78 @@
+-- What a decimal field holds. 01, Reader: "A field is a decimal number, right-justified, blanks (byte 32) before it, no needless leading zero".
+--
+--   unblank      a field without the blanks before its number
+--   isDigit      a byte is one of 0 to 9
+--   allDigits    every byte is a digit
+--   leadsWell    no needless leading zero
+--   isNumeral    a decimal number: digits, at least one, no needless leading zero
+--   value        the number that digits stand for, by place values
+--   numeralUpTo  what a field without its blanks holds, where numbers end at a limit
+--   fieldUpTo    what a field holds, where numbers end at a limit
+--   fieldOf      what a field of this crate holds: numbers end at 65,535
+--   isBroken     a field is broken (12)
+--   isLarge      a field's number is above the limit (13)
+--   numberOf     a field's number, 0 where it has none
+-- Assumes nothing.
+use Prim.Native.Nat.{ℕ, _+_, _-_, _*_, _^_}
+use mathlib.Core.Bool.{Bool, true, false, not, cond, _&&_}
+use mathlib.Core.List.{List, [], _∷_}
+use lib.Dec.{leb, ltb, eqb}
+use lib.ListN.{length, getD}
+use Rattle.text.specs.declared.decimal.Field.{Field}
+use Rattle.text.specs.declared.decimal.Field.the-variants.{Number, Large, Broken}
+
+-- "blanks (byte 32) before it"
+unfoldable pub unblank : List ℕ → List ℕ
+unblank [] = []
+unblank (b ∷ bs) = cond (eqb b 32) (unblank bs) (b ∷ bs)
+
+-- "a decimal number": bytes 48 to 57 are the digits 0 to 9
+unfoldable pub isDigit : ℕ → Bool
+isDigit b = leb 48 b && leb b 57
+
+unfoldable pub allDigits : List ℕ → Bool
+allDigits [] = true
+allDigits (b ∷ bs) = isDigit b && allDigits bs
+
+-- "no needless leading zero": a first digit 0 stands alone
+unfoldable pub leadsWell : List ℕ → Bool
+leadsWell ds = not (ltb 1 (length ds) && eqb (getD ds 0 0) 48)
+
+-- "a decimal number .. no needless leading zero"; no digit at all, as in an all-blank field, is none
+unfoldable pub isNumeral : List ℕ → Bool
+isNumeral ds = ltb 0 (length ds) && (leadsWell ds && allDigits ds)
+
+-- "place values": each digit times 10 to the number of digits behind it
+unfoldable pub value : List ℕ → ℕ
+value [] = 0
+value (b ∷ bs) = (b - 48) * 10 ^ length bs + value bs
+
+-- "12: a broken field, an all-blank one included; 13: a number above 65,535 (12 before 13)"
+unfoldable pub numeralUpTo : ℕ → List ℕ → Field
+numeralUpTo limit ds = cond (isNumeral ds) (cond (leb (value ds) limit) (Number (value ds)) Large) Broken
+
+-- "right-justified, blanks (byte 32) before it": what stands behind the blanks is the number
+unfoldable pub fieldUpTo : ℕ → List ℕ → Field
+fieldUpTo limit f = numeralUpTo limit (unblank f)
+
+-- "13: a number above 65,535"
+unfoldable pub fieldOf : List ℕ → Field
+fieldOf f = fieldUpTo 65535 f
+
+-- "12: a broken field"
+abbrev pub isBroken : Field → Bool
+isBroken (Number n) = false
+isBroken Large = false
+isBroken Broken = true
+
+-- "13: a number above 65,535"
+abbrev pub isLarge : Field → Bool
+isLarge (Number n) = false
+isLarge Large = true
+isLarge Broken = false
+
+-- the number of a field that has one
+abbrev pub numberOf : Field → ℕ
+numberOf (Number n) = n
+numberOf Large = 0
+numberOf Broken = 0

@@ -1,0 +1,107 @@
+-- Lines of a text, and what a line holds. 01, Reader: "a line ends with byte 10 or with the text. Each must be 18 bytes: day in 5 columns, accounts in 6 and 6, then byte 10".
+--
+--   prepend      a byte put in front of the first line, or a line of its own where there is none
+--   linesOf      the lines of a text, each with its byte 10
+--   firstLine    the first line of a text; empty where the text is
+--   isWhole      a line is so many bytes, the last of them byte 10
+--   judged       a line's answer from its three fields
+--   lineAs       what a line holds, with three fields of given widths
+--   stepAs       what the first of some lines holds, or that there is none
+--   rowOf        what a line of a table holds
+--   stepAt       what the line reader finds at a line
+--   queryFrom    the answer for a query line
+--   queryOf      what the query line of a text holds
+--   lineNumber   01's refusal number of what a line holds
+--   queryNumber queryPlace   01's refusal number and place of a query line
+-- Assumes nothing.
+use Prim.Native.Nat.{ℕ, _+_, _-_, _*_}
+use mathlib.Core.Bool.{Bool, cond, _&&_, _||_}
+use mathlib.Core.List.{List, [], _∷_}
+use lib.Dec.{eqb}
+use lib.ListN.{length, getD, take, drop}
+use Rattle.text.specs.Decimal.{fieldOf, isBroken, isLarge, numberOf}
+use Rattle.text.specs.declared.decimal.Field.{Field}
+use Rattle.text.specs.declared.lines.Line.{Line}
+use Rattle.text.specs.declared.lines.Line.the-variants.{Row, End, BadLength, BadField, LargeNumber}
+use Rattle.text.specs.declared.lines.QueryRead.{QueryRead}
+use Rattle.text.specs.declared.lines.QueryRead.the-variants as query
+
+-- a byte that ends no line stands in the line of the bytes behind it
+unfoldable pub prepend : ℕ → List (List ℕ) → List (List ℕ)
+prepend b [] = (b ∷ []) ∷ []
+prepend b (l ∷ ls) = (b ∷ l) ∷ ls
+
+-- "a line ends with byte 10 or with the text": the text is split after each byte 10, and what is left behind the last one is a line too.
+-- There is no empty line after a final byte 10, and a lone byte 10 is a line of one byte
+unfoldable pub linesOf : List ℕ → List (List ℕ)
+linesOf [] = []
+linesOf (b ∷ bs) = let rest = linesOf bs in cond (eqb b 10) ((b ∷ []) ∷ rest) (prepend b rest)
+
+-- "It reads the query line first"
+unfoldable pub firstLine : List ℕ → List ℕ
+firstLine text = getD (linesOf text) 0 []
+
+-- "18 bytes with its end"
+unfoldable pub isWhole : ℕ → List ℕ → Bool
+isWhole size l = eqb (length l) size && eqb (getD l (size - 1) 0) 10
+
+-- "12: a broken field, an all-blank one included; 13: a number above 65,535 (12 before 13)", over the fields of one line
+unfoldable pub judged : Field → Field → Field → Line
+judged x y z =
+    cond (isBroken x || isBroken y || isBroken z) BadField
+    (cond (isLarge x || isLarge y || isLarge z) LargeNumber
+    (Row (numberOf x) (numberOf y) (numberOf z)))
+
+-- "11: not 18 bytes with its end" comes first; the three fields have a, b and c columns
+unfoldable pub lineAs : ℕ → ℕ → ℕ → List ℕ → Line
+lineAs a b c l =
+    cond (isWhole (a + b + c + 1) l)
+    (judged (fieldOf (take a l)) (fieldOf (take b (drop a l))) (fieldOf (take c (drop (a + b) l))))
+    BadLength
+
+-- what a reader finds where these lines are left; "Empty text gives 0 rows"
+unfoldable pub stepAs : ℕ → ℕ → ℕ → List (List ℕ) → Line
+stepAs a b c [] = End
+stepAs a b c (l ∷ ls) = lineAs a b c l
+
+-- "day in 5 columns, accounts in 6 and 6, then byte 10"
+unfoldable pub rowOf : List ℕ → Line
+rowOf l = lineAs 5 6 6 l
+
+-- "The line reader keeps the text and the line reached": where each line before line n, counted from 0, is 18 bytes, line n starts at byte 18 n
+unfoldable pub stepAt : List ℕ → ℕ → Line
+stepAt text n = stepAs 5 6 6 (linesOf (drop (18 * n) text))
+
+-- a query line is judged as a line is; "11 when input is empty"
+abbrev pub queryFrom : Line → QueryRead
+queryFrom (Row k from to) = query.Query k from to
+queryFrom End = query.BadLength
+queryFrom BadLength = query.BadLength
+queryFrom BadField = query.BadField
+queryFrom LargeNumber = query.LargeNumber
+
+-- 01, listing program: "a query line of 16 bytes (k, Ts, Te, 5 columns each, byte 10)"
+unfoldable pub queryOf : List ℕ → QueryRead
+queryOf text = queryFrom (stepAs 5 5 5 (linesOf text))
+
+-- "11: not 18 bytes with its end; 12: a broken field ..; 13: a number above 65,535"; 0 for none
+abbrev pub lineNumber : Line → ℕ
+lineNumber (Row day first second) = 0
+lineNumber End = 0
+lineNumber BadLength = 11
+lineNumber BadField = 12
+lineNumber LargeNumber = 13
+
+-- "It reads the query line first (11, 12, 13 at line 1; 11 when input is empty)"
+abbrev pub queryNumber : QueryRead → ℕ
+queryNumber (query.Query k from to) = 0
+queryNumber query.BadLength = 11
+queryNumber query.BadField = 12
+queryNumber query.LargeNumber = 13
+
+-- "at line 1"
+abbrev pub queryPlace : QueryRead → ℕ
+queryPlace (query.Query k from to) = 0
+queryPlace query.BadLength = 1
+queryPlace query.BadField = 1
+queryPlace query.LargeNumber = 1

@@ -1,0 +1,110 @@
+-- What reading a table's text gives. 01, Reader: "The lowest faulty line refuses, 11: not 18 bytes with its end; 12: a broken field, an all-blank one included; 13: a number above 65,535 (12 before 13). Then 10: fewer places than lines in any column. Unused places keep their contents."
+--
+--   dayOf firstOf secondOf        the numbers of a row; 0 where there is none
+--   daysOf firstsOf secondsOf     the columns of a text's rows
+--   faultOr      a faulty line's refusal, or what the later lines give
+--   judgedFrom   the lowest fault of some lines, or how many there are
+--   roomFor      10 where the lines are more than the places
+--   tableReadOf  the reader's answer
+--   filled       what a column holds afterwards
+--   number place count            01's refusal number, its place, and the rows read, of each answer
+-- Assumes nothing.
+use Prim.Native.Nat.{ℕ, _+_, min}
+use mathlib.Core.Bool.{cond}
+use mathlib.Core.List.{List, [], _∷_, _++_, map}
+use lib.Dec.{leb}
+use lib.ListN.{drop}
+use Rattle.text.specs.Line.{linesOf, rowOf}
+use Rattle.text.specs.declared.lines.Line.{Line}
+use Rattle.text.specs.declared.lines.Line.the-variants as line
+use Rattle.text.specs.declared.table.TableRead.{TableRead}
+use Rattle.text.specs.declared.table.TableRead.the-variants.{Rows, LineLength, BrokenField, LargeNumber, Room}
+
+-- "A row is one payment: a day .. and two accounts"
+abbrev pub dayOf : Line → ℕ
+dayOf (line.Row day first second) = day
+dayOf line.End = 0
+dayOf line.BadLength = 0
+dayOf line.BadField = 0
+dayOf line.LargeNumber = 0
+
+abbrev pub firstOf : Line → ℕ
+firstOf (line.Row day first second) = first
+firstOf line.End = 0
+firstOf line.BadLength = 0
+firstOf line.BadField = 0
+firstOf line.LargeNumber = 0
+
+abbrev pub secondOf : Line → ℕ
+secondOf (line.Row day first second) = second
+secondOf line.End = 0
+secondOf line.BadLength = 0
+secondOf line.BadField = 0
+secondOf line.LargeNumber = 0
+
+-- "A table is three lent columns of 16-bit numbers"
+unfoldable pub daysOf : List ℕ → List ℕ
+daysOf text = map (λ l. dayOf (rowOf l)) (linesOf text)
+
+unfoldable pub firstsOf : List ℕ → List ℕ
+firstsOf text = map (λ l. firstOf (rowOf l)) (linesOf text)
+
+unfoldable pub secondsOf : List ℕ → List ℕ
+secondsOf text = map (λ l. secondOf (rowOf l)) (linesOf text)
+
+-- "a line counted from 1 for 11, 12, 13"
+abbrev pub faultOr : ℕ → Line → TableRead → TableRead
+faultOr n (line.Row day first second) later = later
+faultOr n line.End later = later
+faultOr n line.BadLength later = LineLength n
+faultOr n line.BadField later = BrokenField n
+faultOr n line.LargeNumber later = LargeNumber n
+
+-- "The lowest faulty line refuses"; n lines stand before these. "Empty text gives 0 rows"
+unfoldable pub judgedFrom : ℕ → List (List ℕ) → TableRead
+judgedFrom n [] = Rows n
+judgedFrom n (l ∷ ls) = faultOr (n + 1) (rowOf l) (judgedFrom (n + 1) ls)
+
+-- "Then 10: fewer places than lines in any column"
+abbrev pub roomFor : ℕ → TableRead → TableRead
+roomFor room (Rows n) = cond (leb n room) (Rows n) Room
+roomFor room (LineLength n) = LineLength n
+roomFor room (BrokenField n) = BrokenField n
+roomFor room (LargeNumber n) = LargeNumber n
+roomFor room Room = Room
+
+-- the shortest column decides
+unfoldable pub tableReadOf : List ℕ → ℕ → ℕ → ℕ → TableRead
+tableReadOf text days first second = roomFor (min days (min first second)) (judgedFrom 0 (linesOf text))
+
+-- "Unused places keep their contents"; "Every buffer keeps its contents on a refusal"
+abbrev pub filled : TableRead → List ℕ → List ℕ → List ℕ
+filled (Rows n) values column = values ++ drop n column
+filled (LineLength n) values column = column
+filled (BrokenField n) values column = column
+filled (LargeNumber n) values column = column
+filled Room values column = column
+
+-- "A refusal is a number and a place"; 0 for none
+abbrev pub number : TableRead → ℕ
+number (Rows n) = 0
+number (LineLength n) = 11
+number (BrokenField n) = 12
+number (LargeNumber n) = 13
+number Room = 10
+
+-- "a line counted from 1 for 11, 12, 13; else 0"
+abbrev pub place : TableRead → ℕ
+place (Rows n) = 0
+place (LineLength n) = n
+place (BrokenField n) = n
+place (LargeNumber n) = n
+place Room = 0
+
+-- the rows read
+abbrev pub count : TableRead → ℕ
+count (Rows n) = n
+count (LineLength n) = 0
+count (BrokenField n) = 0
+count (LargeNumber n) = 0
+count Room = 0

@@ -1,0 +1,22 @@
+// Text of tables and listings: fixed decimal fields, lines, the table reader, and printing.
+mod decimal;
+mod lines;
+mod print;
+pub mod reader;
+mod table;
+
+pub use decimal::Field;
+pub use decimal::read_field;
+pub use lines::Line;
+pub use lines::QueryRead;
+pub use lines::read_query;
+pub use lines::step_at;
+pub use print::Put;
+pub use print::put_field;
+pub use print::put_header;
+pub use print::put_line;
+pub use print::put_refused;
+pub use reader::LineReader;
+pub use reader::line_at;
+pub use table::TableRead;
+pub use table::read_table;

@@ -1,0 +1,142 @@
+// Lines: the judgement of one line, and the line reader, which keeps the text and the line reached.
+ghost use mathlib.Core.Path.{_≡_};
+ghost use Prim.Native.Nat.{_+_, _<_, _^_};
+ghost use Rattle.text.specs.Decimal.{isBroken, isLarge, numberOf};
+ghost use Rattle.text.specs.Line.{linesOf, firstLine, isWhole, judged, stepAs, stepAt, queryOf};
+use crate::decimal::Field;
+use crate::decimal::read_field;
+
+// What stands at a line: its row, the text's end, or the line's first fault.
+pub enum Line {
+    Row(u16, u16, u16),
+    End,
+    BadLength,
+    BadField,
+    LargeNumber,
+}
+
+// What a query line holds.
+pub enum QueryRead {
+    Query(u16, u16, u16),
+    BadLength,
+    BadField,
+    LargeNumber,
+}
+
+fn is_broken(f: Field) -> bool
+    ensures { λ r. ⌜ r ≡ isBroken f ⌝ }
+{
+    match f {
+        Field::Broken => true,
+        Field::Large => false,
+        Field::Number(_) => false,
+    }
+}
+
+fn is_large(f: Field) -> bool
+    ensures { λ r. ⌜ r ≡ isLarge f ⌝ }
+{
+    match f {
+        Field::Broken => false,
+        Field::Large => true,
+        Field::Number(_) => false,
+    }
+}
+
+fn number_of(f: Field) -> u16
+    ensures { λ r. ⌜ r ≡ numberOf f ⌝ }
+{
+    match f {
+        Field::Broken => 0,
+        Field::Large => 0,
+        Field::Number(n) => n,
+    }
+}
+
+// A broken field in the line comes before a large one.
+fn judge(x: Field, y: Field, z: Field) -> Line
+    ensures { λ r. ⌜ r ≡ judged x y z ⌝ }
+{
+    if is_broken(x) {
+        return Line::BadField;
+    }
+    if is_broken(y) {
+        return Line::BadField;
+    }
+    if is_broken(z) {
+        return Line::BadField;
+    }
+    if is_large(x) {
+        return Line::LargeNumber;
+    }
+    if is_large(y) {
+        return Line::LargeNumber;
+    }
+    if is_large(z) {
+        return Line::LargeNumber;
+    }
+    Line::Row(number_of(x), number_of(y), number_of(z))
+}
+
+// The first line of s is `width` bytes, the last of which is its byte 10.
+fn is_whole(s: &[u8], width: usize) -> bool
+    requires { ⌜ 0 < width ⌝ }
+    ensures { λ r. ⌜ r ≡ isWhole width (firstLine (now (s .entry))) ⌝ }
+{
+    if s.len() < width {
+        return false;
+    }
+    let last = width - 1;
+    let mut i: usize = 0;
+    while i < last {
+        if s[i] == 10 {
+            return false;
+        }
+        i += 1;
+    }
+    s[last] == 10
+}
+
+// The first line of s, with three fields of a, b and c columns.
+fn first_as(s: &[u8], a: usize, b: usize, c: usize) -> Line
+    requires { ⌜ a + b + c < 2 ^ 16 ⌝ }
+    ensures { λ r. ⌜ r ≡ stepAs a b c (linesOf (now (s .entry))) ⌝ }
+{
+    if s.len() == 0 {
+        return Line::End;
+    }
+    let y = a + b;
+    let z = y + c;
+    if !is_whole(s, z + 1) {
+        return Line::BadLength;
+    }
+    judge(
+        read_field(&s[0..a]),
+        read_field(&s[a..y]),
+        read_field(&s[y..z]),
+    )
+}
+
+// Line `line` of a table's text, counted from 0, where each line before it is 18 bytes.
+pub fn step_at(text: &[u8], line: usize) -> Line
+    ensures { λ r. ⌜ r ≡ stepAt (now (text .entry)) line ⌝ }
+{
+    if text.len() / 18 < line {
+        return Line::End;
+    }
+    let at = 18 * line;
+    first_as(&text[at..], 5, 6, 6)
+}
+
+// The query line: the first line of the program's input.
+pub fn read_query(text: &[u8]) -> QueryRead
+    ensures { λ r. ⌜ r ≡ queryOf (now (text .entry)) ⌝ }
+{
+    match first_as(text, 5, 5, 5) {
+        Line::Row(k, from, to) => QueryRead::Query(k, from, to),
+        Line::End => QueryRead::BadLength,
+        Line::BadLength => QueryRead::BadLength,
+        Line::BadField => QueryRead::BadField,
+        Line::LargeNumber => QueryRead::LargeNumber,
+    }
+}

@@ -1,0 +1,150 @@
+// Printing into a lent slice. A call writes all of its bytes or none, and keeps every byte around them.
+ghost use mathlib.Core.Path.{_≡_};
+ghost use Prim.Native.Nat.{_+_, _≤_};
+ghost use lib.ListN.{length};
+ghost use lib.Dec.{leb};
+ghost use Rattle.text.specs.Print.{columnOf, printed, fits, pasted, putOf, fieldPut, written, header, listingLine, refusedLine};
+use crate::decimal::place;
+
+// The position after what was written, or that nothing was.
+pub enum Put {
+    Wrote(usize),
+    NoRoom,
+}
+
+// What stands in the column of place k of a printed number.
+fn column(k: usize, n: u16) -> u8
+    ensures { λ r. ⌜ r ≡ columnOf k n ⌝ }
+{
+    if k == 0 {
+        return 48 + (n % 10) as u8;
+    }
+    if 5 <= k {
+        return 32;
+    }
+    let value = place(k);
+    let whole = n as u64;
+    if whole < value {
+        return 32;
+    }
+    48 + (whole / value % 10) as u8
+}
+
+// A number fits a field: there is a column, and no digit is lost.
+fn fits_in(width: usize, n: u16) -> bool
+    ensures { λ r. ⌜ r ≡ fits width n ⌝ }
+{
+    if width == 0 {
+        return false;
+    }
+    if 5 <= width {
+        return true;
+    }
+    (n as u64) < place(width)
+}
+
+// `size` bytes fit from `at` on.
+fn has_room(len: usize, at: usize, size: usize) -> bool
+    ensures { λ r. ⌜ r ≡ leb (at + size) len ⌝ }
+{
+    if len < size {
+        return false;
+    }
+    at <= len - size
+}
+
+fn write_bytes(out: &mut [u8], at: usize, bytes: &[u8]) -> usize
+    requires { ⌜ at + length (now bytes) ≤ length (now out) ⌝ }
+    ensures { λ r. ⌜ (r ≡ at + length (now (bytes .entry))) × (now (out .exit) ≡ pasted (now (out .entry)) at (now (bytes .entry))) ⌝ }
+{
+    let mut j: usize = 0;
+    while j < bytes.len() {
+        out[at + j] = bytes[j];
+        j += 1;
+    }
+    at + j
+}
+
+fn write_field(out: &mut [u8], at: usize, width: usize, n: u16) -> usize
+    requires { ⌜ at + width ≤ length (now out) ⌝ }
+    ensures { λ r. ⌜ (r ≡ at + width) × (now (out .exit) ≡ pasted (now (out .entry)) at (printed width n)) ⌝ }
+{
+    let mut j: usize = 0;
+    while j < width {
+        out[at + j] = column(width - 1 - j, n);
+        j += 1;
+    }
+    at + j
+}
+
+fn write_line(out: &mut [u8], at: usize, start: u16, end: u16, span: u16, rows: u16) -> usize
+    requires { ⌜ at + 22 ≤ length (now out) ⌝ }
+    ensures { λ r. ⌜ (r ≡ at + 22) × (now (out .exit) ≡ pasted (now (out .entry)) at (listingLine start end span rows)) ⌝ }
+{
+    let a = write_field(out, at, 5, start);
+    let b = write_field(out, a, 5, end);
+    let c = write_field(out, b, 5, span);
+    let d = write_field(out, c, 6, rows);
+    write_bytes(out, d, b"\n")
+}
+
+fn write_refused(out: &mut [u8], number: u16, line: u16) -> usize
+    requires { ⌜ 19 ≤ length (now out) ⌝ }
+    ensures { λ r. ⌜ (r ≡ 19) × (now (out .exit) ≡ pasted (now (out .entry)) 0 (refusedLine number line)) ⌝ }
+{
+    let a = write_bytes(out, 0, b"refused");
+    let b = write_field(out, a, 5, number);
+    let c = write_field(out, b, 6, line);
+    write_bytes(out, c, b"\n")
+}
+
+// A number, right-justified in `width` columns.
+pub fn put_field(out: &mut [u8], at: usize, width: usize, n: u16) -> Put
+    ensures { λ r. ⌜ r ≡ fieldPut (now (out .entry)) at width n ⌝ }
+    ensures { λ r. ⌜ now (out .exit) ≡ written r (now (out .entry)) at (printed width n) ⌝ }
+{
+    if !fits_in(width, n) {
+        return Put::NoRoom;
+    }
+    if !has_room(out.len(), at, width) {
+        return Put::NoRoom;
+    }
+    let next = write_field(out, at, width, n);
+    Put::Wrote(next)
+}
+
+// The listing's first line, at the start.
+pub fn put_header(out: &mut [u8]) -> Put
+    ensures { λ r. ⌜ r ≡ putOf (now (out .entry)) 0 header ⌝ }
+    ensures { λ r. ⌜ now (out .exit) ≡ written r (now (out .entry)) 0 header ⌝ }
+{
+    if !has_room(out.len(), 0, 22) {
+        return Put::NoRoom;
+    }
+    let next = write_bytes(out, 0, b"start  end span  rows\n");
+    Put::Wrote(next)
+}
+
+// A line of the listing.
+pub fn put_line(out: &mut [u8], at: usize, start: u16, end: u16, span: u16, rows: u16) -> Put
+    ensures { λ r. ⌜ r ≡ putOf (now (out .entry)) at (listingLine start end span rows) ⌝ }
+    ensures { λ r. ⌜ now (out .exit) ≡ written r (now (out .entry)) at (listingLine start end span rows) ⌝ }
+{
+    if !has_room(out.len(), at, 22) {
+        return Put::NoRoom;
+    }
+    let next = write_line(out, at, start, end, span, rows);
+    Put::Wrote(next)
+}
+
+// The line of a refusal, at the start.
+pub fn put_refused(out: &mut [u8], number: u16, line: u16) -> Put
+    ensures { λ r. ⌜ r ≡ putOf (now (out .entry)) 0 (refusedLine number line) ⌝ }
+    ensures { λ r. ⌜ now (out .exit) ≡ written r (now (out .entry)) 0 (refusedLine number line) ⌝ }
+{
+    if !has_room(out.len(), 0, 19) {
+        return Put::NoRoom;
+    }
+    let next = write_refused(out, number, line);
+    Put::Wrote(next)
+}

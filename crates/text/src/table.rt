@@ -1,0 +1,145 @@
+// The table reader: one pass that judges every line, and a second that writes the columns, so that a refusal leaves them as they were.
+ghost use mathlib.Core.Path.{_≡_};
+ghost use Prim.Native.Nat.{_≤_, min};
+ghost use lib.ListN.{length, drop};
+ghost use mathlib.Core.List.{_++_};
+ghost use Rattle.text.specs.Line.{linesOf};
+ghost use Rattle.text.specs.Table.{dayOf, firstOf, secondOf, daysOf, firstsOf, secondsOf, judgedFrom, tableReadOf, filled};
+use crate::lines::Line;
+use crate::reader::line_at;
+
+// The rows read, or the refusal. A line is counted from 1.
+pub enum TableRead {
+    Rows(usize),
+    LineLength(usize),
+    BrokenField(usize),
+    LargeNumber(usize),
+    Room,
+}
+
+fn day_of(l: Line) -> u16
+    ensures { λ r. ⌜ r ≡ dayOf l ⌝ }
+{
+    match l {
+        Line::Row(day, _, _) => day,
+        Line::End => 0,
+        Line::BadLength => 0,
+        Line::BadField => 0,
+        Line::LargeNumber => 0,
+    }
+}
+
+fn first_of(l: Line) -> u16
+    ensures { λ r. ⌜ r ≡ firstOf l ⌝ }
+{
+    match l {
+        Line::Row(_, first, _) => first,
+        Line::End => 0,
+        Line::BadLength => 0,
+        Line::BadField => 0,
+        Line::LargeNumber => 0,
+    }
+}
+
+fn second_of(l: Line) -> u16
+    ensures { λ r. ⌜ r ≡ secondOf l ⌝ }
+{
+    match l {
+        Line::Row(_, _, second) => second,
+        Line::End => 0,
+        Line::BadLength => 0,
+        Line::BadField => 0,
+        Line::LargeNumber => 0,
+    }
+}
+
+// The lowest faulty line, or the number of lines.
+fn check_lines(text: &[u8]) -> TableRead
+    ensures { λ r. ⌜ r ≡ judgedFrom 0 (linesOf (now (text .entry))) ⌝ }
+{
+    let mut n: usize = 0;
+    loop {
+        let l = line_at(text, n);
+        match l {
+            Line::Row(_, _, _) => {
+                n += 1;
+            }
+            Line::End => {
+                return TableRead::Rows(n);
+            }
+            Line::BadLength => {
+                return TableRead::LineLength(n + 1);
+            }
+            Line::BadField => {
+                return TableRead::BrokenField(n + 1);
+            }
+            Line::LargeNumber => {
+                return TableRead::LargeNumber(n + 1);
+            }
+        }
+    }
+}
+
+// The rows of a text whose every line is a row, into columns that have a place for each.
+fn write_rows(text: &[u8], days: &mut [u16], first: &mut [u16], second: &mut [u16], count: usize)
+    requires { ⌜ judgedFrom 0 (linesOf (now text)) ≡ TableRead.Rows count ⌝ }
+    requires { ⌜ (count ≤ length (now days)) × (count ≤ length (now first)) × (count ≤ length (now second)) ⌝ }
+    ensures { λ _. ⌜ now (days .exit) ≡ daysOf (now (text .entry)) ++ drop count (now (days .entry)) ⌝ }
+    ensures { λ _. ⌜ now (first .exit) ≡ firstsOf (now (text .entry)) ++ drop count (now (first .entry)) ⌝ }
+    ensures { λ _. ⌜ now (second .exit) ≡ secondsOf (now (text .entry)) ++ drop count (now (second .entry)) ⌝ }
+{
+    let mut i: usize = 0;
+    while i < count {
+        let l = line_at(text, i);
+        days[i] = day_of(l);
+        first[i] = first_of(l);
+        second[i] = second_of(l);
+        i += 1;
+    }
+}
+
+fn least(a: usize, b: usize, c: usize) -> usize
+    ensures { λ r. ⌜ r ≡ min a (min b c) ⌝ }
+{
+    if a <= b {
+        if a <= c {
+            return a;
+        }
+        return c;
+    }
+    if b <= c {
+        return b;
+    }
+    c
+}
+
+// Reads a table's text into three columns, all of it or nothing.
+pub fn read_table(text: &[u8], days: &mut [u16], first: &mut [u16], second: &mut [u16]) -> TableRead
+    ensures { λ r. ⌜ r ≡ tableReadOf (now (text .entry)) (length (now (days .entry))) (length (now (first .entry))) (length (now (second .entry))) ⌝ }
+    ensures { λ r. ⌜ now (days .exit) ≡ filled r (daysOf (now (text .entry))) (now (days .entry)) ⌝ }
+    ensures { λ r. ⌜ now (first .exit) ≡ filled r (firstsOf (now (text .entry))) (now (first .entry)) ⌝ }
+    ensures { λ r. ⌜ now (second .exit) ≡ filled r (secondsOf (now (text .entry))) (now (second .entry)) ⌝ }
+{
+    let judged = check_lines(text);
+    match judged {
+        TableRead::LineLength(n) => {
+            return TableRead::LineLength(n);
+        }
+        TableRead::BrokenField(n) => {
+            return TableRead::BrokenField(n);
+        }
+        TableRead::LargeNumber(n) => {
+            return TableRead::LargeNumber(n);
+        }
+        TableRead::Room => {
+            return TableRead::Room;
+        }
+        TableRead::Rows(n) => {
+            if least(days.len(), first.len(), second.len()) < n {
+                return TableRead::Room;
+            }
+            write_rows(text, days, first, second, n);
+            return TableRead::Rows(n);
+        }
+    }
+}
