@@ -3,16 +3,26 @@
 --     accepted-left, accepted-right, when-accepted      what an accepted list of checks says
 --     order-accepted, order-refused     a run of checks that all pass; one that refuses at i
 --     all-accepted                  and what an accepted run says of each
+--     Front, front-when, front-then, front-order, front-table, front-call     checks that stand before 9 or are it: their refusals keep the scratch
+--     counted-yes, counted-no       the answer of a call that counts
 -- Assumes nothing.
-use Prim.Native.Nat.{ℕ, zero, suc, _+_, _≤_, _<_}
+use Prim.Native.Nat.{ℕ, zero, suc, _+_, _*_, _≤_, _<_}
 use native.Mathlib.Nat.{le-refl, eq-or-lt-of-le}
 use native.Mathlib.Omega.{arith}
 use mathlib.Core.Path.{_≡_, refl, sym, _∙_, ap, subst}
 use mathlib.Core.Logic.{_⊎_, ⊎-elim}
 use mathlib.Core.Bool.{Bool, true, false}
-use Rattle.rings.specs.Words.{run}
-use Rattle.rings.specs.Checks.{_when_, _then_, inOrder}
+use lib.Dec.{leb, ltb, eqb}
+use lib.ListN.{length}
+use Rattle.rings.specs.Words.{_and_, _or_, no, run}
+use Rattle.rings.specs.Table.{Table, dayOf, firstOf, secondOf}
+use Rattle.rings.specs.Checks.{_when_, _then_, inOrder, counted, queryCheck, scratchCheck}
+use Rattle.rings.specs.Refusals.{behindScratch}
+use Rattle.rings.specs.TableCheck.{dayBefore, rowFaults, rowCheck, tableCheck}
+use Rattle.rings.specs.declared.Query.{Query}
 use Rattle.rings.specs.declared.refusal.Refusal.{Refusal}
+use Rattle.rings.specs.declared.refusal.Refusal.the-variants.{UnequalColumns, TooManyRows, BadDay, BadAccounts, OutOfOrder, BadK, BadWindow, BadLengths, SmallScratch}
+use Rattle.rings.specs.declared.refusal.Counted.{Counted}
 use Rattle.rings.specs.declared.refusal.Verdict.{Verdict}
 use Rattle.rings.specs.declared.refusal.Verdict.the-variants.{Accepted, Refused}
 
@@ -56,3 +66,56 @@ unfolding inOrder run
 all-accepted f i zero h j a b = absurd (omega arith)
 all-accepted f i (suc n) h j a b =
     ⊎-elim (λ q. subst (λ (x : ℕ). f x ≡ Accepted) q (accepted-left (f i) (inOrder (run f (suc i) n)) h)) (λ q. all-accepted f (suc i) n (accepted-right (f i) (inOrder (run f (suc i) n)) h) j q (omega arith)) (eq-or-lt-of-le a)
+
+-- ---- refusals that keep the scratch
+
+pub record Front (v : Verdict) : Type 0 where
+  pub keeps : (r : Refusal) → v ≡ Refused r → behindScratch r ≡ false
+
+front-accepted : Front Accepted
+front-accepted = record { keeps = λ r e. cc }
+
+pub front-when : (r : Refusal) (b : Bool) → behindScratch r ≡ false → Front (r when b)
+unfolding _when_
+front-when r true h = record { keeps = λ r′ e. let g : r ≡ r′ = cc in subst (λ (x : Refusal). behindScratch x ≡ false) g h }
+front-when r false h = front-accepted
+
+pub front-then : (v w : Verdict) → Front v → Front w → Front (v then w)
+unfolding _then_
+front-then Accepted w f g = g
+front-then (Refused r) w f g = f
+
+pub front-order : (f : ℕ → Verdict) (i n : ℕ) → ((j : ℕ) → Front (f j)) → Front (inOrder (run f i n))
+unfolding inOrder run
+front-order f i zero h = front-accepted
+front-order f i (suc n) h = front-then (f i) (inOrder (run f (suc i) n)) (h i) (front-order f (suc i) n h)
+
+front-row : (t : Table) (j : ℕ) → Front (rowCheck t j)
+unfolding rowCheck rowFaults behindScratch
+front-row t j =
+    front-then (BadDay j when no (leb 1 (dayOf t j) and leb (dayOf t j) 1024)) (BadAccounts j when ltb 4095 (secondOf t j) or no (ltb (firstOf t j) (secondOf t j)) then OutOfOrder j when ltb (dayOf t j) (dayBefore t j)) (front-when (BadDay j) (no (leb 1 (dayOf t j) and leb (dayOf t j) 1024)) refl)
+    (front-then (BadAccounts j when ltb 4095 (secondOf t j) or no (ltb (firstOf t j) (secondOf t j))) (OutOfOrder j when ltb (dayOf t j) (dayBefore t j)) (front-when (BadAccounts j) (ltb 4095 (secondOf t j) or no (ltb (firstOf t j) (secondOf t j))) refl) (front-when (OutOfOrder j) (ltb (dayOf t j) (dayBefore t j)) refl))
+
+pub front-table : (t : Table) → Front (tableCheck t)
+unfolding tableCheck behindScratch
+front-table t =
+    front-then (UnequalColumns when no (eqb (length (t .first)) (length (t .days)) and eqb (length (t .second)) (length (t .days)))) (TooManyRows when ltb 16384 (length (t .days)) then inOrder (run (rowCheck t) 0 (length (t .days)))) (front-when UnequalColumns (no (eqb (length (t .first)) (length (t .days)) and eqb (length (t .second)) (length (t .days)))) refl)
+    (front-then (TooManyRows when ltb 16384 (length (t .days))) (inOrder (run (rowCheck t) 0 (length (t .days)))) (front-when TooManyRows (ltb 16384 (length (t .days))) refl) (front-order (rowCheck t) 0 (length (t .days)) (front-row t)))
+
+pub front-call : (t : Table) (q : Query) (window lengths : Bool) (rows scratch : ℕ) → Front (tableCheck t then queryCheck q then BadWindow when no window then BadLengths when no lengths then scratchCheck rows scratch)
+unfolding queryCheck scratchCheck behindScratch
+front-call t q window lengths rows scratch =
+    front-then (tableCheck t) (queryCheck q then BadWindow when no window then BadLengths when no lengths then scratchCheck rows scratch) (front-table t)
+    (front-then (queryCheck q) (BadWindow when no window then BadLengths when no lengths then scratchCheck rows scratch) (front-when BadK (no (leb 1 (q .k) and leb (q .k) 4095)) refl)
+    (front-then (BadWindow when no window) (BadLengths when no lengths then scratchCheck rows scratch) (front-when BadWindow (no window) refl)
+    (front-then (BadLengths when no lengths) (scratchCheck rows scratch) (front-when BadLengths (no lengths) refl) (front-when SmallScratch (ltb scratch (8192 + 4 * rows)) refl))))
+
+-- ---- the answer of a call that counts
+
+pub counted-yes : {v : Verdict} (n : ℕ) → v ≡ Accepted → counted v n ≡ Counted.Count n
+unfolding counted
+counted-yes n e = rw e
+
+pub counted-no : {v : Verdict} {r : Refusal} (n : ℕ) → v ≡ Refused r → counted v n ≡ Counted.Refused r
+unfolding counted
+counted-no n e = rw e

@@ -14,3 +14,5 @@ pub mod FallLaws
 pub mod WalkLaws
 pub mod StageLaws
 pub mod DayLaws
+pub mod MarkLaws
+pub mod CallLaws

@@ -4,12 +4,16 @@ pub mod checks;
 pub mod links;
 pub mod peel;
 pub mod refusal;
+pub mod ring;
 pub mod table;
+pub mod times;
 
 pub use refusal::Counted;
 pub use refusal::Refusal;
 pub use refusal::Verdict;
 pub use table::check_table;
+pub use ring::window_ring;
+pub use times::core_times;
 
 // What a query asks of a ring: each account met has at least k distinct others.
 pub struct Query {

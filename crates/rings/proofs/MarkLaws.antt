@@ -1,0 +1,193 @@
+-- Marks of a ring (src/ring.rt).
+--     is-zero, not-zero        an entry read through a column
+--     Marking, mark-yes, mark-no, mark-end     the loop that marks rows and counts them
+--     stays-ring               who stays is in the ring of the window
+--     call-sound, call-k, call-window, call-lengths, call-scratch     what an accepted call says
+-- Assumes nothing.
+use Prim.Native.Nat.{ℕ, zero, suc, _+_, _*_, _≤_, _<_}
+use native.Mathlib.Nat.{le-refl, le-trans, le-antisymm, eq-or-lt-of-le, not-suc-le-zero}
+use native.Mathlib.Numerals.{add-one}
+use native.Mathlib.Omega.{arith}
+use mathlib.Core.Path.{_≡_, refl, sym, _∙_, ap, subst}
+use mathlib.Core.Logic.{_⊎_, ⊎-elim}
+use mathlib.Core.Bool.{Bool, true, false}
+use mathlib.Core.List.{List, map}
+use lib.ListN.{length, getD, set, length-set, length-map, List·getD-map}
+use lib.Seq.{ext-getD, getD-set-same, getD-set-other}
+use lib.Dec.{leb, ltb, eqb}
+use borrow.Author.Tests.{leb-true, ltb-true, ltb-false, le-leb, lt-ltb, eqb-true, eq-eqb, ne-eqb}
+use Rattle.rings.specs.Words.{_and_, no, at, marked, count}
+use Rattle.rings.specs.Table.{Table, tableOf, dayOf, firstOf, secondOf}
+use Rattle.rings.specs.Ring.{ring, inRing, members}
+use Rattle.rings.specs.CoreTimes.{never}
+use Rattle.rings.specs.TableCheck.{tableCheck}
+use Rattle.rings.specs.Checks.{_when_, _then_, queryCheck, scratchCheck}
+use Rattle.rings.specs.Buffers.{mark, marks}
+use Rattle.rings.specs.Inner.Sound.{Sound}
+use Rattle.rings.specs.Inner.Peeling.{query, Season, Falling, Ready, Span}
+use Rattle.rings.specs.declared.Query.{Query}
+use Rattle.rings.specs.declared.refusal.Refusal.the-variants.{BadK, BadWindow, BadLengths, SmallScratch}
+use Rattle.rings.specs.declared.refusal.Verdict.{Verdict}
+use Rattle.rings.specs.declared.refusal.Verdict.the-variants.{Accepted}
+use Rattle.rings.proofs.WordLaws.{look, clash, and-i, and-l, and-r, no-i, no-e, same-truth, tally-yes, tally-no}
+use Rattle.rings.proofs.CheckLaws.{accepted-left, accepted-right, when-accepted}
+use Rattle.rings.proofs.TableLaws.{table-sound}
+use Rattle.rings.proofs.RingLaws.{Inside, ring-sized, in-marked, marked-in, in-window, two-met, met-first, met-second}
+use Rattle.rings.proofs.FallLaws.{fell-look, stays-met, fell-not}
+
+pub is-zero : (x : List ℕ) {a v : ℕ} (b : ℕ) → a ≡ b → v ≡ getD x a 0 → v ≡ 0 → eqb (getD x b 0) 0 ≡ true
+is-zero x {a} {v} b ea ev z = eq-eqb (getD x b 0) 0 (ap (λ (c : ℕ). getD x c 0) (sym ea) ∙ (sym ev ∙ z))
+
+pub not-zero : (x : List ℕ) {a v : ℕ} (b : ℕ) → a ≡ b → v ≡ getD x a 0 → (v ≡ 0 → ⊥) → eqb (getD x b 0) 0 ≡ false
+not-zero x {a} {v} b ea ev n = ne-eqb (getD x b 0) 0 (λ z. n (ev ∙ (ap (λ (c : ℕ). getD x c 0) ea ∙ z)))
+
+-- ---- the loop that marks rows
+
+pub record Marking (g : ℕ → Bool) (j n : ℕ) (m₀ m : List ℕ) : Type 0 where
+  pub long : length m ≡ length m₀
+  pub done : (i : ℕ) → i < j → getD m i 0 ≡ mark (g i)
+  pub counted : n ≡ count g j
+
+pub mark-start : (g : ℕ → Bool) (m : List ℕ) → Marking g 0 0 m m
+unfolding count
+mark-start g m = record { long = refl; done = λ i h. absurd (not-suc-le-zero h); counted = refl }
+
+mark-one : {g : ℕ → Bool} {j n : ℕ} {m₀ m : List ℕ} (b : ℕ) → Marking g j n m₀ m → j < length m → b ≡ mark (g j) → (i : ℕ) → i < j + 1 → getD (set m j b) i 0 ≡ mark (g i)
+mark-one {g} {j} {n} {m₀} {m} b M l e i h =
+    ⊎-elim (λ y. ap (λ (c : ℕ). getD (set m j b) c 0) y ∙ (getD-set-same m j b 0 l ∙ (e ∙ ap (λ (c : ℕ). mark (g c)) (sym y)))) (λ o. getD-set-other m j i b 0 (λ y. omega arith) ∙ M .done i o) (eq-or-lt-of-le (omega arith))
+
+pub mark-yes : {g : ℕ → Bool} {j n : ℕ} {m₀ m : List ℕ} → Marking g j n m₀ m → j < length m → g j ≡ true → Marking g (j + 1) (n + 1) m₀ (set m j 1)
+unfolding count mark
+mark-yes {g} {j} {n} {m₀} {m} M l y =
+    record { long = length-set m j 1 ∙ M .long; done = mark-one 1 M l (sym (ap mark y)); counted = let c = M .counted in rw (add-one j) (let t = tally-yes (count g j) y in omega arith) }
+
+pub mark-no : {g : ℕ → Bool} {j n : ℕ} {m₀ m : List ℕ} → Marking g j n m₀ m → j < length m → g j ≡ false → Marking g (j + 1) n m₀ (set m j 0)
+unfolding count mark
+mark-no {g} {j} {n} {m₀} {m} M l y =
+    record { long = length-set m j 0 ∙ M .long; done = mark-one 0 M l (sym (ap mark y)); counted = let c = M .counted in rw (add-one j) (let t = tally-no (count g j) y in omega arith) }
+
+-- the count is at most the rows passed
+pub mark-few : {g : ℕ → Bool} {j n : ℕ} {m₀ m : List ℕ} → Marking g j n m₀ m → n ≤ j
+mark-few {g} {j} M = subst (λ (c : ℕ). c ≤ j) (sym (M .counted)) (Rattle.rings.proofs.WordLaws.count-le g j)
+
+pub mark-end : (r : List Bool) {j n : ℕ} {m₀ m : List ℕ} → Marking (marked r) j n m₀ m → length m₀ ≡ length r → j ≡ length r → (n ≡ members r) × (m ≡ marks r)
+unfolding members marks marked mark
+mark-end r {j} {n} {m₀} {m} M e y =
+    (M .counted ∙ ap (count (marked r)) y,
+    ext-getD 0 m (map mark r) (M .long ∙ (e ∙ sym (length-map r mark)))
+    (λ i l. M .done i (let a = M .long in omega arith) ∙ sym (List·getD-map mark r i false)))
+
+-- ---- who stays is in the ring
+
+module _ (d f s links : List ℕ) (q : Season) (R : Ready d f s links q) {end tail : ℕ} {x l w : List ℕ} (order : q .start ≤ q .end) (Sp : Span d (q .end) (q .lo) end)
+    (F : Falling d f s q 4096 never end tail tail x l w) (j : ℕ) (b : j < length d) where
+  t : Table
+  t = tableOf d f s
+
+  rank-a : getD f j 0 < 4096
+  rank-a = let y = R .sound .rows j b in let z = y .accounts in let k = y .account-to in omega arith
+
+  rank-b : getD s j 0 < 4096
+  rank-b = let k = R .sound .rows j b .account-to in omega arith
+
+  pub stays-place : (j < length f) × (j < length s) × (getD f j 0 < length x) × (getD s j 0 < length x)
+  stays-place = let a = R .sound .firsts in let c = R .sound .seconds in let n = F .len-x in let y = rank-a in let z = rank-b in (omega arith, omega arith, omega arith, omega arith)
+
+  -- the rows of the window are those from lo to end
+  inside : q .lo ≤ j → j < end → Inside (tableOf d f s) (q .start) (q .end) j
+  unfolding dayOf at
+  inside h k = record { row = b; from = R .setting .from-lo j b h; to = Sp .inside j k }
+
+  lo-le : q .start ≤ getD d j 0 → q .lo ≤ j
+  unfolding dayOf at
+  lo-le h = ⊎-elim (λ y. leb-true (q .lo) j y) (λ y. let z = R .setting .before-lo j (borrow.Author.Tests.leb-false (q .lo) j y) in absurd (omega arith)) (look (leb (q .lo) j))
+
+  lt-end : getD d j 0 ≤ q .end → j < end
+  lt-end h = ⊎-elim (λ y. ltb-true j end y) (λ y. let z = Sp .later j (ltb-false j end y) b in absurd (omega arith)) (look (ltb j end))
+
+  days-inside : (i : ℕ) → i < end → i < length d → dayOf (tableOf d f s) i ≤ q .end
+  unfolding dayOf at
+  days-inside i h k = Sp .inside i h
+
+  pub stays-ring : {y : Bool} → y ≡ (leb (q .lo) j and ltb j end and eqb (getD x (getD f j 0) 0) 0 and eqb (getD x (getD s j 0) 0) 0) → marked (ring (tableOf d f s) (query (q .k)) (q .start) (q .end)) j ≡ y
+  unfolding firstOf secondOf dayOf at
+  stays-ring {y} e = same-truth (marked rg j) test goes comes ∙ sym e
+    where
+      rg : List Bool
+      rg = ring (tableOf d f s) (query (q .k)) (q .start) (q .end)
+      za : Bool
+      za = eqb (getD x (getD f j 0) 0) 0
+      zb : Bool
+      zb = eqb (getD x (getD s j 0) 0) 0
+      test : Bool
+      test = leb (q .lo) j and ltb j end and za and zb
+      stayed : (u : ℕ) → u < 4096 → Rattle.rings.specs.Ring.met (tableOf d f s) rg u ≡ true → getD x u 0 ≡ 0
+      stayed u k m = ⊎-elim (λ z. z) (λ g. absurd (fell-not (tableOf d f s) (query (q .k)) (q .start) (q .end) (q .lo) (R .setting) F u k g order m)) (fell-look x u)
+      goes : marked rg j ≡ true → test ≡ true
+      goes h =
+          let k = in-marked (tableOf d f s) (query (q .k)) (q .start) (q .end) j h in
+          let w = in-window (tableOf d f s) (query (q .k)) (q .start) (q .end) j k in
+          and-i (le-leb (q .lo) j (lo-le (w .from))) (and-i (lt-ltb j end (lt-end (w .to)))
+          (and-i (eq-eqb (getD x (getD f j 0) 0) 0 (stayed (getD f j 0) rank-a (met-first (tableOf d f s) (query (q .k)) (q .start) (q .end) j k))) (eq-eqb (getD x (getD s j 0) 0) 0 (stayed (getD s j 0) rank-b (met-second (tableOf d f s) (query (q .k)) (q .start) (q .end) j k)))))
+      comes : test ≡ true → marked rg j ≡ true
+      comes h =
+          let h₂ = and-r (leb (q .lo) j) (ltb j end and za and zb) h in
+          let h₃ = and-r (ltb j end) (za and zb) h₂ in
+          let m : (u : ℕ) → u < 4096 → getD x u 0 ≡ 0 → Rattle.rings.specs.Ring.met (tableOf d f s) rg u ≡ true = stays-met (tableOf d f s) (query (q .k)) (q .start) (q .end) (q .lo) (R .setting) F days-inside in
+          marked-in (tableOf d f s) (query (q .k)) (q .start) (q .end) j
+          (two-met (tableOf d f s) (query (q .k)) (q .start) (q .end) j (inside (leb-true (q .lo) j (and-l (leb (q .lo) j) (ltb j end and za and zb) h)) (ltb-true j end (and-l (ltb j end) (za and zb) h₂)))
+          (m (getD f j 0) rank-a (eqb-true (getD x (getD f j 0) 0) 0 (and-l za zb h₃))) (m (getD s j 0) rank-b (eqb-true (getD x (getD s j 0) 0) 0 (and-r za zb h₃))))
+
+-- ---- what an accepted call says
+
+module _ (d f s : List ℕ) (q : Query) (window lengths : Bool) (scratch : ℕ)
+    (e : tableCheck (tableOf d f s) then queryCheck q then BadWindow when no window then BadLengths when no lengths then scratchCheck (length d) scratch ≡ Accepted) where
+  rest₁ : Verdict
+  rest₁ = BadWindow when no window then BadLengths when no lengths then scratchCheck (length d) scratch
+
+  rest₂ : Verdict
+  rest₂ = BadLengths when no lengths then scratchCheck (length d) scratch
+
+  abbrev after₁ : Verdict
+  after₁ = queryCheck q then BadWindow when no window then BadLengths when no lengths then scratchCheck (length d) scratch
+
+  pub call-sound : Sound d f s
+  call-sound = table-sound d f s (accepted-left (tableCheck (tableOf d f s)) after₁ e)
+
+  e₁ : after₁ ≡ Accepted
+  e₁ = accepted-right (tableCheck (tableOf d f s)) after₁ e
+
+  not-no : (b : Bool) → no b ≡ false → b ≡ true
+  not-no b h = ⊎-elim (λ y. y) (λ y. clash (no-i y) h) (look b)
+
+  pub call-k : (1 ≤ q .k) × (q .k ≤ 4095)
+  unfolding queryCheck rest₁
+  call-k =
+      let h = not-no (leb 1 (q .k) and leb (q .k) 4095) (when-accepted BadK (no (leb 1 (q .k) and leb (q .k) 4095)) (accepted-left (queryCheck q) rest₁ e₁)) in
+      (leb-true 1 (q .k) (and-l (leb 1 (q .k)) (leb (q .k) 4095) h), leb-true (q .k) 4095 (and-r (leb 1 (q .k)) (leb (q .k) 4095) h))
+
+  e₂ : BadWindow when no window then BadLengths when no lengths then scratchCheck (length d) scratch ≡ Accepted
+  unfolding rest₁
+  e₂ = accepted-right (queryCheck q) rest₁ e₁
+
+  pub call-window : window ≡ true
+  unfolding rest₂
+  call-window = not-no window (when-accepted BadWindow (no window) (accepted-left (BadWindow when no window) rest₂ e₂))
+
+  e₃ : BadLengths when no lengths then scratchCheck (length d) scratch ≡ Accepted
+  unfolding rest₂
+  e₃ = accepted-right (BadWindow when no window) rest₂ e₂
+
+  pub call-lengths : lengths ≡ true
+  call-lengths = not-no lengths (when-accepted BadLengths (no lengths) (accepted-left (BadLengths when no lengths) (scratchCheck (length d) scratch) e₃))
+
+  pub call-scratch : 8192 + 4 * length d ≤ scratch
+  unfolding scratchCheck
+  call-scratch = ltb-false scratch (8192 + 4 * length d) (when-accepted SmallScratch (ltb scratch (8192 + 4 * length d)) (accepted-right (BadLengths when no lengths) (scratchCheck (length d) scratch) e₃))
+
+-- a window that passed
+pub window-e : (s e : ℕ) {b : Bool} → b ≡ (leb 1 s and leb s e and leb e 1024) → b ≡ true → (1 ≤ s) × (s ≤ e) × (e ≤ 1024)
+window-e s e h y =
+    let g = sym h ∙ y in
+    let g₂ = and-r (leb 1 s) (leb s e and leb e 1024) g in
+    (leb-true 1 s (and-l (leb 1 s) (leb s e and leb e 1024) g), leb-true s e (and-l (leb s e) (leb e 1024) g₂), leb-true e 1024 (and-r (leb s e) (leb e 1024) g₂))

@@ -1,0 +1,62 @@
+use Rattle.rings.proofs.CallLaws.{ring-refused, ring-done}
+use Rattle.rings.proofs.MarkLaws.{call-sound, call-k, call-window, call-lengths, call-scratch, window-e}
+use borrow.Author.Tests.{eqb-true}
+use mathlib.Core.Path.{_∙_, sym}
+use borrow.Author.Needs.{needs}
+use Rattle.rings.proofs.ring.window_ring.Statement.{statement}
+use Rattle.rings.proofs.ring.window_ring.Tie as tie
+use Rattle.rings.proofs.ring.window_ring.Reads as reads
+use Rattle.rings.proofs.ring.window_ring.Lts as lts
+use Rattle.rings.proofs.checks.check_call.Reads as check-call-reads
+use Rattle.rings.proofs.checks.is_window.Reads as is-window-reads
+use Rattle.rings.proofs.ring.mark_ring.Reads as mark-ring-reads
+
+-- src/ring.rt:94:9
+is-window-requires : tie.Need-is-window-requires
+is-window-requires c κs = search needs
+
+-- src/ring.rt:96:9
+check-call-requires : tie.Need-check-call-requires
+check-call-requires c κs = search needs
+
+-- src/ring.rt:98:26
+enum-known-found : tie.Need-enum-known-found
+enum-known-found c = search needs
+
+-- src/ring.rt:100:17
+enum-told : tie.Need-enum-told
+enum-told c = search needs
+
+-- src/ring.rt:101:17
+mark-ring-requires : tie.Need-mark-ring-requires
+mark-ring-requires c κs = (call-sound _ _ _ _ _ _ _ (sym (c .before .before .before .before .check-call .ensures) ∙ c .before .before .enum-told .given .1), (call-k _ _ _ _ _ _ _ (sym (c .before .before .before .before .check-call .ensures) ∙ c .before .before .enum-told .given .1) .0, window-e (c .before .before .before .before .before .before .before .before .before .before .before .args .s) (c .before .before .before .before .before .before .before .before .before .before .before .args .e) (c .before .before .before .before .before .is-window .ensures) (call-window _ _ _ _ _ _ _ (sym (c .before .before .before .before .check-call .ensures) ∙ c .before .before .enum-told .given .1)) .1, window-e (c .before .before .before .before .before .before .before .before .before .before .before .args .s) (c .before .before .before .before .before .before .before .before .before .before .before .args .e) (c .before .before .before .before .before .is-window .ensures) (call-window _ _ _ _ _ _ _ (sym (c .before .before .before .before .check-call .ensures) ∙ c .before .before .enum-told .given .1)) .2, eqb-true _ _ (call-lengths _ _ _ _ _ _ _ (sym (c .before .before .before .before .check-call .ensures) ∙ c .before .before .enum-told .given .1)), call-scratch _ _ _ _ _ _ _ (sym (c .before .before .before .before .check-call .ensures) ∙ c .before .before .enum-told .given .1)))
+
+-- src/ring.rt:89:1
+returns : tie.Need-returns
+returns c = ring-refused _ _ _ _ (c .before .before .before .before .before .before .before .before .before .before .args .marks .now) (c .before .before .before .before .before .before .before .before .before .before .args .scratch .now) (c .before .before .before .before .is-window .ensures) (sym (c .before .before .before .check-call .ensures) ∙ c .before .found .given .1)
+
+-- src/ring.rt:89:1
+same-length : tie.Need-same-length
+same-length c = search needs
+
+-- src/ring.rt:89:1
+same-length-2 : tie.Need-same-length-2
+same-length-2 c = search needs
+
+-- src/ring.rt:89:1
+returns-2 : tie.Need-returns-2
+returns-2 c = ring-done _ _ _ _ (c .before .before .before .before .before .before .before .before .before .before .before .before .before .before .before .before .args .marks .now) (c .before .before .before .before .before .before .before .before .before .before .before .before .before .before .before .before .args .scratch .now) (c .before .before .before .before .before .before .before .before .before .before .is-window .ensures) (sym (c .before .before .before .before .before .before .before .before .before .check-call .ensures) ∙ c .before .before .before .before .before .before .before .enum-told .given .1) (c .before .before .before .before .mark-ring .ensures .0) (c .before .before .before .before .mark-ring .ensures .1) (c .before .before .before .before .mark-ring .ensures .2)
+
+pub window-ring-spec : {M : Type 1} → statement M
+window-ring-spec =
+    tie.close
+    (tie.spec
+    is-window-requires
+    check-call-requires
+    enum-known-found
+    enum-told
+    mark-ring-requires
+    returns
+    same-length
+    same-length-2
+    returns-2)

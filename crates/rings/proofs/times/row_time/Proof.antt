@@ -1,0 +1,77 @@
+use borrow.Author.Needs.{needs}
+use Rattle.rings.proofs.times.row_time.Statement.{statement}
+use Rattle.rings.proofs.times.row_time.Tie as tie
+use Rattle.rings.proofs.times.row_time.Reads as reads
+use Rattle.rings.proofs.times.row_time.Lts as lts
+use Rattle.rings.proofs.links.entry.Reads as entry-reads
+use Rattle.rings.proofs.times.greater.Reads as greater-reads
+
+-- src/times.rt:40:9
+returns : tie.Need-returns
+returns c = ?
+
+-- src/times.rt:43:9
+returns-2 : tie.Need-returns-2
+returns-2 c = ?
+
+-- src/times.rt:45:9
+entry-requires : tie.Need-entry-requires
+entry-requires c κs = search needs
+
+-- src/times.rt:46:9
+entry-requires-2 : tie.Need-entry-requires-2
+entry-requires-2 c κs = search needs
+
+-- src/times.rt:47:21
+mul-greater : tie.Need-mul-greater
+mul-greater c = ?
+
+-- src/times.rt:47:21
+shared-slice-read-greater : tie.Need-shared-slice-read-greater
+shared-slice-read-greater c = ?
+
+-- src/times.rt:47:31
+mul-greater-2 : tie.Need-mul-greater-2
+mul-greater-2 c = ?
+
+-- src/times.rt:47:31
+shared-slice-read-greater-2 : tie.Need-shared-slice-read-greater-2
+shared-slice-read-greater-2 c = ?
+
+-- src/times.rt:47:13
+greater-requires : tie.Need-greater-requires
+greater-requires c κs = search needs
+
+-- src/times.rt:47:42
+mul-greater-3 : tie.Need-mul-greater-3
+mul-greater-3 c = search needs
+
+-- src/times.rt:47:42
+shared-slice-read-greater-3 : tie.Need-shared-slice-read-greater-3
+shared-slice-read-greater-3 c = search needs
+
+-- src/times.rt:47:5
+greater-requires-2 : tie.Need-greater-requires-2
+greater-requires-2 c κs = search needs
+
+-- src/times.rt:32:1
+returns-3 : tie.Need-returns-3
+returns-3 c = ?
+
+pub row-time-spec : {M : Type 1} → statement M
+row-time-spec =
+    tie.close
+    (tie.spec
+    returns
+    returns-2
+    entry-requires
+    entry-requires-2
+    mul-greater
+    shared-slice-read-greater
+    mul-greater-2
+    shared-slice-read-greater-2
+    greater-requires
+    mul-greater-3
+    shared-slice-read-greater-3
+    greater-requires-2
+    returns-3)

@@ -1,0 +1,63 @@
+use Rattle.rings.proofs.times.time_rows.Statement.{statement}
+use Rattle.rings.proofs.times.time_rows.Tie as tie
+use Rattle.rings.proofs.times.time_rows.Reads as reads
+use Rattle.rings.proofs.times.time_rows.Lts as lts
+use Rattle.rings.proofs.times.row_time.Reads as row-time-reads
+
+abbrev Inv-loop : tie.InvT-loop
+Inv-loop days first second links k start stop lo end times rows₀ j₀ rows j = ?
+
+abbrev μ-loop : tie.MeasureT-loop
+μ-loop days first second links k start stop lo end times rows₀ j₀ rows j = ?
+
+-- src/times.rt:59:5
+loop-holds : tie.Need-loop-holds Inv-loop μ-loop
+loop-holds c = ?
+
+-- src/times.rt:60:19
+row-time-requires : tie.Need-row-time-requires Inv-loop μ-loop
+row-time-requires c κs = ?
+
+-- src/times.rt:60:9
+mul-rows : tie.Need-mul-rows Inv-loop μ-loop
+mul-rows c = ?
+
+-- src/times.rt:60:9
+slice-write-rows : tie.Need-slice-write-rows Inv-loop μ-loop
+slice-write-rows c = ?
+
+-- src/times.rt:61:9
+add-j : tie.Need-add-j Inv-loop μ-loop
+add-j c = ?
+
+-- src/times.rt:59:5
+loop-less : tie.Need-loop-less Inv-loop μ-loop
+loop-less c = ?
+
+-- src/times.rt:59:5
+loop-again : tie.Need-loop-again Inv-loop μ-loop
+loop-again c = ?
+
+-- src/times.rt:51:1
+same-length : tie.Need-same-length Inv-loop μ-loop
+same-length c = ?
+
+-- src/times.rt:51:1
+returns : tie.Need-returns Inv-loop μ-loop
+returns c = ?
+
+pub time-rows-spec : {M : Type 1} → statement M
+time-rows-spec =
+    tie.close
+    (tie.spec
+    Inv-loop
+    μ-loop
+    loop-holds
+    row-time-requires
+    mul-rows
+    slice-write-rows
+    add-j
+    loop-less
+    loop-again
+    same-length
+    returns)
