@@ -2,6 +2,7 @@
 --     tight-e, tight-i         [s, e] is tight exactly if its ring has a row dated s and a row dated e
 --     tight-times, times-tight [s, e] is tight exactly if some row dated s has a core time of at most e and some row has the core time e
 --     tightest-ring            the tightest window of a ring lies inside the window, is tight, and has that ring
+--     nonempty-e, nonempty-i   a ring is not empty exactly if it has a row
 --     tight-one                two tight windows with one ring are one
 -- Assumes nothing.
 use Prim.Native.Nat.{ℕ, zero, suc, pred, _+_, _-_, min, max, _≤_, _<_}
@@ -128,7 +129,7 @@ module _ (t : Table) (q : Query) where
       le-antisymm (greatest-le (memberDays t (ring t q s e)) d (λ x m. let y = days-e t (ring t q s e) m in subst (λ (z : ℕ). z ≤ d) (sym (y .is)) (f (y .row) (in-marked t q s e (y .row) (y .has)))))
       (subst (λ (x : ℕ). x ≤ lastDay t (ring t q s e)) (w .dated) (le-last t (ring t q s e) (w .row) (in-window t q s e (w .row) (w .in-ring) .row) (marked-in t q s e (w .row) (w .in-ring))))
 
-  nonempty-e : (s e : ℕ) → nonempty (ring t q s e) ≡ true → (j : ℕ) × (inRing t q s e j ≡ true)
+  pub nonempty-e : (s e : ℕ) → nonempty (ring t q s e) ≡ true → (j : ℕ) × (inRing t q s e j ≡ true)
   unfolding nonempty
   nonempty-e s e h = let w = some-e (marked (ring t q s e)) (length (ring t q s e)) h in (w .it, in-marked t q s e (w .it) (w .has))
 

@@ -4,6 +4,7 @@ pub mod Distinct
 pub mod ListingCall
 pub mod LongestList
 pub mod Examples
+pub mod EachRing
 pub mod Program
 pub mod ProgramText
 pub mod ProgramRows

@@ -1,5 +1,8 @@
 // The listing of a range's rings, and the longest list there can be.
 
+pub mod longest;
+
+pub use longest::longest_list;
 pub use rings::Counted;
 pub use rings::Query;
 pub use rings::Refusal;

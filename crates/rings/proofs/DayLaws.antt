@@ -46,14 +46,24 @@ scan-end S h = record { within = S .within; before = S .before; after = λ j a b
 pub span-of : {d : List ℕ} {s e lo end : ℕ} → s ≤ e → Split d s lo → Split d (e + 1) end → Span d e lo end
 span-of {d} {s} {e} {lo} {end} h a b =
     record {
-      within = b .within; inside = λ j k. let x = b .before j k in omega arith; later = λ j k l. let x = b .after j k l in omega arith;
-      ordered = ⊎-elim (λ y. leb-true lo end y) (λ y. let k = leb-false lo end y in let x = a .before end k in let w = a .within in let z = b .after end (le-refl end) (omega arith) in absurd (omega arith)) (look (leb lo end)) }
+      within = b .within;
+      inside = λ j k. let x = b .before j k in omega arith;
+      later = λ j k l. let x = b .after j k l in omega arith;
+      ordered = ⊎-elim (λ y. leb-true lo end y) (λ y. let k = leb-false lo end y in let x = a .before end k in let w = a .within in let z = b .after end (le-refl end) (omega arith) in absurd (omega arith)) (look (leb lo end));
+    }
 
 pub setting-of : {d f s : List ℕ} {k start stop lo : ℕ} → Sound d f s → 1 ≤ k → stop ≤ 1024 → Split d start lo → Setting (tableOf d f s) (query k) start stop lo
 unfolding dayOf firstOf secondOf at
 setting-of {d} S one top a =
     record {
-      fits = omega arith; some-k = one; from-lo = λ j l h. a .after j h l; before-lo = λ j h. a .before j h; rising = rising-all d (S .rising); accounts = λ j l. S .rows j l .accounts; small = λ j l. let x = S .rows j l .account-to in omega arith }
+      fits = omega arith;
+      some-k = one;
+      from-lo = λ j l h. a .after j h l;
+      before-lo = λ j h. a .before j h;
+      rising = rising-all d (S .rising);
+      accounts = λ j l. S .rows j l .accounts;
+      small = λ j l. let x = S .rows j l .account-to in omega arith;
+    }
 
 pub ready-of : {d f s links : List ℕ} {k start stop lo : ℕ} → Sound d f s → Linked (tableOf d f s) links → 1 ≤ k → stop ≤ 1024 → Split d start lo → Ready d f s links (season k start stop lo)
 ready-of S L one top a = record { sound = S; linked = L; setting = setting-of S one top a }

@@ -16,3 +16,4 @@ pub mod StageLaws
 pub mod DayLaws
 pub mod MarkLaws
 pub mod CallLaws
+pub mod TimeLaws

@@ -72,10 +72,11 @@ mark-few {g} {j} M = subst (λ (c : ℕ). c ≤ j) (sym (M .counted)) (Rattle.r
 
 pub mark-end : (r : List Bool) {j n : ℕ} {m₀ m : List ℕ} → Marking (marked r) j n m₀ m → length m₀ ≡ length r → j ≡ length r → (n ≡ members r) × (m ≡ marks r)
 unfolding members marks marked mark
-mark-end r {j} {n} {m₀} {m} M e y =
-    (M .counted ∙ ap (count (marked r)) y,
-    ext-getD 0 m (map mark r) (M .long ∙ (e ∙ sym (length-map r mark)))
-    (λ i l. M .done i (let a = M .long in omega arith) ∙ sym (List·getD-map mark r i false)))
+mark-end r {j} {n} {m₀} {m} M e y = (
+  M .counted ∙ ap (count (marked r)) y,
+  ext-getD 0 m (map mark r) (M .long ∙ (e ∙ sym (length-map r mark)))
+      (λ i l. M .done i (let a = M .long in omega arith) ∙ sym (List·getD-map mark r i false)),
+)
 
 -- ---- who stays is in the ring
 
@@ -115,20 +116,26 @@ module _ (d f s links : List ℕ) (q : Season) (R : Ready d f s links q) {end ta
     where
       rg : List Bool
       rg = ring (tableOf d f s) (query (q .k)) (q .start) (q .end)
+
       za : Bool
       za = eqb (getD x (getD f j 0) 0) 0
+
       zb : Bool
       zb = eqb (getD x (getD s j 0) 0) 0
+
       test : Bool
       test = leb (q .lo) j and ltb j end and za and zb
+
       stayed : (u : ℕ) → u < 4096 → Rattle.rings.specs.Ring.met (tableOf d f s) rg u ≡ true → getD x u 0 ≡ 0
       stayed u k m = ⊎-elim (λ z. z) (λ g. absurd (fell-not (tableOf d f s) (query (q .k)) (q .start) (q .end) (q .lo) (R .setting) F u k g order m)) (fell-look x u)
+
       goes : marked rg j ≡ true → test ≡ true
       goes h =
           let k = in-marked (tableOf d f s) (query (q .k)) (q .start) (q .end) j h in
           let w = in-window (tableOf d f s) (query (q .k)) (q .start) (q .end) j k in
           and-i (le-leb (q .lo) j (lo-le (w .from))) (and-i (lt-ltb j end (lt-end (w .to)))
           (and-i (eq-eqb (getD x (getD f j 0) 0) 0 (stayed (getD f j 0) rank-a (met-first (tableOf d f s) (query (q .k)) (q .start) (q .end) j k))) (eq-eqb (getD x (getD s j 0) 0) 0 (stayed (getD s j 0) rank-b (met-second (tableOf d f s) (query (q .k)) (q .start) (q .end) j k)))))
+
       comes : test ≡ true → marked rg j ≡ true
       comes h =
           let h₂ = and-r (leb (q .lo) j) (ltb j end and za and zb) h in
@@ -191,3 +198,15 @@ window-e s e h y =
     let g = sym h ∙ y in
     let g₂ = and-r (leb 1 s) (leb s e and leb e 1024) g in
     (leb-true 1 s (and-l (leb 1 s) (leb s e and leb e 1024) g), leb-true s e (and-l (leb s e) (leb e 1024) g₂), leb-true e 1024 (and-r (leb s e) (leb e 1024) g₂))
+
+-- a start in its range
+pub start-e : (lo s hi : ℕ) {b : Bool} → b ≡ (leb 1 lo and leb lo s and leb s hi and leb hi 1024) → b ≡ true → (s ≤ hi) × (hi ≤ 1024)
+start-e lo s hi h y =
+    let g = sym h ∙ y in
+    let g₂ = and-r (leb 1 lo) (leb lo s and leb s hi and leb hi 1024) g in
+    let g₃ = and-r (leb lo s) (leb s hi and leb hi 1024) g₂ in
+    (leb-true s hi (and-l (leb s hi) (leb hi 1024) g₃), leb-true hi 1024 (and-r (leb s hi) (leb hi 1024) g₃))
+
+-- two pairs of equal lengths
+pub lengths-e : (a b c d : ℕ) {y : Bool} → y ≡ (eqb a b and eqb c d) → y ≡ true → (a ≡ b) × (c ≡ d)
+lengths-e a b c d h y = let g = sym h ∙ y in (eqb-true a b (and-l (eqb a b) (eqb c d) g), eqb-true c d (and-r (eqb a b) (eqb c d) g))

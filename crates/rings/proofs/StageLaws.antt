@@ -426,6 +426,10 @@ module _ (d f s links : List ℕ) (q : Season) (R : Ready d f s links q) where
     unfolding dayOf at
     fade-start F =
         record {
-          e = never; state = F; within = Sp .within; from = Sp .ordered;
+          e = never;
+          state = F;
+          within = Sp .within;
+          from = Sp .ordered;
           above = λ j k. let a = Sp .inside j k in let b = R .setting .fits in omega arith;
-          dated = λ j k. (R .sound .rows j (let a = Sp .within in omega arith) .day-from, Sp .inside j k) }
+          dated = λ j k. (R .sound .rows j (let a = Sp .within in omega arith) .day-from, Sp .inside j k);
+        }

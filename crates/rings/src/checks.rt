@@ -8,7 +8,6 @@ ghost use Rattle.rings.specs.Table.{tableOf};
 ghost use Rattle.rings.specs.TableCheck.{tableCheck};
 ghost use Rattle.rings.specs.Checks.{_when_, _then_, queryCheck, scratchCheck};
 ghost use Rattle.rings.specs.declared.refusal.Refusal.the-variants.{BadLengths, BadWindow};
-
 use crate::Query;
 use crate::refusal::Refusal;
 use crate::refusal::Verdict;
@@ -78,7 +77,15 @@ fn check_numbers(rows: usize, query: Query, window: bool, lengths: bool, scratch
 }
 
 // The table, then 6, 7, 8, 9.
-pub fn check_call(days: &[u16], first: &[u16], second: &[u16], query: Query, window: bool, lengths: bool, scratch: usize) -> Verdict
+pub fn check_call(
+    days: &[u16],
+    first: &[u16],
+    second: &[u16],
+    query: Query,
+    window: bool,
+    lengths: bool,
+    scratch: usize,
+) -> Verdict
     ensures { λ r. ⌜ r ≡ (tableCheck (tableOf (now (days .entry)) (now (first .entry)) (now (second .entry))) then queryCheck query then BadWindow when no window then BadLengths when no lengths then scratchCheck (length (now (days .entry))) scratch) ⌝ }
 {
     let found = check_table(days, first, second);

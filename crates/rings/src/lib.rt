@@ -11,8 +11,8 @@ pub mod times;
 pub use refusal::Counted;
 pub use refusal::Refusal;
 pub use refusal::Verdict;
-pub use table::check_table;
 pub use ring::window_ring;
+pub use table::check_table;
 pub use times::core_times;
 
 // What a query asks of a ring: each account met has at least k distinct others.

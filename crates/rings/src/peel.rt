@@ -319,7 +319,20 @@ fn weed(
 }
 
 // The ring of the whole window: who has not fallen when nobody waits is met in it.
-pub fn core(days: &[u16], first: &[u16], second: &[u16], links: &[u16], k: u16, start: u16, stop: u16, lo: usize, end: usize, times: &mut [u16], left: &mut [u16], queue: &mut [u16]) -> usize
+pub fn core(
+    days: &[u16],
+    first: &[u16],
+    second: &[u16],
+    links: &[u16],
+    k: u16,
+    start: u16,
+    stop: u16,
+    lo: usize,
+    end: usize,
+    times: &mut [u16],
+    left: &mut [u16],
+    queue: &mut [u16],
+) -> usize
     requires { ⌜ Ready (now days) (now first) (now second) (now links) (season k start stop lo) ⌝ }
     requires { ⌜ Span (now days) stop lo end ⌝ }
     requires { ⌜ (length (now times) ≡ 4096) × (length (now left) ≡ 4096) × (length (now queue) ≡ 4096) ⌝ }
@@ -328,17 +341,86 @@ pub fn core(days: &[u16], first: &[u16], second: &[u16], links: &[u16], k: u16, 
     clear(times);
     clear(left);
     count_neighbours(days, first, second, links, k, start, stop, lo, end, left);
-    let waiting = weed(days, first, second, links, k, start, stop, lo, end, times, left, queue);
-    drain(days, first, second, links, k, start, stop, lo, 65535, end, 0, waiting, times, left, queue)
+    let waiting = weed(
+        days,
+        first,
+        second,
+        links,
+        k,
+        start,
+        stop,
+        lo,
+        end,
+        times,
+        left,
+        queue,
+    );
+    drain(
+        days,
+        first,
+        second,
+        links,
+        k,
+        start,
+        stop,
+        lo,
+        65535,
+        end,
+        0,
+        waiting,
+        times,
+        left,
+        queue,
+    )
 }
 
 // The core times of all accounts at one start.
-pub fn peel(days: &[u16], first: &[u16], second: &[u16], links: &[u16], k: u16, start: u16, stop: u16, lo: usize, end: usize, times: &mut [u16], left: &mut [u16], queue: &mut [u16])
+pub fn peel(
+    days: &[u16],
+    first: &[u16],
+    second: &[u16],
+    links: &[u16],
+    k: u16,
+    start: u16,
+    stop: u16,
+    lo: usize,
+    end: usize,
+    times: &mut [u16],
+    left: &mut [u16],
+    queue: &mut [u16],
+)
     requires { ⌜ Ready (now days) (now first) (now second) (now links) (season k start stop lo) ⌝ }
     requires { ⌜ Span (now days) stop lo end ⌝ }
     requires { ⌜ (length (now times) ≡ 4096) × (length (now left) ≡ 4096) × (length (now queue) ≡ 4096) ⌝ }
     ensures { λ _. ⌜ CoreTimesAre (now (days .entry)) (now (first .entry)) (now (second .entry)) (season k start stop lo) (now (times .exit)) ⌝ }
 {
-    let tail = core(days, first, second, links, k, start, stop, lo, end, times, left, queue);
-    fade(days, first, second, links, k, start, stop, lo, end, tail, times, left, queue);
+    let tail = core(
+        days,
+        first,
+        second,
+        links,
+        k,
+        start,
+        stop,
+        lo,
+        end,
+        times,
+        left,
+        queue,
+    );
+    fade(
+        days,
+        first,
+        second,
+        links,
+        k,
+        start,
+        stop,
+        lo,
+        end,
+        tail,
+        times,
+        left,
+        queue,
+    );
 }

@@ -11,7 +11,6 @@ ghost use Rattle.rings.specs.Buffers.{marks as markBytes, countedScratch
 ghost use Rattle.rings.specs.WindowRingCall.{ringAnswer, ringMarks};
 ghost use Rattle.rings.specs.Inner.Sound.{Sound};
 ghost use Rattle.rings.specs.Inner.Peeling.{query, season, Falling, Ready, Span};
-
 use crate::Query;
 use crate::checks::check_call;
 use crate::checks::is_window;
@@ -46,7 +45,22 @@ fn stays(first: &[u16], second: &[u16], lo: usize, end: usize, times: &[u16], j:
 }
 
 // The rows that stay are marked and counted.
-fn mark_rows(days: &[u16], first: &[u16], second: &[u16], links: &[u16], k: u16, s: u16, e: u16, lo: usize, end: usize, tail: usize, times: &[u16], left: &[u16], queue: &[u16], marks: &mut [u8]) -> usize
+fn mark_rows(
+    days: &[u16],
+    first: &[u16],
+    second: &[u16],
+    links: &[u16],
+    k: u16,
+    s: u16,
+    e: u16,
+    lo: usize,
+    end: usize,
+    tail: usize,
+    times: &[u16],
+    left: &[u16],
+    queue: &[u16],
+    marks: &mut [u8],
+) -> usize
     requires { ⌜ Ready (now days) (now first) (now second) (now links) (season k s e lo) ⌝ }
     requires { ⌜ (s ≤ e) × Span (now days) e lo end ⌝ }
     requires { ⌜ Falling (now days) (now first) (now second) (season k s e lo) 4096 never end tail tail (now times) (now left) (now queue) ⌝ }
@@ -69,7 +83,16 @@ fn mark_rows(days: &[u16], first: &[u16], second: &[u16], links: &[u16], k: u16,
 }
 
 // The ring of [s, e] of an accepted table.
-fn mark_ring(days: &[u16], first: &[u16], second: &[u16], k: u16, s: u16, e: u16, marks: &mut [u8], scratch: &mut [u16]) -> usize
+fn mark_ring(
+    days: &[u16],
+    first: &[u16],
+    second: &[u16],
+    k: u16,
+    s: u16,
+    e: u16,
+    marks: &mut [u8],
+    scratch: &mut [u16],
+) -> usize
     requires { ⌜ Sound (now days) (now first) (now second) ⌝ }
     requires { ⌜ (1 ≤ k) × (s ≤ e) × (e ≤ 1024) × (length (now marks) ≡ length (now days)) × (8192 + 4 * length (now days) ≤ length (now scratch)) ⌝ }
     ensures { λ n. ⌜ (n ≡ members (ring (tableOf (now (days .entry)) (now (first .entry)) (now (second .entry))) (query k) s e)) × (now (marks .exit) ≡ markBytes (ring (tableOf (now (days .entry)) (now (first .entry)) (now (second .entry))) (query k) s e)) × (now (scratch .exit) ≡ replicate (length (now (scratch .entry))) 0) ⌝ }
@@ -80,13 +103,50 @@ fn mark_ring(days: &[u16], first: &[u16], second: &[u16], k: u16, s: u16, e: u16
     let mut left = [0u16; 4096];
     let mut queue = [0u16; 4096];
     link(days, first, second, scratch);
-    let tail = core(days, first, second, scratch, k, s, e, lo, end, &mut times, &mut left, &mut queue);
-    let n = mark_rows(days, first, second, scratch, k, s, e, lo, end, tail, &times, &left, &queue, marks);
+    let tail = core(
+        days,
+        first,
+        second,
+        scratch,
+        k,
+        s,
+        e,
+        lo,
+        end,
+        &mut times,
+        &mut left,
+        &mut queue,
+    );
+    let n = mark_rows(
+        days,
+        first,
+        second,
+        scratch,
+        k,
+        s,
+        e,
+        lo,
+        end,
+        tail,
+        &times,
+        &left,
+        &queue,
+        marks,
+    );
     clear(scratch);
     n
 }
 
-pub fn window_ring(days: &[u16], first: &[u16], second: &[u16], query: Query, s: u16, e: u16, marks: &mut [u8], scratch: &mut [u16]) -> Counted
+pub fn window_ring(
+    days: &[u16],
+    first: &[u16],
+    second: &[u16],
+    query: Query,
+    s: u16,
+    e: u16,
+    marks: &mut [u8],
+    scratch: &mut [u16],
+) -> Counted
     ensures { λ r. ⌜ r ≡ ringAnswer (tableOf (now (days .entry)) (now (first .entry)) (now (second .entry))) query s e (length (now (marks .entry))) (length (now (scratch .entry))) ⌝ }
     ensures { λ r. ⌜ now (marks .exit) ≡ ringMarks r (tableOf (now (days .entry)) (now (first .entry)) (now (second .entry))) query s e (now (marks .entry)) ⌝ }
     ensures { λ r. ⌜ now (scratch .exit) ≡ countedScratch r (now (scratch .entry)) ⌝ }

@@ -7,7 +7,6 @@ ghost use Rattle.rings.specs.Table.{tableOf};
 ghost use Rattle.rings.specs.Checks.{inOrder};
 ghost use Rattle.rings.specs.TableCheck.{rowFaults, rowCheck, tableCheck};
 ghost use Rattle.rings.specs.Inner.Peeling.{Split};
-
 use crate::refusal::Refusal;
 use crate::refusal::Verdict;
 

@@ -9,7 +9,6 @@ ghost use Rattle.rings.specs.Buffers.{verdictScratch};
 ghost use Rattle.rings.specs.CoreTimesCall.{timesAnswer, accountColumn, rowColumn};
 ghost use Rattle.rings.specs.Inner.Sound.{Sound};
 ghost use Rattle.rings.specs.Inner.Peeling.{query, season, Ready, Span, CoreTimesAre};
-
 use crate::Query;
 use crate::checks::are_equal;
 use crate::checks::check_call;
@@ -29,7 +28,19 @@ fn greater(a: u16, b: u16) -> u16
 }
 
 // The core time of row j: never outside the window's rows, else the greatest of its accounts' core times and its own day.
-pub fn row_time(days: &[u16], first: &[u16], second: &[u16], links: &[u16], k: u16, start: u16, stop: u16, lo: usize, end: usize, times: &[u16], j: usize) -> u16
+pub fn row_time(
+    days: &[u16],
+    first: &[u16],
+    second: &[u16],
+    links: &[u16],
+    k: u16,
+    start: u16,
+    stop: u16,
+    lo: usize,
+    end: usize,
+    times: &[u16],
+    j: usize,
+) -> u16
     requires { ⌜ Ready (now days) (now first) (now second) (now links) (season k start stop lo) ⌝ }
     requires { ⌜ Span (now days) stop lo end ⌝ }
     requires { ⌜ CoreTimesAre (now days) (now first) (now second) (season k start stop lo) (now times) ⌝ }
@@ -48,7 +59,19 @@ pub fn row_time(days: &[u16], first: &[u16], second: &[u16], links: &[u16], k: u
 }
 
 // A core time for each row.
-fn time_rows(days: &[u16], first: &[u16], second: &[u16], links: &[u16], k: u16, start: u16, stop: u16, lo: usize, end: usize, times: &[u16], rows: &mut [u16])
+fn time_rows(
+    days: &[u16],
+    first: &[u16],
+    second: &[u16],
+    links: &[u16],
+    k: u16,
+    start: u16,
+    stop: u16,
+    lo: usize,
+    end: usize,
+    times: &[u16],
+    rows: &mut [u16],
+)
     requires { ⌜ Ready (now days) (now first) (now second) (now links) (season k start stop lo) ⌝ }
     requires { ⌜ Span (now days) stop lo end ⌝ }
     requires { ⌜ CoreTimesAre (now days) (now first) (now second) (season k start stop lo) (now times) ⌝ }
@@ -57,13 +80,35 @@ fn time_rows(days: &[u16], first: &[u16], second: &[u16], links: &[u16], k: u16,
 {
     let mut j = 0;
     while j < days.len() {
-        rows[j] = row_time(days, first, second, links, k, start, stop, lo, end, times, j);
+        rows[j] = row_time(
+            days,
+            first,
+            second,
+            links,
+            k,
+            start,
+            stop,
+            lo,
+            end,
+            times,
+            j,
+        );
         j += 1;
     }
 }
 
 // The core times at s of an accepted table, in a range that ends on te.
-fn find_times(days: &[u16], first: &[u16], second: &[u16], k: u16, s: u16, te: u16, accounts: &mut [u16], rows: &mut [u16], scratch: &mut [u16])
+fn find_times(
+    days: &[u16],
+    first: &[u16],
+    second: &[u16],
+    k: u16,
+    s: u16,
+    te: u16,
+    accounts: &mut [u16],
+    rows: &mut [u16],
+    scratch: &mut [u16],
+)
     requires { ⌜ Sound (now days) (now first) (now second) ⌝ }
     requires { ⌜ (1 ≤ k) × (s ≤ te) × (te ≤ 1024) × (length (now accounts) ≡ 4096) × (length (now rows) ≡ length (now days)) × (8192 + 4 * length (now days) ≤ length (now scratch)) ⌝ }
     ensures { λ _. ⌜ (now (accounts .exit) ≡ run (accountTime (tableOf (now (days .entry)) (now (first .entry)) (now (second .entry))) (query k) te s) 0 4096) × (now (rows .exit) ≡ run (rowTime (tableOf (now (days .entry)) (now (first .entry)) (now (second .entry))) (query k) te s) 0 (length (now (days .entry)))) × (now (scratch .exit) ≡ replicate (length (now (scratch .entry))) 0) ⌝ }
@@ -73,12 +118,48 @@ fn find_times(days: &[u16], first: &[u16], second: &[u16], k: u16, s: u16, te: u
     let mut left = [0u16; 4096];
     let mut queue = [0u16; 4096];
     link(days, first, second, scratch);
-    peel(days, first, second, scratch, k, s, te, lo, end, accounts, &mut left, &mut queue);
-    time_rows(days, first, second, scratch, k, s, te, lo, end, accounts, rows);
+    peel(
+        days,
+        first,
+        second,
+        scratch,
+        k,
+        s,
+        te,
+        lo,
+        end,
+        accounts,
+        &mut left,
+        &mut queue,
+    );
+    time_rows(
+        days,
+        first,
+        second,
+        scratch,
+        k,
+        s,
+        te,
+        lo,
+        end,
+        accounts,
+        rows,
+    );
     clear(scratch);
 }
 
-pub fn core_times(days: &[u16], first: &[u16], second: &[u16], query: Query, ts: u16, te: u16, s: u16, accounts: &mut [u16], rows: &mut [u16], scratch: &mut [u16]) -> Verdict
+pub fn core_times(
+    days: &[u16],
+    first: &[u16],
+    second: &[u16],
+    query: Query,
+    ts: u16,
+    te: u16,
+    s: u16,
+    accounts: &mut [u16],
+    rows: &mut [u16],
+    scratch: &mut [u16],
+) -> Verdict
     ensures { λ r. ⌜ r ≡ timesAnswer (tableOf (now (days .entry)) (now (first .entry)) (now (second .entry))) query ts te s (length (now (accounts .entry))) (length (now (rows .entry))) (length (now (scratch .entry))) ⌝ }
     ensures { λ r. ⌜ now (accounts .exit) ≡ accountColumn r (tableOf (now (days .entry)) (now (first .entry)) (now (second .entry))) query te s (now (accounts .entry)) ⌝ }
     ensures { λ r. ⌜ now (rows .exit) ≡ rowColumn r (tableOf (now (days .entry)) (now (first .entry)) (now (second .entry))) query te s (now (rows .entry)) ⌝ }

@@ -1,3 +1,5 @@
+use Rattle.rings.proofs.TimeLaws.{row-early, row-late, row-reads, row-mid}
+use native.Mathlib.Omega.{arith}
 use borrow.Author.Needs.{needs}
 use Rattle.rings.proofs.times.row_time.Statement.{statement}
 use Rattle.rings.proofs.times.row_time.Tie as tie
@@ -8,11 +10,11 @@ use Rattle.rings.proofs.times.greater.Reads as greater-reads
 
 -- src/times.rt:40:9
 returns : tie.Need-returns
-returns c = ?
+returns c = row-early _ _ _ _ _ (c .before .before .before .before .before .before .pre .0) (c .before .before .before .before .before .before .pre .1 .0) (c .before .before .before .before .before .before .pre .1 .1 .0) (c .before .before .before .before .before .before .pre .1 .1 .1) (c .if1 .taken)
 
 -- src/times.rt:43:9
 returns-2 : tie.Need-returns-2
-returns-2 c = ?
+returns-2 c = row-late _ _ _ _ _ (c .before .before .before .before .before .before .before .pre .0) (c .before .before .before .before .before .before .before .pre .1 .0) (c .before .before .before .before .before .before .before .pre .1 .1 .0) (c .before .before .before .before .before .before .before .pre .1 .1 .1) (c .if2 .taken)
 
 -- src/times.rt:45:9
 entry-requires : tie.Need-entry-requires
@@ -24,19 +26,19 @@ entry-requires-2 c κs = search needs
 
 -- src/times.rt:47:21
 mul-greater : tie.Need-mul-greater
-mul-greater c = ?
+mul-greater c = omega (arith, row-reads _ _ _ _ _ (c .before .before .before .before .before .before .before .before .before .pre .0) (c .before .before .before .before .before .before .before .before .before .pre .1 .0) (c .before .before .before .before .before .before .before .before .before .pre .1 .1 .0) (c .before .before .before .before .before .before .before .before .before .pre .1 .1 .1) (c .before .entry .ensures) (c .entry2 .ensures))
 
 -- src/times.rt:47:21
 shared-slice-read-greater : tie.Need-shared-slice-read-greater
-shared-slice-read-greater c = ?
+shared-slice-read-greater c = row-reads _ _ _ _ _ (c .before .before .before .before .before .before .before .before .before .before .pre .0) (c .before .before .before .before .before .before .before .before .before .before .pre .1 .0) (c .before .before .before .before .before .before .before .before .before .before .pre .1 .1 .0) (c .before .before .before .before .before .before .before .before .before .before .pre .1 .1 .1) (c .before .before .entry .ensures) (c .before .entry2 .ensures) .2
 
 -- src/times.rt:47:31
 mul-greater-2 : tie.Need-mul-greater-2
-mul-greater-2 c = ?
+mul-greater-2 c = omega (arith, row-reads _ _ _ _ _ (c .before .before .before .before .before .before .before .before .before .before .pre .0) (c .before .before .before .before .before .before .before .before .before .before .pre .1 .0) (c .before .before .before .before .before .before .before .before .before .before .pre .1 .1 .0) (c .before .before .before .before .before .before .before .before .before .before .pre .1 .1 .1) (c .before .before .entry .ensures) (c .before .entry2 .ensures))
 
 -- src/times.rt:47:31
 shared-slice-read-greater-2 : tie.Need-shared-slice-read-greater-2
-shared-slice-read-greater-2 c = ?
+shared-slice-read-greater-2 c = row-reads _ _ _ _ _ (c .before .before .before .before .before .before .before .before .before .before .before .pre .0) (c .before .before .before .before .before .before .before .before .before .before .before .pre .1 .0) (c .before .before .before .before .before .before .before .before .before .before .before .pre .1 .1 .0) (c .before .before .before .before .before .before .before .before .before .before .before .pre .1 .1 .1) (c .before .before .before .entry .ensures) (c .before .before .entry2 .ensures) .3
 
 -- src/times.rt:47:13
 greater-requires : tie.Need-greater-requires
@@ -56,7 +58,7 @@ greater-requires-2 c κs = search needs
 
 -- src/times.rt:32:1
 returns-3 : tie.Need-returns-3
-returns-3 c = ?
+returns-3 c = row-mid _ _ _ _ _ (c .before .before .before .before .before .before .before .before .before .before .before .before .before .before .pre .0) (c .before .before .before .before .before .before .before .before .before .before .before .before .before .before .pre .1 .0) (c .before .before .before .before .before .before .before .before .before .before .before .before .before .before .pre .1 .1 .0) (c .before .before .before .before .before .before .before .before .before .before .before .before .before .before .pre .1 .1 .1) (c .before .before .before .before .before .before .before .before .if1 .left) (c .before .before .before .before .before .before .before .if2 .left) (c .before .before .before .before .before .before .entry .ensures) (c .before .before .before .before .before .entry2 .ensures) (c .before .before .greater .ensures) (c .greater2 .ensures)
 
 pub row-time-spec : {M : Type 1} → statement M
 row-time-spec =

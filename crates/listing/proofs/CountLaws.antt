@@ -1,0 +1,392 @@
+-- What a listing lists, and how many rings a range has.
+--     windows-length           the windows of a range number n(n+1)/2
+--     listing-most, rings-most no listing has more entries, and no range has more rings
+--     same-length, same-total  two lists of different members have one length and one sum where they have the same members
+--     same-rows-e, same-rows-i sameRows says that two row sets are equal
+--     distinct-listed          a listing has as many entries as the range has distinct rings that are not empty
+--     distinct-are, rings-counted    `distinctRings` holds exactly these rings, each once; any list that does has as many
+--     distinct-sum, sum-most   its sum is the sum of their rows, and at most n(n+1)/2 times the rows of the table
+--     listing-is, listing-only `listing` holds exactly the entries of the range, in order, and is the only such list
+--     listing-order            by start, then end
+--     ring-listed              each window's ring, if not empty, is listed once and only once, by its tightest window
+-- Assumes nothing.
+use Prim.Native.Nat.{ℕ, zero, suc, _+_, _*_, _-_, _/_, _≤_, _<_, zero-le}
+use native.Mathlib.Nat.{le-refl, le-trans, le-antisymm, suc-mul, mul-suc, mul-le-mul-right, add-mul-div-right}
+use native.Mathlib.Omega.{arith}
+use mathlib.Core.Path.{_≡_, refl, sym, _∙_, ap, subst}
+use mathlib.Core.Logic.{_⊎_, ⊎-elim}
+use mathlib.Core.Bool.{Bool, true, false}
+use mathlib.Core.List.{List, [], _∷_, map, List·Memᴰ as Mem, List·Memᴰ·head as here, List·Memᴰ·tail as there, List·Memᴰ·not-nil as not-nil, List·Memᴰ·cases-cons as cases-cons, Memᴰ·cast as mem-cast}
+use lib.ListN.{length, length-map, length-append}
+use Rattle.rings.specs.Words.{_and_, no, run, joined, kept, chosen, oneOf, Pairwise}
+use Rattle.rings.specs.Words.Pairwise.{none, more}
+use Rattle.rings.specs.Table.{Table, size}
+use Rattle.rings.specs.Ring.{ring, members}
+use Rattle.rings.specs.CoreTimes.{never}
+use Rattle.rings.specs.Windows.{Window, windowsFrom, windows}
+use Rattle.rings.specs.declared.Query.{Query}
+use Rattle.rings.proofs.WordLaws.{look, clash, and-i, and-l, and-r, length-run}
+use Rattle.rings.proofs.ListLaws.{chosen-yes, chosen-no, mem-chosen, chosen-mem, mem-map, map-mem, oneOf-i, oneOf-e, pair-chosen, pair-map, pair-weaken, pair-unique}
+use Rattle.rings.proofs.PeelLaws.{members-length}
+use Rattle.rings.proofs.RingLaws.{ring-sized}
+use Rattle.rings.proofs.WindowLaws.{OfRange, Earlier, windows-e, windows-i, windows-order}
+use Rattle.listing.specs.Tight.{nonempty, tightest, tight}
+use Rattle.listing.specs.Listing.{ListedRing, entryOf, listing, rowSum}
+use Rattle.listing.specs.Distinct.{sameMark, sameRows, distinct, ringsOf, distinctRings}
+use Rattle.listing.specs.EachRing.{Sooner, EntryOf, IsListing, ofRing, ListedOnce, AreRings, RingOf, ringSum}
+use Rattle.listing.specs.LongestList.{longest, daysOf}
+use Rattle.listing.proofs.TightLaws.{nonempty-e, nonempty-i, tight-e, tightest-ring, tight-one}
+
+-- ---- the most rings that there can be
+
+longest-suc : (n : ℕ) → longest (suc n) ≡ suc n + longest n
+unfolding longest
+longest-suc n = ap (λ (m : ℕ). m / 2) twice ∙ (add-mul-div-right (n * (n + 1)) (suc n) (omega arith) ∙ omega arith)
+  where
+    twice : suc n * (suc n + 1) ≡ n * (n + 1) + suc n * 2
+    twice =
+        let a : suc n * (suc n + 1) ≡ n * (suc n + 1) + (suc n + 1) = suc-mul n (suc n + 1) in
+        let b : n * (suc n + 1) ≡ n * (n + 1) + n = ap (λ (m : ℕ). n * m) (omega arith) ∙ mul-suc n (n + 1) in
+        a ∙ (ap (λ (m : ℕ). m + (suc n + 1)) b ∙ omega arith)
+
+pub windows-length : (lo hi : ℕ) → length (windows lo hi) ≡ longest (daysOf lo hi)
+unfolding windows daysOf run joined windowsFrom longest
+windows-length lo hi = from (suc hi - lo) lo refl
+  where
+    from : (n i : ℕ) → n ≡ suc hi - i → length (joined (run (windowsFrom hi) i n)) ≡ longest n
+    from zero i e = refl
+    from (suc n) i e =
+        let a : length (windowsFrom hi i) ≡ suc n = length-run (λ d. record { start = i; end = d }) i (suc hi - i) ∙ sym e in
+        let b : length (joined (run (windowsFrom hi) (suc i) n)) ≡ longest n = from n (suc i) (omega arith) in
+        length-append (windowsFrom hi i) (joined (run (windowsFrom hi) (suc i) n)) ∙ (ap (λ (m : ℕ). m + length (joined (run (windowsFrom hi) (suc i) n))) a ∙ (ap (λ (m : ℕ). suc n + m) b ∙ sym (longest-suc n)))
+
+chosen-length : {A : Type 0} (p : A → Bool) (xs : List A) → length (chosen p xs) ≤ length xs
+unfolding chosen
+chosen-length p [] = le-refl 0
+chosen-length p (x ∷ xs) =
+    let h : length (chosen p xs) ≤ length xs = chosen-length p xs in
+    ⊎-elim (λ a. let e : length (chosen p (x ∷ xs)) ≡ suc (length (chosen p xs)) = ap length (chosen-yes p x xs a) in omega arith)
+    (λ a. let e : length (chosen p (x ∷ xs)) ≡ length (chosen p xs) = ap length (chosen-no p x xs a) in omega arith) (look (p x))
+
+pub listing-most : (t : Table) (q : Query) (lo hi : ℕ) → length (listing t q lo hi) ≤ longest (daysOf lo hi)
+unfolding listing
+listing-most t q lo hi =
+    let test : Window → Bool = λ w. tight t q (w .start) (w .end) in
+    let a : length (map (entryOf t q) (chosen test (windows lo hi))) ≡ length (chosen test (windows lo hi)) = length-map (chosen test (windows lo hi)) (entryOf t q) in
+    let b : length (chosen test (windows lo hi)) ≤ length (windows lo hi) = chosen-length test (windows lo hi) in
+    let c : length (windows lo hi) ≡ longest (daysOf lo hi) = windows-length lo hi in
+    omega arith
+
+-- ---- lists of different members
+
+abbrev pub Apart : {A : Type 0} → A → A → Type 0
+Apart x y = x ≡ y → ⊥
+
+abbrev total : {A : Type 0} → (A → ℕ) → List A → ℕ
+total f [] = 0
+total f (x ∷ xs) = f x + total f xs
+
+module _ {A : Type 0} where
+  -- a list with one place of x taken out
+  record Without (x : A) (ys : List A) : Type 0 where
+    rest : List A
+    less : (f : A → ℕ) → total f ys ≡ f x + total f rest
+    others : (z : A) → Mem z ys → Apart z x → Mem z rest
+
+  without : (x : A) (ys : List A) → Mem x ys → Without x ys
+  without x [] m = absurd (not-nil m)
+  without x (y ∷ ys) m =
+      ⊎-elim (λ e. record { rest = ys; less = λ f. ap (λ (z : A). f z + total f ys) (sym e); others = λ z n a. ⊎-elim (λ r. absurd (a (r ∙ sym e))) (λ r. r) (cases-cons n) })
+      (λ h.
+      let w = without x ys h in
+      record { rest = y ∷ w .rest; less = λ f. let e : total f ys ≡ f x + total f (w .rest) = w .less f in omega arith; others = λ z n a. ⊎-elim (λ r. here r) (λ r. there (w .others z r a)) (cases-cons n) }) (cases-cons m)
+
+  -- different members sum up to no more than a list that has them all
+  no-more : (f : A → ℕ) (xs ys : List A) → Pairwise Apart xs → ((x : A) → Mem x xs → Mem x ys) → total f xs ≤ total f ys
+  no-more f [] ys p h = zero-le
+  no-more f (x ∷ xs) ys (more g p) h =
+      let w = without x ys (h x (here refl)) in
+      let l : total f xs ≤ total f (w .rest) = no-more f xs (w .rest) p (λ z m. w .others z (h z (there m)) (λ e. g z m (sym e))) in
+      let e : total f ys ≡ f x + total f (w .rest) = w .less f in omega arith
+
+  -- two lists of different members with the same members
+  record Same (xs ys : List A) : Type 0 where
+    left-apart : Pairwise Apart xs
+    right-apart : Pairwise Apart ys
+    to : (x : A) → Mem x xs → Mem x ys
+    back : (x : A) → Mem x ys → Mem x xs
+
+  same-total : (f : A → ℕ) (xs ys : List A) → Same xs ys → total f xs ≡ total f ys
+  same-total f xs ys s = le-antisymm (no-more f xs ys (s .left-apart) (s .to)) (no-more f ys xs (s .right-apart) (s .back))
+
+  length-total : (xs : List A) → length xs ≡ total (λ x. 1) xs
+  length-total [] = refl
+  length-total (x ∷ xs) = let e : length xs ≡ total (λ x. 1) xs = length-total xs in omega arith
+
+  same-length : (xs ys : List A) → Same xs ys → length xs ≡ length ys
+  same-length xs ys s = length-total xs ∙ (same-total (λ x. 1) xs ys s ∙ sym (length-total ys))
+
+-- ---- distinct row sets
+
+pub same-rows-e : (m m′ : List Bool) → sameRows m m′ ≡ true → m ≡ m′
+unfolding sameRows sameMark no
+same-rows-e [] [] h = refl
+same-rows-e [] (b ∷ m′) h = clash refl (sym h)
+same-rows-e (a ∷ m) [] h = clash refl (sym h)
+same-rows-e (a ∷ m) (b ∷ m′) h = let e : m ≡ m′ = same-rows-e m m′ (and-r (sameMark a b) (sameRows m m′) h) in let f : a ≡ b = marks-e a b (and-l (sameMark a b) (sameRows m m′) h) in cc
+  where
+    marks-e : (x y : Bool) → sameMark x y ≡ true → x ≡ y
+    marks-e true y k = sym k
+    marks-e false true k = k
+    marks-e false false k = refl
+
+pub same-rows-i : (m : List Bool) → sameRows m m ≡ true
+unfolding sameRows sameMark no
+same-rows-i [] = refl
+same-rows-i (true ∷ m) = and-i refl (same-rows-i m)
+same-rows-i (false ∷ m) = and-i refl (same-rows-i m)
+
+distinct-again : (m : List Bool) (ms : List (List Bool)) → oneOf (sameRows m) ms ≡ true → distinct (m ∷ ms) ≡ distinct ms
+unfolding distinct kept no
+distinct-again m ms h = ap (λ (b : Bool). kept (no b) m (distinct ms)) h
+
+distinct-new : (m : List Bool) (ms : List (List Bool)) → oneOf (sameRows m) ms ≡ false → distinct (m ∷ ms) ≡ m ∷ distinct ms
+unfolding distinct kept no
+distinct-new m ms h = ap (λ (b : Bool). kept (no b) m (distinct ms)) h
+
+distinct-nil : distinct [] ≡ []
+unfolding distinct
+distinct-nil = refl
+
+distinct-mem : (ms : List (List Bool)) {z : List Bool} → Mem z (distinct ms) → Mem z ms
+distinct-mem [] {z} h = subst (Mem z) distinct-nil h
+distinct-mem (m ∷ ms) {z} h =
+    ⊎-elim (λ a. there (distinct-mem ms (subst (Mem z) (distinct-again m ms a) h)))
+    (λ a. ⊎-elim (λ e. here e) (λ r. there (distinct-mem ms r)) (cases-cons (subst (Mem z) (distinct-new m ms a) h))) (look (oneOf (sameRows m) ms))
+
+mem-distinct : (ms : List (List Bool)) {z : List Bool} → Mem z ms → Mem z (distinct ms)
+mem-distinct [] h = absurd (not-nil h)
+mem-distinct (m ∷ ms) {z} h =
+    ⊎-elim (λ a. subst (Mem z) (sym (distinct-again m ms a)) (mem-distinct ms (later a)))
+    (λ a. subst (Mem z) (sym (distinct-new m ms a)) (⊎-elim (λ e. here e) (λ r. there (mem-distinct ms r)) (cases-cons h))) (look (oneOf (sameRows m) ms))
+  where
+    -- a row set that comes again stands at a later place too
+    later : oneOf (sameRows m) ms ≡ true → Mem z ms
+    later a = let w = oneOf-e (sameRows m) ms a in ⊎-elim (λ e. mem-cast (e ∙ same-rows-e m (w .it) (w .has)) (w .member)) (λ r. r) (cases-cons h)
+
+distinct-apart : (ms : List (List Bool)) → Pairwise Apart (distinct ms)
+distinct-apart [] = subst (Pairwise Apart) (sym distinct-nil) none
+distinct-apart (m ∷ ms) =
+    ⊎-elim (λ a. subst (Pairwise Apart) (sym (distinct-again m ms a)) (distinct-apart ms))
+    (λ a. subst (Pairwise Apart) (sym (distinct-new m ms a)) (more (λ y h e. clash (oneOf-i (sameRows m) ms y (distinct-mem ms h) (subst (λ (z : List Bool). sameRows m z ≡ true) e (same-rows-i m))) a) (distinct-apart ms))) (look (oneOf (sameRows m) ms))
+
+-- ---- the rings of a range
+
+module _ (t : Table) (q : Query) (lo hi : ℕ) where
+  abbrev test : Window → Bool
+  test w = tight t q (w .start) (w .end)
+
+  abbrev ringOf : Window → List Bool
+  ringOf w = ring t q (w .start) (w .end)
+
+  -- two tight windows, one before the other, have different rings
+  rings-differ : (v w : Window) → test v ≡ true → test w ≡ true → Earlier v w → Apart (ringOf v) (ringOf w)
+  rings-differ v w a b o e =
+      let p = tight-one t q (v .start) (v .end) (w .start) (w .end) a b e in
+      let x = p .0 in let y = p .1 in
+      ⊎-elim (λ l. omega arith) (λ l. let k = l .1 in omega arith) o
+
+  tights-e : (w : Window) → Mem w (chosen test (windows lo hi)) → OfRange lo hi w × (test w ≡ true)
+  tights-e w m = let a = chosen-mem test (windows lo hi) m in (windows-e lo hi w (a .0), a .1)
+
+  tights-i : (w : Window) → OfRange lo hi w → test w ≡ true → Mem w (chosen test (windows lo hi))
+  tights-i w o h = mem-chosen test (windows lo hi) (windows-i lo hi w o) h
+
+  tights-order : Pairwise Earlier (chosen test (windows lo hi))
+  tights-order = pair-chosen Earlier test (windows lo hi) (windows-order lo hi)
+
+  -- a tight window of the range with the ring of [s, e]
+  record Tightened (s e : ℕ) : Type 0 where
+    it : Window
+    of-range : OfRange lo hi it
+    is-tight : test it ≡ true
+    same : ringOf it ≡ ring t q s e
+    from : s ≤ it .start
+    to : it .end ≤ e
+
+  tighten : hi < never → (s e : ℕ) → lo ≤ s → e ≤ hi → nonempty (ring t q s e) ≡ true → Tightened s e
+  tighten fits s e f l h =
+      let j = nonempty-e t q s e h in
+      let g = tightest-ring t q s e (omega arith) (j .0) (j .1) in
+      let f′ = g .from in let l′ = g .to in
+      record { it = record { start = g .start; end = g .end }; of-range = record { from = omega arith; order = g .order; to = omega arith }; is-tight = g .is-tight; same = g .same; from = f′; to = l′ }
+
+  tight-ring : {s e : ℕ} → Tightened s e → Mem (ring t q s e) (map ringOf (chosen test (windows lo hi)))
+  tight-ring g = mem-cast (sym (g .same)) (mem-map ringOf (chosen test (windows lo hi)) (tights-i (g .it) (g .of-range) (g .is-tight)))
+
+  -- ---- demand 3's count and sum
+
+  rings : List (List Bool)
+  rings = chosen nonempty (map ringOf (windows lo hi))
+
+  tights : List Window
+  tights = chosen test (windows lo hi)
+
+  -- the distinct rings are those of the tight windows
+  same-rings : hi < never → Same (distinct rings) (map ringOf tights)
+  unfolding rings tights
+  same-rings fits = record { left-apart = distinct-apart (chosen nonempty (map ringOf (windows lo hi))); right-apart = apart; to = to; back = back }
+    where
+      apart : Pairwise Apart (map ringOf tights)
+      apart =
+          pair-map ringOf Apart tights
+          (pair-weaken Earlier (λ v w. Apart (ringOf v) (ringOf w)) tights tights-order (λ v w m n. rings-differ v w (tights-e v m .1) (tights-e w n .1)))
+
+      -- a ring that is not empty is that of its tightest window
+      to : (m : List Bool) → Mem m (distinct rings) → Mem m (map ringOf tights)
+      to m h =
+          let a = chosen-mem nonempty (map ringOf (windows lo hi)) (distinct-mem rings h) in
+          let b = map-mem ringOf (windows lo hi) (a .0) in
+          let o = windows-e lo hi (b .it) (b .member) in
+          mem-cast (b .is) (tight-ring (tighten fits (b .it .start) (b .it .end) (o .from) (o .to) (subst (λ (x : List Bool). nonempty x ≡ true) (b .is) (a .1))))
+
+      -- the ring of a tight window is not empty
+      back : (m : List Bool) → Mem m (map ringOf tights) → Mem m (distinct rings)
+      back m h =
+          let a = map-mem ringOf tights h in
+          let w = a .it in
+          let b = tights-e w (a .member) in
+          let f = b .0 .order in let l = b .0 .to in
+          let r = tight-e t q (w .start) (w .end) (omega arith) (b .1) .first in
+          mem-distinct rings
+          (mem-cast (a .is) (mem-chosen nonempty (map ringOf (windows lo hi)) (mem-map ringOf (windows lo hi) (windows-i lo hi w (b .0))) (nonempty-i t q (w .start) (w .end) (r .row) (r .in-ring))))
+
+  -- as many entries as distinct rings that are not empty
+  pub distinct-listed : hi < never → length (distinctRings t q lo hi) ≡ length (listing t q lo hi)
+  unfolding distinctRings ringsOf listing rings tights
+  distinct-listed fits = same-length (distinct rings) (map ringOf tights) (same-rings fits) ∙ (length-map tights ringOf ∙ sym (length-map tights (entryOf t q)))
+
+  -- and their rows, each ring's once, are the sum
+  pub distinct-sum : hi < never → ringSum (distinctRings t q lo hi) ≡ rowSum (listing t q lo hi)
+  unfolding distinctRings ringsOf listing rings tights ringSum rowSum entryOf
+  distinct-sum fits = of-rings (distinct rings) ∙ (same-total members (distinct rings) (map ringOf tights) (same-rings fits) ∙ of-entries tights)
+    where
+      of-rings : (ms : List (List Bool)) → ringSum ms ≡ total members ms
+      of-rings [] = refl
+      of-rings (m ∷ ms) = ap (λ (n : ℕ). members m + n) (of-rings ms)
+
+      of-entries : (ws : List Window) → total members (map ringOf ws) ≡ rowSum (map (entryOf t q) ws)
+      of-entries [] = refl
+      of-entries (w ∷ ws) = ap (λ (n : ℕ). members (ringOf w) + n) (of-entries ws)
+
+  pub distinct-are : AreRings t q lo hi (distinctRings t q lo hi)
+  unfolding distinctRings ringsOf
+  distinct-are = record { each = each-one; whole = whole-list; apart = distinct-apart (chosen nonempty (map ringOf (windows lo hi))) }
+    where
+      each-one : (m : List Bool) → Mem m (distinct (chosen nonempty (map ringOf (windows lo hi)))) → RingOf t q lo hi m
+      each-one m h =
+          let a = chosen-mem nonempty (map ringOf (windows lo hi)) (distinct-mem (chosen nonempty (map ringOf (windows lo hi))) h) in
+          let b = map-mem ringOf (windows lo hi) (a .0) in
+          let o = windows-e lo hi (b .it) (b .member) in
+          record { start = b .it .start; end = b .it .end; from = o .from; order = o .order; to = o .to; is = b .is; has-row = a .1 }
+
+      whole-list : (m : List Bool) → RingOf t q lo hi m → Mem m (distinct (chosen nonempty (map ringOf (windows lo hi))))
+      whole-list m r =
+          mem-distinct (chosen nonempty (map ringOf (windows lo hi)))
+          (mem-chosen nonempty (map ringOf (windows lo hi)) (mem-cast (r .is) (mem-map ringOf (windows lo hi) (windows-i lo hi (record { start = r .start; end = r .end }) (record { from = r .from; order = r .order; to = r .to })))) (r .has-row))
+
+  -- the same of any list of the distinct rings
+  pub rings-counted : hi < never → (ms : List (List Bool)) → AreRings t q lo hi ms → length ms ≡ length (listing t q lo hi)
+  rings-counted fits ms a =
+      let b = distinct-are in
+      same-length ms (distinctRings t q lo hi) (record { left-apart = a .apart; right-apart = b .apart; to = λ m h. b .whole m (a .each m h); back = λ m h. a .whole m (b .each m h) }) ∙ distinct-listed fits
+
+  -- no range has more rings than n(n+1)/2
+  pub rings-most : hi < never → length (distinctRings t q lo hi) ≤ longest (daysOf lo hi)
+  rings-most fits = subst (λ (n : ℕ). n ≤ longest (daysOf lo hi)) (sym (distinct-listed fits)) (listing-most t q lo hi)
+
+  -- no ring has more rows than the table
+  pub sum-most : rowSum (listing t q lo hi) ≤ longest (daysOf lo hi) * size t
+  unfolding listing rowSum entryOf
+  sum-most = le-trans (of-entries (chosen test (windows lo hi))) (mul-le-mul-right (size t) (subst (λ (n : ℕ). n ≤ longest (daysOf lo hi)) (length-map (chosen test (windows lo hi)) (entryOf t q)) (listing-most t q lo hi)))
+    where
+      of-entries : (ws : List Window) → rowSum (map (entryOf t q) ws) ≤ length ws * size t
+      of-entries [] = zero-le
+      of-entries (w ∷ ws) =
+          let a : members (ringOf w) ≤ size t = subst (λ (n : ℕ). members (ringOf w) ≤ n) (ring-sized t q (w .start) (w .end)) (members-length (ringOf w)) in
+          let b : rowSum (map (entryOf t q) ws) ≤ length ws * size t = of-entries ws in
+          let c : suc (length ws) * size t ≡ length ws * size t + size t = suc-mul (length ws) (size t) in omega arith
+
+  -- ---- the listing in words
+
+  listing-e : (x : ListedRing) → Mem x (listing t q lo hi) → EntryOf t q lo hi x
+  unfolding listing entryOf tight
+  listing-e x m =
+      let a = map-mem (entryOf t q) (chosen test (windows lo hi)) m in
+      let b = tights-e (a .it) (a .member) in
+      subst (EntryOf t q lo hi) (sym (a .is)) (record { from = b .0 .from; order = b .0 .order; to = b .0 .to; is-tightest = b .1; counts = refl })
+
+  listing-i : (x : ListedRing) → EntryOf t q lo hi x → Mem x (listing t q lo hi)
+  unfolding listing entryOf tight
+  listing-i x o =
+      mem-cast (λ i. record { start = x .start; end = x .end; rows = o .counts i })
+      (mem-map (entryOf t q) (chosen test (windows lo hi)) (tights-i (record { start = x .start; end = x .end }) (record { from = o .from; order = o .order; to = o .to }) (o .is-tightest)))
+
+  pub listing-order : Pairwise Sooner (listing t q lo hi)
+  unfolding listing entryOf
+  listing-order = pair-map (entryOf t q) Sooner (chosen test (windows lo hi)) tights-order
+
+  pub listing-is : IsListing t q lo hi (listing t q lo hi)
+  listing-is = record { each = listing-e; whole = listing-i; in-order = listing-order }
+
+  strict : (x y : ListedRing) → Sooner x y → Sooner y x → ⊥
+  strict x y (_⊎_.inl a) (_⊎_.inl b) = omega arith
+  strict x y (_⊎_.inl a) (_⊎_.inr b) = let c = b .0 in omega arith
+  strict x y (_⊎_.inr a) (_⊎_.inl b) = let c = a .0 in omega arith
+  strict x y (_⊎_.inr a) (_⊎_.inr b) = let c = a .1 in let d = b .1 in omega arith
+
+  pub listing-only : (xs : List ListedRing) → IsListing t q lo hi xs → xs ≡ listing t q lo hi
+  listing-only xs l = pair-unique Sooner strict xs (listing t q lo hi) (l .in-order) listing-order (λ x m. listing-i x (l .each x m)) (λ x m. l .whole x (listing-e x m))
+
+  -- two entries with one ring are one
+  entry-one : (x y : ListedRing) → EntryOf t q lo hi x → EntryOf t q lo hi y → ring t q (x .start) (x .end) ≡ ring t q (y .start) (y .end) → x ≡ y
+  unfolding tight
+  entry-one x y a b e =
+      let p = tight-one t q (x .start) (x .end) (y .start) (y .end) (a .is-tightest) (b .is-tightest) e in
+      let r : x .rows ≡ y .rows = a .counts ∙ (ap members e ∙ sym (b .counts)) in
+      λ i. record { start = p .0 i; end = p .1 i; rows = r i }
+
+  -- each window's ring, if not empty, is listed once and only once
+  pub ring-listed : hi < never → (s e : ℕ) → lo ≤ s → e ≤ hi → nonempty (ring t q s e) ≡ true → ListedOnce t q lo hi s e
+  unfolding ofRing tight
+  ring-listed fits s e f l h =
+      record {
+        entry = x;
+        once = pair-unique Sooner strict (chosen (ofRing t q (ring t q s e)) (listing t q lo hi)) (x ∷ []) (pair-chosen Sooner (ofRing t q (ring t q s e)) (listing t q lo hi) listing-order) (more (λ y m. absurd (not-nil m)) none) to back;
+        is-listed = listing-i x is-entry;
+        only = only-x;
+        is-tightest = subst (λ (m : List Bool). tightest t m (x .start) (x .end) ≡ true) (g .same) (g .is-tight);
+        same-ring = g .same;
+        from = g .from;
+        to = g .to;
+        counts = ap members (g .same);
+      }
+    where
+      g : Tightened s e
+      g = tighten fits s e f l h
+
+      x : ListedRing
+      x = record { start = g .it .start; end = g .it .end; rows = members (ringOf (g .it)) }
+
+      is-entry : EntryOf t q lo hi x
+      is-entry = record { from = g .of-range .from; order = g .of-range .order; to = g .of-range .to; is-tightest = g .is-tight; counts = refl }
+
+      only-x : (y : ListedRing) → Mem y (listing t q lo hi) → ring t q (y .start) (y .end) ≡ ring t q s e → y ≡ x
+      only-x y m r = entry-one y x (listing-e y m) is-entry (r ∙ sym (g .same))
+
+      to : (y : ListedRing) → Mem y (chosen (ofRing t q (ring t q s e)) (listing t q lo hi)) → Mem y (x ∷ [])
+      to y m = let a = chosen-mem (ofRing t q (ring t q s e)) (listing t q lo hi) m in here (only-x y (a .0) (same-rows-e (ring t q (y .start) (y .end)) (ring t q s e) (a .1)))
+
+      back : (y : ListedRing) → Mem y (x ∷ []) → Mem y (chosen (ofRing t q (ring t q s e)) (listing t q lo hi))
+      back y m =
+          ⊎-elim (λ r. mem-cast r (mem-chosen (ofRing t q (ring t q s e)) (listing t q lo hi) (listing-i x is-entry) (subst (λ (n : List Bool). sameRows (ringOf (g .it)) n ≡ true) (g .same) (same-rows-i (ringOf (g .it)))))) (λ r. absurd (not-nil r)) (cases-cons m)

@@ -1,0 +1,69 @@
+-- Core times as columns (src/times.rt).
+--     row-early, row-late, row-mid       what `row_time` returns
+--     Filled, fill-start, fill-next, fill-end      a column filled from the front
+--     accounts-are       the account column
+-- Assumes nothing.
+use Prim.Native.Nat.{ℕ, zero, suc, _+_, max, _≤_, _<_}
+use native.Mathlib.Nat.{eq-or-lt-of-le, not-suc-le-zero, le-antisymm, zero-add}
+use native.Mathlib.Omega.{arith}
+use mathlib.Core.Path.{_≡_, refl, sym, _∙_, ap, subst}
+use mathlib.Core.Logic.{⊎-elim}
+use mathlib.Core.List.{List}
+use lib.ListN.{length, getD, set, length-set}
+use lib.Seq.{ext-getD, getD-set-same, getD-set-other}
+use Rattle.rings.specs.Words.{at, run}
+use Rattle.rings.specs.Table.{Table, tableOf, dayOf, firstOf, secondOf}
+use Rattle.rings.specs.CoreTimes.{never, accountTime, rowTime}
+use Rattle.rings.specs.Inner.Peeling.{query, Season, Ready, Span, CoreTimesAre}
+use Rattle.rings.proofs.WordLaws.{length-run, getD-run}
+use Rattle.rings.proofs.CoreTimeLaws.{row-max, row-before, row-after}
+
+module _ (d f s links : List ℕ) (q : Season) (R : Ready d f s links q) {end : ℕ} (Sp : Span d (q .end) (q .lo) end) {x : List ℕ} (C : CoreTimesAre d f s q x) {j : ℕ} (b : j < length d) where
+  a-small : getD f j 0 < 4096
+  a-small = let y = R .sound .rows j b in let z = y .accounts in let k = y .account-to in omega arith
+
+  b-small : getD s j 0 < 4096
+  b-small = let k = R .sound .rows j b .account-to in omega arith
+
+  pub row-early : j < q .lo → never ≡ rowTime (tableOf d f s) (query (q .k)) (q .end) (q .start) j
+  row-early h = sym (row-before (tableOf d f s) (query (q .k)) (q .end) (q .start) j (R .setting .before-lo j h))
+
+  pub row-late : end ≤ j → never ≡ rowTime (tableOf d f s) (query (q .k)) (q .end) (q .start) j
+  unfolding dayOf at
+  row-late h = sym (row-after (tableOf d f s) (query (q .k)) (q .end) (q .start) j (Sp .later j h b))
+
+  pub row-reads : {a c : ℕ} → a ≡ getD f j 0 → c ≡ getD s j 0 → (a < 4096) × (c < 4096) × (a < length x) × (c < length x)
+  row-reads ea ec = let y = a-small in let z = b-small in let n = C .long in (omega arith, omega arith, omega arith, omega arith)
+
+  pub row-mid : q .lo ≤ j → j < end → {a c g g′ : ℕ} → a ≡ getD f j 0 → c ≡ getD s j 0 → g ≡ max (getD x a 0) (getD x c 0) → g′ ≡ max g (getD d j 0) → g′ ≡ rowTime (tableOf d f s) (query (q .k)) (q .end) (q .start) j
+  unfolding firstOf secondOf dayOf at
+  row-mid h k {a} {c} {g} {g′} ea ec eg eg′ =
+      eg′ ∙ (ap (λ (y : ℕ). max y (getD d j 0)) (eg ∙ (ap (λ (y : ℕ). max y (getD x c 0)) one ∙ ap (max (accountTime (tableOf d f s) (query (q .k)) (q .end) (q .start) (getD f j 0))) two))
+      ∙ sym (row-max (tableOf d f s) (query (q .k)) (q .end) (q .start) (R .setting .fits) j (record { row = b; from = R .setting .from-lo j b h; to = Sp .inside j k })))
+    where
+      one : getD x a 0 ≡ accountTime (tableOf d f s) (query (q .k)) (q .end) (q .start) (getD f j 0)
+      one = ap (λ (y : ℕ). getD x y 0) ea ∙ C .times (getD f j 0) a-small
+
+      two : getD x c 0 ≡ accountTime (tableOf d f s) (query (q .k)) (q .end) (q .start) (getD s j 0)
+      two = ap (λ (y : ℕ). getD x y 0) ec ∙ C .times (getD s j 0) b-small
+
+-- ---- a column filled from the front
+
+pub record Filled (g : ℕ → ℕ) (j : ℕ) (m₀ m : List ℕ) : Type 0 where
+  pub long : length m ≡ length m₀
+  pub done : (i : ℕ) → i < j → getD m i 0 ≡ g i
+
+pub fill-start : (g : ℕ → ℕ) (m : List ℕ) → Filled g 0 m m
+fill-start g m = record { long = refl; done = λ i h. absurd (not-suc-le-zero h) }
+
+pub fill-next : {g : ℕ → ℕ} {j : ℕ} {m₀ m : List ℕ} {v : ℕ} → Filled g j m₀ m → j < length m → v ≡ g j → Filled g (j + 1) m₀ (set m j v)
+fill-next {g} {j} {m₀} {m} {v} F l e =
+    record { long = length-set m j v ∙ F .long; done = λ i h. ⊎-elim (λ y. ap (λ (c : ℕ). getD (set m j v) c 0) y ∙ (getD-set-same m j v 0 l ∙ (e ∙ ap g (sym y)))) (λ o. getD-set-other m j i v 0 (λ y. omega arith) ∙ F .done i o) (eq-or-lt-of-le (omega arith)) }
+
+pub fill-end : (g : ℕ → ℕ) {j n : ℕ} {m₀ m : List ℕ} → Filled g j m₀ m → length m₀ ≡ n → n ≤ j → m ≡ run g 0 n
+fill-end g {j} {n} {m₀} {m} F e h =
+    ext-getD 0 m (run g 0 n) (F .long ∙ (e ∙ sym (length-run g 0 n)))
+    (λ i l. let a = F .long in F .done i (omega arith) ∙ sym (getD-run g 0 n i 0 (omega arith) ∙ ap g (zero-add i)))
+
+pub accounts-are : {d f s : List ℕ} {q : Season} {x : List ℕ} → CoreTimesAre d f s q x → x ≡ run (accountTime (tableOf d f s) (query (q .k)) (q .end) (q .start)) 0 4096
+accounts-are {d} {f} {s} {q} {x} C = fill-end (accountTime (tableOf d f s) (query (q .k)) (q .end) (q .start)) {j = 4096} {m₀ = x} (record { long = refl; done = C .times }) (C .long) (omega arith)

@@ -1,0 +1,73 @@
+use lib.ListN.{length}
+use Rattle.rings.proofs.CallLaws.{times-refused, times-done}
+use Rattle.rings.proofs.MarkLaws.{call-sound, call-k, call-window, call-lengths, call-scratch, start-e, lengths-e}
+use mathlib.Core.Path.{_∙_, sym}
+use borrow.Author.Needs.{needs}
+use Rattle.rings.proofs.times.core_times.Statement.{statement}
+use Rattle.rings.proofs.times.core_times.Tie as tie
+use Rattle.rings.proofs.times.core_times.Reads as reads
+use Rattle.rings.proofs.times.core_times.Lts as lts
+use Rattle.rings.proofs.checks.are_equal.Reads as are-equal-reads
+use Rattle.rings.proofs.checks.check_call.Reads as check-call-reads
+use Rattle.rings.proofs.checks.is_start.Reads as is-start-reads
+use Rattle.rings.proofs.times.find_times.Reads as find-times-reads
+
+-- src/times.rt:87:9
+is-start-requires : tie.Need-is-start-requires
+is-start-requires c κs = search needs
+
+-- src/times.rt:88:9
+are-equal-requires : tie.Need-are-equal-requires
+are-equal-requires c κs = search needs
+
+-- src/times.rt:89:9
+check-call-requires : tie.Need-check-call-requires
+check-call-requires c κs = search needs
+
+-- src/times.rt:91:26
+enum-known-found : tie.Need-enum-known-found
+enum-known-found c = search needs
+
+-- src/times.rt:93:17
+enum-told : tie.Need-enum-told
+enum-told c = search needs
+
+-- src/times.rt:94:13
+find-times-requires : tie.Need-find-times-requires
+find-times-requires c κs = (call-sound _ _ _ _ _ _ _ (sym (c .before .before .before .before .before .check-call .ensures) ∙ c .before .before .before .enum-told .given .1), (call-k _ _ _ _ _ _ _ (sym (c .before .before .before .before .before .check-call .ensures) ∙ c .before .before .before .enum-told .given .1) .0, start-e (c .before .before .before .before .before .before .before .before .before .before .before .before .before .before .args .ts) (c .before .before .before .before .before .before .before .before .before .before .before .before .before .before .args .s) (c .before .before .before .before .before .before .before .before .before .before .before .before .before .before .args .te) (c .before .before .before .before .before .before .before .is-start .ensures) (call-window _ _ _ _ _ _ _ (sym (c .before .before .before .before .before .check-call .ensures) ∙ c .before .before .before .enum-told .given .1)) .0, start-e (c .before .before .before .before .before .before .before .before .before .before .before .before .before .before .args .ts) (c .before .before .before .before .before .before .before .before .before .before .before .before .before .before .args .s) (c .before .before .before .before .before .before .before .before .before .before .before .before .before .before .args .te) (c .before .before .before .before .before .before .before .is-start .ensures) (call-window _ _ _ _ _ _ _ (sym (c .before .before .before .before .before .check-call .ensures) ∙ c .before .before .before .enum-told .given .1)) .1, lengths-e (length (c .before .before .before .before .before .before .before .before .before .before .before .before .before .before .args .accounts .now)) 4096 (length (c .before .before .before .before .before .before .before .before .before .before .before .before .before .before .args .rows .now)) (length (c .before .before .before .before .before .before .before .before .before .before .before .before .before .before .args .days .now)) (c .before .before .before .before .before .before .are-equal .ensures) (call-lengths _ _ _ _ _ _ _ (sym (c .before .before .before .before .before .check-call .ensures) ∙ c .before .before .before .enum-told .given .1)) .0, lengths-e (length (c .before .before .before .before .before .before .before .before .before .before .before .before .before .before .args .accounts .now)) 4096 (length (c .before .before .before .before .before .before .before .before .before .before .before .before .before .before .args .rows .now)) (length (c .before .before .before .before .before .before .before .before .before .before .before .before .before .before .args .days .now)) (c .before .before .before .before .before .before .are-equal .ensures) (call-lengths _ _ _ _ _ _ _ (sym (c .before .before .before .before .before .check-call .ensures) ∙ c .before .before .before .enum-told .given .1)) .1, call-scratch _ _ _ _ _ _ _ (sym (c .before .before .before .before .before .check-call .ensures) ∙ c .before .before .before .enum-told .given .1)))
+
+-- src/times.rt:81:1
+returns : tie.Need-returns
+returns c = times-refused _ _ _ _ _ (c .before .before .before .before .before .before .before .before .before .before .before .before .args .accounts .now) (c .before .before .before .before .before .before .before .before .before .before .before .before .args .rows .now) (c .before .before .before .before .before .before .before .before .before .before .before .before .args .scratch .now) (c .before .before .before .before .before .is-start .ensures) (c .before .before .before .before .are-equal .ensures) (sym (c .before .before .before .check-call .ensures) ∙ c .before .found .given .1)
+
+-- src/times.rt:81:1
+same-length : tie.Need-same-length
+same-length c = search needs
+
+-- src/times.rt:81:1
+same-length-2 : tie.Need-same-length-2
+same-length-2 c = search needs
+
+-- src/times.rt:81:1
+same-length-3 : tie.Need-same-length-3
+same-length-3 c = search needs
+
+-- src/times.rt:81:1
+returns-2 : tie.Need-returns-2
+returns-2 c = times-done _ _ _ _ _ (c .before .before .before .before .before .before .before .before .before .before .before .before .before .before .before .before .before .before .before .before .before .args .accounts .now) (c .before .before .before .before .before .before .before .before .before .before .before .before .before .before .before .before .before .before .before .before .before .args .rows .now) (c .before .before .before .before .before .before .before .before .before .before .before .before .before .before .before .before .before .before .before .before .before .args .scratch .now) (c .before .before .before .before .before .before .before .before .before .before .before .before .before .before .is-start .ensures) (c .before .before .before .before .before .before .before .before .before .before .before .before .before .are-equal .ensures) (sym (c .before .before .before .before .before .before .before .before .before .before .before .before .check-call .ensures) ∙ c .before .before .before .before .before .before .before .before .before .before .enum-told .given .1) (c .before .before .before .before .before .before .find-times .ensures .0) (c .before .before .before .before .before .before .find-times .ensures .1) (c .before .before .before .before .before .before .find-times .ensures .2)
+
+pub core-times-spec : {M : Type 1} → statement M
+core-times-spec =
+    tie.close
+    (tie.spec
+    is-start-requires
+    are-equal-requires
+    check-call-requires
+    enum-known-found
+    enum-told
+    find-times-requires
+    returns
+    same-length
+    same-length-2
+    same-length-3
+    returns-2)
