@@ -17,3 +17,4 @@ pub mod DayLaws
 pub mod MarkLaws
 pub mod CallLaws
 pub mod TimeLaws
+pub mod RecallLaws

@@ -3,3 +3,4 @@ pub mod Sound
 pub mod Links
 pub mod Support
 pub mod Peeling
+pub mod Recalling

@@ -1,5 +1,6 @@
 -- Recall (a table, a minimal-window list, s, e): the answer, and the marks at exit. The list is three lent columns.
 --     Columns            the list as it is lent: row, start, end
+--     columnsOf r s e    the list of three columns
 --     entryAt c i        entry i of the list
 --     comesAfter x y     y comes after x
 --     inPlace c i        entry i comes after the one before
@@ -25,6 +26,9 @@ pub record Columns : Type 0 where
   pub rows : List ℕ
   pub starts : List ℕ
   pub ends : List ℕ
+
+abbrev pub columnsOf : List ℕ → List ℕ → List ℕ → Columns
+columnsOf r s e = record { rows = r; starts = s; ends = e }
 
 unfoldable pub entryAt : Columns → ℕ → Entry
 entryAt c i = record { row = at (c .rows) i; start = at (c .starts) i; end = at (c .ends) i }

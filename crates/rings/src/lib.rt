@@ -3,11 +3,13 @@
 pub mod checks;
 pub mod links;
 pub mod peel;
+pub mod recalling;
 pub mod refusal;
 pub mod ring;
 pub mod table;
 pub mod times;
 
+pub use recalling::recall;
 pub use refusal::Counted;
 pub use refusal::Refusal;
 pub use refusal::Verdict;

@@ -1,0 +1,93 @@
+-- `recalling::check_entries` meets its contract. The loop's invariant: no entry below j is bad, and the last one passed is at hand (proofs/RecallLaws.antt).
+-- Assumes nothing.
+use Rattle.rings.proofs.RecallLaws.{Judged, judge-start, judge-next, judge-refused, judge-end}
+use mathlib.Core.Path.{sym, _∙_}
+use lib.ListN.{length}
+use Prim.Native.Nat.{_-_}
+use native.Mathlib.Omega.{arith}
+use borrow.Author.Needs.{needs}
+use Rattle.rings.proofs.recalling.check_entries.Statement.{statement}
+use Rattle.rings.proofs.recalling.check_entries.Tie as tie
+use Rattle.rings.proofs.recalling.check_entries.Reads as reads
+use Rattle.rings.proofs.recalling.check_entries.Lts as lts
+use Rattle.rings.proofs.links.entry.Reads as entry-reads
+use Rattle.rings.proofs.recalling.check_entry.Reads as check-entry-reads
+use Rattle.rings.proofs.recalling.day_at.Reads as day-at-reads
+
+abbrev Inv-loop : tie.InvT-loop
+Inv-loop days rows starts ends lastrow₀ laststart₀ lastend₀ j₀ lastrow laststart lastend j = Judged days rows starts ends lastrow laststart lastend j
+
+abbrev μ-loop : tie.MeasureT-loop
+μ-loop days rows starts ends lastrow₀ laststart₀ lastend₀ j₀ lastrow laststart lastend j = length rows - j
+
+-- src/recalling.rt:107:5
+loop-holds : tie.Need-loop-holds Inv-loop μ-loop
+loop-holds c = judge-start _ _ _ _
+
+-- src/recalling.rt:108:13
+entry-requires : tie.Need-entry-requires Inv-loop μ-loop
+entry-requires c κs = omega (arith, c .loop-test .taken)
+
+-- src/recalling.rt:109:13
+entry-requires-2 : tie.Need-entry-requires-2 Inv-loop μ-loop
+entry-requires-2 c κs = omega (arith, c .before .loop-test .taken, c .before .before .before .before .before .before .before .pre .0)
+
+-- src/recalling.rt:110:13
+entry-requires-3 : tie.Need-entry-requires-3 Inv-loop μ-loop
+entry-requires-3 c κs = omega (arith, c .before .before .loop-test .taken, c .before .before .before .before .before .before .before .before .pre .1)
+
+-- src/recalling.rt:111:13
+day-at-requires : tie.Need-day-at-requires Inv-loop μ-loop
+day-at-requires c κs = search needs
+
+-- src/recalling.rt:112:13
+check-entry-requires : tie.Need-check-entry-requires Inv-loop μ-loop
+check-entry-requires c κs = search needs
+
+-- src/recalling.rt:114:30
+enum-known-found : tie.Need-enum-known-found Inv-loop μ-loop
+enum-known-found c = search needs
+
+-- src/recalling.rt:115:17
+returns : tie.Need-returns Inv-loop μ-loop
+returns c = judge-refused _ _ _ _ (c .before .before .before .before .before .before .before .before .before .loop .inv) (c .before .before .before .before .before .before .before .before .loop-test .taken) (c .before .before .before .before .before .before .before .entry .ensures) (c .before .before .before .before .before .before .entry2 .ensures) (c .before .before .before .before .before .entry3 .ensures) (c .before .before .before .before .day-at .ensures) (sym (c .before .found .given .1) ∙ c .before .before .before .check-entry .ensures)
+
+-- src/recalling.rt:118:17
+enum-told : tie.Need-enum-told Inv-loop μ-loop
+enum-told c = search needs
+
+-- src/recalling.rt:121:17
+add-j : tie.Need-add-j Inv-loop μ-loop
+add-j c = omega (arith, c .before .before .before .before .before .before .before .loop-test .taken)
+
+-- src/recalling.rt:107:5
+loop-less : tie.Need-loop-less Inv-loop μ-loop
+loop-less c = omega (arith, c .before .before .before .before .before .before .before .loop-test .taken)
+
+-- src/recalling.rt:107:5
+loop-again : tie.Need-loop-again Inv-loop μ-loop
+loop-again c = judge-next _ _ _ _ (c .before .before .before .before .before .before .before .before .loop .inv) (c .before .before .before .before .before .before .before .loop-test .taken) (c .before .before .before .before .before .before .entry .ensures) (c .before .before .before .before .before .entry2 .ensures) (c .before .before .before .before .entry3 .ensures) (c .before .before .before .day-at .ensures) (sym (c .enum-told .given .1) ∙ c .before .before .check-entry .ensures)
+
+-- src/recalling.rt:99:1
+returns-2 : tie.Need-returns-2 Inv-loop μ-loop
+returns-2 c = judge-end _ _ _ _ (c .before .loop .inv) (c .loop-test .left)
+
+pub check-entries-spec : {M : Type 1} → statement M
+check-entries-spec =
+    tie.close
+    (tie.spec
+    Inv-loop
+    μ-loop
+    loop-holds
+    entry-requires
+    entry-requires-2
+    entry-requires-3
+    day-at-requires
+    check-entry-requires
+    enum-known-found
+    returns
+    enum-told
+    add-j
+    loop-less
+    loop-again
+    returns-2)

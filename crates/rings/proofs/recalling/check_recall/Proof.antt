@@ -1,0 +1,85 @@
+-- `recalling::check_recall` meets its contract: the first check that refuses decides (proofs/RecallLaws.antt).
+-- Assumes nothing.
+use Rattle.rings.proofs.RecallLaws.{answer-table, answer-lengths, answer-entries, answer-window, lengths-same}
+use mathlib.Core.Path.{sym, _∙_}
+use borrow.Author.Needs.{needs}
+use Rattle.rings.proofs.recalling.check_recall.Statement.{statement}
+use Rattle.rings.proofs.recalling.check_recall.Tie as tie
+use Rattle.rings.proofs.recalling.check_recall.Reads as reads
+use Rattle.rings.proofs.recalling.check_recall.Lts as lts
+use Rattle.rings.proofs.recalling.check_entries.Reads as check-entries-reads
+use Rattle.rings.proofs.recalling.check_lengths.Reads as check-lengths-reads
+use Rattle.rings.proofs.recalling.check_window.Reads as check-window-reads
+use Rattle.rings.proofs.table.check_table.Reads as check-table-reads
+
+-- src/recalling.rt:132:11
+check-table-requires : tie.Need-check-table-requires
+check-table-requires c κs = search needs
+
+-- src/recalling.rt:133:26
+enum-known-r : tie.Need-enum-known-r
+enum-known-r c = search needs
+
+-- src/recalling.rt:134:13
+returns : tie.Need-returns
+returns c = answer-table _ _ _ _ _ _ _ _ _ (sym (c .before .r .given .1) ∙ c .before .before .before .check-table .ensures)
+
+enum-told : tie.Need-enum-told
+enum-told c = search needs
+
+-- src/recalling.rt:138:11
+check-lengths-requires : tie.Need-check-lengths-requires
+check-lengths-requires c κs = search needs
+
+-- src/recalling.rt:139:26
+enum-known-r-2 : tie.Need-enum-known-r-2
+enum-known-r-2 c = search needs
+
+-- src/recalling.rt:140:13
+returns-2 : tie.Need-returns-2
+returns-2 c = answer-lengths _ _ _ _ _ _ _ _ _ (sym (c .before .before .before .before .enum-told .given .1) ∙ c .before .before .before .before .before .before .check-table .ensures) (sym (c .before .r2 .given .1) ∙ c .before .before .before .check-lengths .ensures)
+
+enum-told-2 : tie.Need-enum-told-2
+enum-told-2 c = search needs
+
+-- src/recalling.rt:144:11
+check-entries-requires : tie.Need-check-entries-requires
+check-entries-requires c κs = let x = lengths-same (c .before .before .before .before .before .before .before .before .before .before .before .before .args .days .now) (c .before .before .before .before .before .before .before .before .before .before .before .before .args .rows .now) (c .before .before .before .before .before .before .before .before .before .before .before .before .args .starts .now) (c .before .before .before .before .before .before .before .before .before .before .before .before .args .ends .now) (c .before .before .before .before .before .before .before .before .before .before .before .before .args .places) (sym (c .enum-told2 .given .1) ∙ c .before .before .check-lengths .ensures) in (x .0, x .1)
+
+-- src/recalling.rt:145:26
+enum-known-r-3 : tie.Need-enum-known-r-3
+enum-known-r-3 c = search needs
+
+-- src/recalling.rt:146:13
+returns-3 : tie.Need-returns-3
+returns-3 c = answer-entries _ _ _ _ _ _ _ _ _ (sym (c .before .before .before .before .before .before .before .enum-told .given .1) ∙ c .before .before .before .before .before .before .before .before .before .check-table .ensures) (sym (c .before .before .before .before .enum-told2 .given .1) ∙ c .before .before .before .before .before .before .check-lengths .ensures) (sym (c .before .r3 .given .1) ∙ c .before .before .before .check-entries .ensures)
+
+enum-told-3 : tie.Need-enum-told-3
+enum-told-3 c = search needs
+
+-- src/recalling.rt:150:5
+check-window-requires : tie.Need-check-window-requires
+check-window-requires c κs = search needs
+
+-- src/recalling.rt:129:1
+returns-4 : tie.Need-returns-4
+returns-4 c = answer-window _ _ _ _ _ _ _ _ _ (sym (c .before .before .before .before .before .before .before .enum-told .given .1) ∙ c .before .before .before .before .before .before .before .before .before .check-table .ensures) (sym (c .before .before .before .before .enum-told2 .given .1) ∙ c .before .before .before .before .before .before .check-lengths .ensures) (sym (c .before .enum-told3 .given .1) ∙ c .before .before .before .check-entries .ensures) (c .check-window .ensures)
+
+pub check-recall-spec : {M : Type 1} → statement M
+check-recall-spec =
+    tie.close
+    (tie.spec
+    check-table-requires
+    enum-known-r
+    returns
+    enum-told
+    check-lengths-requires
+    enum-known-r-2
+    returns-2
+    enum-told-2
+    check-entries-requires
+    enum-known-r-3
+    returns-3
+    enum-told-3
+    check-window-requires
+    returns-4)

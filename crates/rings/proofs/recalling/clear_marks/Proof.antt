@@ -1,0 +1,61 @@
+-- `recalling::clear_marks` meets its contract. The loop's invariant: each mark below i is 0.
+-- Assumes nothing.
+use Rattle.rings.proofs.BookLaws.{Zeros, zeros-next, zeros-end}
+use mathlib.Core.Path.{refl}
+use native.Mathlib.Nat.{not-suc-le-zero}
+use lib.ListN.{length}
+use Prim.Native.Nat.{_-_}
+use native.Mathlib.Omega.{arith}
+use borrow.Author.Needs.{needs}
+use Rattle.rings.proofs.recalling.clear_marks.Statement.{statement}
+use Rattle.rings.proofs.recalling.clear_marks.Tie as tie
+use Rattle.rings.proofs.recalling.clear_marks.Reads as reads
+use Rattle.rings.proofs.recalling.clear_marks.Lts as lts
+
+abbrev Inv-loop : tie.InvT-loop
+Inv-loop marks₀ i₀ marks i = Zeros i marks₀ marks
+
+abbrev μ-loop : tie.MeasureT-loop
+μ-loop marks₀ i₀ marks i = length marks₀ - i
+
+-- src/recalling.rt:158:5
+loop-holds : tie.Need-loop-holds Inv-loop μ-loop
+loop-holds c = record { long = refl; within = omega arith; zero-at = λ k h. absurd (not-suc-le-zero h) }
+
+-- src/recalling.rt:159:9
+slice-write-marks : tie.Need-slice-write-marks Inv-loop μ-loop
+slice-write-marks c = search needs
+
+-- src/recalling.rt:160:9
+add-i : tie.Need-add-i Inv-loop μ-loop
+add-i c = omega (arith, c .before .loop .inv .within)
+
+-- src/recalling.rt:158:5
+loop-less : tie.Need-loop-less Inv-loop μ-loop
+loop-less c = omega (arith, c .before .loop .inv .long)
+
+-- src/recalling.rt:158:5
+loop-again : tie.Need-loop-again Inv-loop μ-loop
+loop-again c = zeros-next (c .before .loop .inv) (c .loop-test .taken)
+
+-- src/recalling.rt:154:1
+same-length : tie.Need-same-length Inv-loop μ-loop
+same-length c = c .before .loop .inv .long
+
+-- src/recalling.rt:154:1
+returns : tie.Need-returns Inv-loop μ-loop
+returns c = zeros-end (c .before .loop .inv) (c .loop-test .left)
+
+pub clear-marks-spec : {M : Type 1} → statement M
+clear-marks-spec =
+    tie.close
+    (tie.spec
+    Inv-loop
+    μ-loop
+    loop-holds
+    slice-write-marks
+    add-i
+    loop-less
+    loop-again
+    same-length
+    returns)

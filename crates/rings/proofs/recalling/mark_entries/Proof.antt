@@ -1,0 +1,95 @@
+-- `recalling::mark_entries` meets its contract. The loop's invariant: a mark is 1 exactly if an entry passed hits its row (proofs/RecallLaws.antt).
+-- Assumes nothing.
+use Rattle.rings.proofs.RecallLaws.{Marking, mark-start, mark-early, mark-late, mark-hit, mark-end}
+use lib.ListN.{length}
+use Prim.Native.Nat.{_-_}
+use native.Mathlib.Omega.{arith}
+use borrow.Author.Needs.{needs}
+use Rattle.rings.proofs.recalling.mark_entries.Statement.{statement}
+use Rattle.rings.proofs.recalling.mark_entries.Tie as tie
+use Rattle.rings.proofs.recalling.mark_entries.Reads as reads
+use Rattle.rings.proofs.recalling.mark_entries.Lts as lts
+use Rattle.rings.proofs.links.entry.Reads as entry-reads
+
+abbrev Inv-loop : tie.InvT-loop
+Inv-loop rows starts ends s e marks₀ next₀ marks next = Marking rows starts ends s e (length marks₀) next marks
+
+abbrev μ-loop : tie.MeasureT-loop
+μ-loop rows starts ends s e marks₀ next₀ marks next = length rows - next
+
+-- src/recalling.rt:172:5
+loop-holds : tie.Need-loop-holds Inv-loop μ-loop
+loop-holds c = mark-start _ _ _ _ _ _ (c .before .before .before .before .pre .1 .1)
+
+-- src/recalling.rt:174:16
+add-next : tie.Need-add-next Inv-loop μ-loop
+add-next c = search needs
+
+-- src/recalling.rt:175:13
+entry-requires : tie.Need-entry-requires Inv-loop μ-loop
+entry-requires c κs = omega (arith, c .loop-test .taken)
+
+-- src/recalling.rt:176:13
+entry-requires-2 : tie.Need-entry-requires-2 Inv-loop μ-loop
+entry-requires-2 c κs = omega (arith, c .before .loop-test .taken, c .before .before .before .before .before .before .before .pre .0 .0)
+
+-- src/recalling.rt:177:13
+entry-requires-3 : tie.Need-entry-requires-3 Inv-loop μ-loop
+entry-requires-3 c κs = omega (arith, c .before .before .loop-test .taken, c .before .before .before .before .before .before .before .before .pre .0 .1)
+
+-- src/recalling.rt:172:5
+loop-less : tie.Need-loop-less Inv-loop μ-loop
+loop-less c = omega (arith, c .before .before .before .before .loop-test .taken)
+
+-- src/recalling.rt:172:5
+loop-again : tie.Need-loop-again Inv-loop μ-loop
+loop-again c = mark-early _ _ _ _ _ (c .before .before .before .before .before .loop .inv) (c .before .before .before .before .loop-test .taken) (c .before .before .entry2 .ensures) (c .if1 .taken)
+
+-- src/recalling.rt:172:5
+loop-less-2 : tie.Need-loop-less-2 Inv-loop μ-loop
+loop-less-2 c = omega (arith, c .before .before .before .before .before .loop-test .taken)
+
+-- src/recalling.rt:172:5
+loop-again-2 : tie.Need-loop-again-2 Inv-loop μ-loop
+loop-again-2 c = mark-late _ _ _ _ _ (c .before .before .before .before .before .before .loop .inv) (c .before .before .before .before .before .loop-test .taken) (c .before .before .entry3 .ensures) (c .if2 .taken)
+
+-- src/recalling.rt:184:9
+slice-write-marks : tie.Need-slice-write-marks Inv-loop μ-loop
+slice-write-marks c = omega (arith, c .before .before .before .before .entry .ensures, c .before .before .before .before .before .before .before .before .before .before .before .pre .1 .0 .in-table _ (c .before .before .before .before .before .loop-test .taken), c .before .before .before .before .before .before .loop .inv .long)
+
+-- src/recalling.rt:172:5
+loop-less-3 : tie.Need-loop-less-3 Inv-loop μ-loop
+loop-less-3 c = omega (arith, c .before .before .before .before .before .loop-test .taken)
+
+-- src/recalling.rt:172:5
+loop-again-3 : tie.Need-loop-again-3 Inv-loop μ-loop
+loop-again-3 c = mark-hit _ _ _ _ _ (c .before .before .before .before .before .before .loop .inv) (c .before .before .before .before .before .before .before .before .before .before .before .pre .1 .0) (c .before .before .before .before .before .loop-test .taken) (c .before .before .before .before .entry .ensures) (c .before .before .before .entry2 .ensures) (c .before .before .entry3 .ensures) (c .before .if1 .left) (c .if2 .left)
+
+-- src/recalling.rt:165:1
+same-length : tie.Need-same-length Inv-loop μ-loop
+same-length c = c .before .loop .inv .long
+
+-- src/recalling.rt:165:1
+returns : tie.Need-returns Inv-loop μ-loop
+returns c = mark-end _ _ _ _ _ (c .before .loop .inv) (c .loop-test .left)
+
+pub mark-entries-spec : {M : Type 1} → statement M
+mark-entries-spec =
+    tie.close
+    (tie.spec
+    Inv-loop
+    μ-loop
+    loop-holds
+    add-next
+    entry-requires
+    entry-requires-2
+    entry-requires-3
+    loop-less
+    loop-again
+    loop-less-2
+    loop-again-2
+    slice-write-marks
+    loop-less-3
+    loop-again-3
+    same-length
+    returns)

@@ -1,0 +1,244 @@
+// Recall: the rows of a minimal-window list whose window lies inside [s, e].
+//     check_recall     the checks, in their order
+//     mark_entries     the marks of an accepted list
+//     recall           the call
+ghost use mathlib.Core.Path.{_≡_};
+ghost use lib.ListN.{length, replicate};
+ghost use lib.Dec.{eqb};
+ghost use Rattle.rings.specs.Words.{_and_, no, at, run};
+ghost use Rattle.rings.specs.Table.{tableOf};
+ghost use Rattle.rings.specs.Checks.{_when_, inOrder, rangeCheck};
+ghost use Rattle.rings.specs.RecallCall.{columnsOf, entryCheck, recallAnswer, recallMarks};
+ghost use Rattle.rings.specs.Inner.Recalling.{entryOf, dated, judged, InTable, marksOf};
+ghost use Rattle.rings.specs.declared.refusal.Refusal.the-variants.{BadLengths};
+use crate::links::entry;
+use crate::refusal::Refusal;
+use crate::refusal::Verdict;
+use crate::table::check_table;
+
+// 8: three list columns of one length, and a mark for each row.
+fn check_lengths(rows: usize, starts: usize, ends: usize, places: usize, n: usize) -> Verdict
+    ensures { λ r. ⌜ r ≡ (BadLengths when no (eqb starts rows and eqb ends rows and eqb places n)) ⌝ }
+{
+    if starts != rows {
+        return Verdict::Refused(Refusal::BadLengths);
+    }
+    if ends != rows {
+        return Verdict::Refused(Refusal::BadLengths);
+    }
+    if places != n {
+        return Verdict::Refused(Refusal::BadLengths);
+    }
+    Verdict::Accepted
+}
+
+// 7: a window.
+fn check_window(s: u16, e: u16) -> Verdict
+    ensures { λ r. ⌜ r ≡ rangeCheck s e ⌝ }
+{
+    if s < 1 {
+        return Verdict::Refused(Refusal::BadWindow);
+    }
+    if e < s {
+        return Verdict::Refused(Refusal::BadWindow);
+    }
+    if 1024 < e {
+        return Verdict::Refused(Refusal::BadWindow);
+    }
+    Verdict::Accepted
+}
+
+// The day of a row, 0 for a row that is not in the table.
+fn day_at(days: &[u16], row: usize) -> usize
+    ensures { λ r. ⌜ r ≡ at (now (days .entry)) row ⌝ }
+{
+    if days.len() <= row {
+        return 0;
+    }
+    entry(days, row)
+}
+
+// 14 of one entry: its row, its window, its place after the one before.
+fn check_entry(
+    j: usize,
+    n: usize,
+    day: usize,
+    lastrow: usize,
+    laststart: usize,
+    lastend: usize,
+    row: usize,
+    start: usize,
+    end: usize,
+) -> Verdict
+    ensures { λ r. ⌜ r ≡ judged j n day (entryOf lastrow laststart lastend) (entryOf row start end) ⌝ }
+{
+    if n <= row {
+        return Verdict::Refused(Refusal::BadEntry(j));
+    }
+    if start < 1 {
+        return Verdict::Refused(Refusal::BadEntry(j));
+    }
+    if day < start {
+        return Verdict::Refused(Refusal::BadEntry(j));
+    }
+    if end < day {
+        return Verdict::Refused(Refusal::BadEntry(j));
+    }
+    if 1024 < end {
+        return Verdict::Refused(Refusal::BadEntry(j));
+    }
+    if j == 0 {
+        return Verdict::Accepted;
+    }
+    if lastrow < row {
+        return Verdict::Accepted;
+    }
+    if lastrow != row {
+        return Verdict::Refused(Refusal::BadEntry(j));
+    }
+    if start <= laststart {
+        return Verdict::Refused(Refusal::BadEntry(j));
+    }
+    if end <= lastend {
+        return Verdict::Refused(Refusal::BadEntry(j));
+    }
+    Verdict::Accepted
+}
+
+// The first bad entry decides.
+fn check_entries(days: &[u16], rows: &[u16], starts: &[u16], ends: &[u16]) -> Verdict
+    requires { ⌜ (length (now starts) ≡ length (now rows)) × (length (now ends) ≡ length (now rows)) ⌝ }
+    ensures { λ r. ⌜ r ≡ inOrder (run (entryCheck (dated (now (days .entry))) (columnsOf (now (rows .entry)) (now (starts .entry)) (now (ends .entry)))) 0 (length (now (rows .entry)))) ⌝ }
+{
+    let mut lastrow = 0;
+    let mut laststart = 0;
+    let mut lastend = 0;
+    let mut j = 0;
+    while j < rows.len() {
+        let row = entry(rows, j);
+        let start = entry(starts, j);
+        let end = entry(ends, j);
+        let day = day_at(days, row);
+        let found = check_entry(
+            j,
+            days.len(),
+            day,
+            lastrow,
+            laststart,
+            lastend,
+            row,
+            start,
+            end,
+        );
+        match found {
+            Verdict::Refused(r) => {
+                return Verdict::Refused(r);
+            }
+            Verdict::Accepted => {
+                lastrow = row;
+                laststart = start;
+                lastend = end;
+                j += 1;
+            }
+        }
+    }
+    Verdict::Accepted
+}
+
+// The checks in their order: the table, 8, 14, 7.
+fn check_recall(
+    days: &[u16],
+    first: &[u16],
+    second: &[u16],
+    rows: &[u16],
+    starts: &[u16],
+    ends: &[u16],
+    s: u16,
+    e: u16,
+    places: usize,
+) -> Verdict
+    ensures { λ r. ⌜ r ≡ recallAnswer (tableOf (now (days .entry)) (now (first .entry)) (now (second .entry))) (columnsOf (now (rows .entry)) (now (starts .entry)) (now (ends .entry))) s e places ⌝ }
+{
+    match check_table(days, first, second) {
+        Verdict::Refused(r) => {
+            return Verdict::Refused(r);
+        }
+        Verdict::Accepted => {}
+    }
+    match check_lengths(rows.len(), starts.len(), ends.len(), places, days.len()) {
+        Verdict::Refused(r) => {
+            return Verdict::Refused(r);
+        }
+        Verdict::Accepted => {}
+    }
+    match check_entries(days, rows, starts, ends) {
+        Verdict::Refused(r) => {
+            return Verdict::Refused(r);
+        }
+        Verdict::Accepted => {}
+    }
+    check_window(s, e)
+}
+
+// All marks are 0.
+fn clear_marks(marks: &mut [u8])
+    ensures { λ _. ⌜ now (marks .exit) ≡ replicate (length (now (marks .entry))) 0 ⌝ }
+{
+    let mut i = 0;
+    while i < marks.len() {
+        marks[i] = 0;
+        i += 1;
+    }
+}
+
+// Each entry with a window inside [s, e] marks its row.
+fn mark_entries(rows: &[u16], starts: &[u16], ends: &[u16], s: usize, e: usize, marks: &mut [u8])
+    requires { ⌜ (length (now starts) ≡ length (now rows)) × (length (now ends) ≡ length (now rows)) ⌝ }
+    requires { ⌜ InTable (length (now marks)) (now rows) ⌝ }
+    requires { ⌜ now marks ≡ replicate (length (now marks)) 0 ⌝ }
+    ensures { λ _. ⌜ now (marks .exit) ≡ marksOf (columnsOf (now (rows .entry)) (now (starts .entry)) (now (ends .entry))) s e (length (now (marks .entry))) ⌝ }
+{
+    let mut next = 0;
+    while next < rows.len() {
+        let i = next;
+        next = i + 1;
+        let row = entry(rows, i);
+        let start = entry(starts, i);
+        let end = entry(ends, i);
+        if start < s {
+            continue;
+        }
+        if e < end {
+            continue;
+        }
+        marks[row] = 1;
+    }
+}
+
+// Marks 1 each row with a listed window inside [s, e], 0 every other. A refusal leaves the marks as they were.
+pub fn recall(
+    days: &[u16],
+    first: &[u16],
+    second: &[u16],
+    rows: &[u16],
+    starts: &[u16],
+    ends: &[u16],
+    s: u16,
+    e: u16,
+    marks: &mut [u8],
+) -> Verdict
+    ensures { λ r. ⌜ r ≡ recallAnswer (tableOf (now (days .entry)) (now (first .entry)) (now (second .entry))) (columnsOf (now (rows .entry)) (now (starts .entry)) (now (ends .entry))) s e (length (now (marks .entry))) ⌝ }
+    ensures { λ r. ⌜ now (marks .exit) ≡ recallMarks r (tableOf (now (days .entry)) (now (first .entry)) (now (second .entry))) (columnsOf (now (rows .entry)) (now (starts .entry)) (now (ends .entry))) s e (now (marks .entry)) ⌝ }
+{
+    let found = check_recall(days, first, second, rows, starts, ends, s, e, marks.len());
+    match found {
+        Verdict::Refused(r) => {
+            return Verdict::Refused(r);
+        }
+        Verdict::Accepted => {
+            clear_marks(marks);
+            mark_entries(rows, starts, ends, s as usize, e as usize, marks);
+            return Verdict::Accepted;
+        }
+    }
+}
