@@ -1,0 +1,98 @@
+# make list             prove what is needed, build the listing program, list examples/season.txt
+# make list IN=FILE     the same for another file
+# make test             everything: the kit, the layout, every proof and must-fail edit, the hosts
+# make bench            the benchmark; writes docs/BENCHMARK.md
+# make mutants          faults planted in the C engine of host/peer, each found by the tests of host/
+# make mutants-rattle   the same in the Rattle sources, built without proofs
+# make clean            remove what was built
+
+SHELL := bash
+.SHELLFLAGS := -eu -o pipefail -c
+.NOTPARALLEL:
+.PHONY: list test kit layout proofs hosts verdict engine bench mutants mutants-rattle clean
+
+RT ?= rt
+IN ?= examples/season.txt
+RT_JOBS ?= 2
+export RT_JOBS
+
+# rt ci removes target/, so its log lies beside it.
+LOG := host/target/rt-ci.log
+CRATES := $(shell sed -n 's/^\([a-z0-9_]*\):.*/\1/p' crates.txt)
+HOST := $(MAKE) --no-print-directory -C host
+
+list: kit
+ifneq ($(filter ringlist,$(CRATES)),)
+	@[ -r "$(IN)" ] || { echo "list: cannot read $(IN)"; exit 1; }
+	@echo "list: proving ringlist and what it rests on (minutes the first time, then nothing)"
+	@$(RT) check ringlist
+	@echo "list: the rings of $(IN)"
+	@target/bin/ringlist <"$(IN)"
+else
+	@echo "list: the program ringlist is not in crates.txt yet: there is nothing to run"
+	@exit 1
+endif
+
+test: kit layout proofs hosts verdict
+
+# The proofs hold for one kit. Another may prove them too, but nobody has looked.
+kit:
+	@command -v $(RT) >/dev/null || { echo "kit: no $(RT) in the PATH; the kit wanted is: $$(cat KIT)"; exit 1; }
+	@found=$$($(RT) version); pinned=$$(cat KIT); \
+	if [ "$$found" != "$$pinned" ]; then \
+	    echo "kit: another kit than the one pinned"; \
+	    echo "kit: found   $$found"; \
+	    echo "kit: pinned  $$pinned (file KIT)"; \
+	    exit 1; \
+	fi; \
+	echo "kit: $$found"
+
+layout:
+	@echo "layout: rt fmt --check"
+	@$(RT) fmt --check || { echo "layout: rt fmt puts it right"; exit 1; }
+
+# rt ci takes every .rt and .antt file outside target/ for a lost one: so copies of `make mutants` go first.
+proofs:
+	@echo "proofs: rt ci, from nothing: every crate, every must-fail edit, every program (minutes)"
+	@rm -rf host/target/mutants/copy
+	@mkdir -p $(dir $(LOG))
+	@rm -f $(LOG)
+	@$(RT) ci 2>&1 | tee $(LOG)
+	@tail -n 1 $(LOG) | grep -qE '^[0-9]+ passed, 0 failed$$' || { echo "proofs: rt ci did not end with its verdict"; exit 1; }
+
+engine:
+	@echo "hosts: rt staticlib engine"
+	@$(RT) staticlib engine
+
+ifneq ($(filter engine,$(CRATES)),)
+hosts: engine
+	@echo "hosts: Rust tests against the archive"
+	@$(HOST) host-test
+	@echo "hosts: C host on the examples"
+	@$(HOST) c-host
+else
+# No archive yet: the tests run against the C engine of host/peer, so that they are known to pass where the library is right.
+STANDIN := LIB=target/standin/libengine.a
+hosts:
+	@echo "hosts: the crate engine is not in crates.txt yet; the tests run against the C engine of host/peer"
+	@$(HOST) standin
+	@$(HOST) host-test $(STANDIN)
+	@echo "hosts: C host on the examples"
+	@$(HOST) c-host $(STANDIN)
+endif
+
+# rt ci's own line, once more and last: everything before it passed.
+verdict:
+	@tail -n 1 $(LOG)
+
+bench: kit engine
+	@$(HOST) bench
+
+mutants:
+	@$(HOST) mutants
+
+mutants-rattle: kit engine
+	@$(HOST) mutants-rattle
+
+clean:
+	rm -rf target host/target

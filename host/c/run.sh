@@ -1,0 +1,49 @@
+#!/bin/sh
+# Runs the C host on the examples and compares what it prints with c/expected.
+# use: c/run.sh HOST EXAMPLES [update]
+# Under valgrind where it is installed: no error and nothing lost, or it fails.
+set -u
+host=$1
+examples=$2
+update=${3:-}
+here=$(dirname "$0")
+under=
+if command -v valgrind > /dev/null 2>&1; then
+    under="valgrind -q --error-exitcode=99 --leak-check=full --errors-for-leak-kinds=all"
+fi
+passed=0
+failed=0
+out=$(mktemp)
+trap 'rm -f "$out"' EXIT
+
+# one NAME STATUS ARGUMENTS..
+one() {
+    name=$1
+    status=$2
+    shift 2
+    $under "$host" "$@" > "$out"
+    got=$?
+    if [ -n "$update" ]; then
+        cp "$out" "$here/expected/$name.txt"
+    fi
+    if [ $got -eq "$status" ] && cmp -s "$out" "$here/expected/$name.txt"; then
+        passed=$((passed + 1))
+    else
+        failed=$((failed + 1))
+        echo "c-host: $name: status $got (expected $status)"
+        diff "$here/expected/$name.txt" "$out" | head -5
+    fi
+}
+
+one season 0 list "$examples/season.txt"
+one market 0 list "$examples/market.txt"
+one season-ring 0 ring "$examples/season.txt" 2 1 4
+one market-ring 0 ring "$examples/market.txt" 3 10 40
+one broken-day 1 list "$examples/broken-day.txt"
+one broken-field 1 list "$examples/broken-field.txt"
+one broken-ring 1 ring "$examples/broken-day.txt" 2 1 6
+one wrong-k 1 ring "$examples/season.txt" 0 1 6
+one wrong-window 1 ring "$examples/season.txt" 2 5 4
+
+echo "c-host${under:+ under valgrind}: $passed passed, $failed failed"
+[ $failed -eq 0 ]

@@ -1,0 +1,701 @@
+//! The benchmark: the archive against its peers, as ratios. Same run, same
+//! input, medians, runs taking turns. Every peer must first give the archive's
+//! answer on each table.
+//!
+//!   bench FILE        runs all of it and writes the page FILE
+//!   bench --only NAME measures the full tables whose name starts so, no page
+//!   bench --search N  tries N drawn tables and names the worst of them
+
+mod peers;
+mod report;
+mod tables;
+
+use peers::{List, Plain};
+use rumbleog::{longest_list, raw, scratch_for, Table, ACCOUNTS};
+use tables::{Case, Class};
+
+#[repr(C)]
+struct Timespec {
+    seconds: i64,
+    nanoseconds: i64,
+}
+
+extern "C" {
+    fn clock_gettime(clock: i32, time: *mut Timespec) -> i32;
+}
+
+/// Processor time of this thread, in seconds: what other work on the machine
+/// takes is not counted.
+fn now() -> f64 {
+    const THREAD_CPUTIME: i32 = 3;
+    let mut time = Timespec {
+        seconds: 0,
+        nanoseconds: 0,
+    };
+    // SAFETY: a live Timespec, laid out as C's.
+    unsafe { clock_gettime(THREAD_CPUTIME, &mut time) };
+    time.seconds as f64 + time.nanoseconds as f64 * 1e-9
+}
+
+/// Worst tables that `--search` found, kept as cases (16,384 rows).
+const FOUND: [u64; 3] = [632, 675, 163];
+
+const SIZES: [usize; 3] = [1_024, 4_096, 16_384];
+
+type Column = *const u16;
+type Out = *mut u16;
+type Number = *mut u64;
+
+/// The four calls that are measured, from the archive or from the C peer.
+pub struct Engine {
+    #[rustfmt::skip]
+    listing: unsafe extern "C" fn(
+        Column, usize, Column, usize, Column, usize, u16, u16, u16,
+        Out, usize, Out, usize, Out, usize, Out, usize, Number, Number, Number,
+    ) -> u32,
+    #[rustfmt::skip]
+    windows: unsafe extern "C" fn(
+        Column, usize, Column, usize, Column, usize, u16, u16, u16,
+        Out, usize, Out, usize, Out, usize, Out, usize, Number, Number,
+    ) -> u32,
+    #[rustfmt::skip]
+    ring: unsafe extern "C" fn(
+        Column, usize, Column, usize, Column, usize, u16, u16, u16,
+        *mut u8, usize, Out, usize, Number, Number,
+    ) -> u32,
+    #[rustfmt::skip]
+    times: unsafe extern "C" fn(
+        Column, usize, Column, usize, Column, usize, u16, u16, u16, u16,
+        Out, usize, Out, usize, Out, usize, Number,
+    ) -> u32,
+}
+
+extern "C" {
+    #[rustfmt::skip]
+    fn peer_listing(
+        days: Column,
+        days_length: usize,
+        first: Column,
+        first_length: usize,
+        second: Column,
+        second_length: usize,
+        k: u16,
+        ts: u16,
+        te: u16,
+        start: Out,
+        start_length: usize,
+        end: Out,
+        end_length: usize,
+        rows: Out,
+        rows_length: usize,
+        scratch: Out,
+        scratch_length: usize,
+        place: Number,
+        count: Number,
+        sum: Number,
+    ) -> u32;
+    #[rustfmt::skip]
+    fn peer_minimal_windows(
+        days: Column,
+        days_length: usize,
+        first: Column,
+        first_length: usize,
+        second: Column,
+        second_length: usize,
+        k: u16,
+        ts: u16,
+        te: u16,
+        row: Out,
+        row_length: usize,
+        start: Out,
+        start_length: usize,
+        end: Out,
+        end_length: usize,
+        scratch: Out,
+        scratch_length: usize,
+        place: Number,
+        count: Number,
+    ) -> u32;
+    #[rustfmt::skip]
+    fn peer_window_ring(
+        days: Column,
+        days_length: usize,
+        first: Column,
+        first_length: usize,
+        second: Column,
+        second_length: usize,
+        k: u16,
+        s: u16,
+        e: u16,
+        marks: *mut u8,
+        marks_length: usize,
+        scratch: Out,
+        scratch_length: usize,
+        place: Number,
+        count: Number,
+    ) -> u32;
+    #[rustfmt::skip]
+    fn peer_core_times(
+        days: Column,
+        days_length: usize,
+        first: Column,
+        first_length: usize,
+        second: Column,
+        second_length: usize,
+        k: u16,
+        ts: u16,
+        te: u16,
+        s: u16,
+        accounts: Out,
+        accounts_length: usize,
+        rows: Out,
+        rows_length: usize,
+        scratch: Out,
+        scratch_length: usize,
+        place: Number,
+    ) -> u32;
+}
+
+pub const ARCHIVE: Engine = Engine {
+    listing: raw::rumbleog_listing,
+    windows: raw::rumbleog_minimal_windows,
+    ring: raw::rumbleog_window_ring,
+    times: raw::rumbleog_core_times,
+};
+
+pub const PEER: Engine = Engine {
+    listing: peer_listing,
+    windows: peer_minimal_windows,
+    ring: peer_window_ring,
+    times: peer_core_times,
+};
+
+/// Columns lent for an answer of three columns.
+pub struct Three {
+    a: Vec<u16>,
+    b: Vec<u16>,
+    c: Vec<u16>,
+}
+
+impl Three {
+    /// Touched, so that no page is new to the call.
+    pub fn new(places: usize) -> Three {
+        Three {
+            a: vec![1; places],
+            b: vec![1; places],
+            c: vec![1; places],
+        }
+    }
+
+    fn same(&self, count: usize, list: &List) -> bool {
+        self.a[..count] == list.a && self.b[..count] == list.b && self.c[..count] == list.c
+    }
+}
+
+fn lend(case: &Case) -> Table<'_> {
+    Table {
+        days: &case.table.days,
+        first: &case.table.first,
+        second: &case.table.second,
+    }
+}
+
+impl Engine {
+    /// Number of rings (and the sum of their rows), or none if refused.
+    pub fn list(&self, case: &Case, out: &mut Three, scratch: &mut [u16]) -> Option<(usize, u64)> {
+        let t = lend(case);
+        let (mut place, mut count, mut sum) = (0, 0, 0);
+        // SAFETY: pointers and lengths are those of live slices; so below.
+        let number = unsafe {
+            (self.listing)(
+                t.days.as_ptr(),
+                t.days.len(),
+                t.first.as_ptr(),
+                t.first.len(),
+                t.second.as_ptr(),
+                t.second.len(),
+                case.k,
+                1,
+                case.te,
+                out.a.as_mut_ptr(),
+                out.a.len(),
+                out.b.as_mut_ptr(),
+                out.b.len(),
+                out.c.as_mut_ptr(),
+                out.c.len(),
+                scratch.as_mut_ptr(),
+                scratch.len(),
+                &mut place,
+                &mut count,
+                &mut sum,
+            )
+        };
+        (number == 0).then_some((count as usize, sum))
+    }
+
+    /// Number of entries, or the refusal.
+    pub fn windows(&self, case: &Case, out: &mut Three, scratch: &mut [u16]) -> Result<usize, u32> {
+        let t = lend(case);
+        let (mut place, mut count) = (0, 0);
+        let number = unsafe {
+            (self.windows)(
+                t.days.as_ptr(),
+                t.days.len(),
+                t.first.as_ptr(),
+                t.first.len(),
+                t.second.as_ptr(),
+                t.second.len(),
+                case.k,
+                1,
+                case.te,
+                out.a.as_mut_ptr(),
+                out.a.len(),
+                out.b.as_mut_ptr(),
+                out.b.len(),
+                out.c.as_mut_ptr(),
+                out.c.len(),
+                scratch.as_mut_ptr(),
+                scratch.len(),
+                &mut place,
+                &mut count,
+            )
+        };
+        match number {
+            0 => Ok(count as usize),
+            _ => Err(number),
+        }
+    }
+
+    pub fn ring(
+        &self,
+        case: &Case,
+        (s, e): (u16, u16),
+        marks: &mut [u8],
+        scratch: &mut [u16],
+    ) -> Option<usize> {
+        let t = lend(case);
+        let (mut place, mut count) = (0, 0);
+        let number = unsafe {
+            (self.ring)(
+                t.days.as_ptr(),
+                t.days.len(),
+                t.first.as_ptr(),
+                t.first.len(),
+                t.second.as_ptr(),
+                t.second.len(),
+                case.k,
+                s,
+                e,
+                marks.as_mut_ptr(),
+                marks.len(),
+                scratch.as_mut_ptr(),
+                scratch.len(),
+                &mut place,
+                &mut count,
+            )
+        };
+        (number == 0).then_some(count as usize)
+    }
+
+    pub fn times(
+        &self,
+        case: &Case,
+        s: u16,
+        accounts: &mut [u16],
+        rows: &mut [u16],
+        scratch: &mut [u16],
+    ) -> Option<()> {
+        let t = lend(case);
+        let mut place = 0;
+        let number = unsafe {
+            (self.times)(
+                t.days.as_ptr(),
+                t.days.len(),
+                t.first.as_ptr(),
+                t.first.len(),
+                t.second.as_ptr(),
+                t.second.len(),
+                case.k,
+                1,
+                case.te,
+                s,
+                accounts.as_mut_ptr(),
+                accounts.len(),
+                rows.as_mut_ptr(),
+                rows.len(),
+                scratch.as_mut_ptr(),
+                scratch.len(),
+                &mut place,
+            )
+        };
+        (number == 0).then_some(())
+    }
+}
+
+/// What is timed, in the order of a result's times.
+#[derive(Clone, Copy, Debug, PartialEq, Eq)]
+pub enum Op {
+    Listing,
+    ListingExact,
+    ListingC,
+    Counting,
+    Copying,
+    Otcd,
+    Afresh,
+    Windows,
+    WindowsC,
+    Algorithm2,
+    Ring,
+    RingC,
+    RingPlain,
+    Times,
+    TimesC,
+    TimesPlain,
+}
+
+pub const OPS: [Op; 16] = [
+    Op::Listing,
+    Op::ListingExact,
+    Op::ListingC,
+    Op::Counting,
+    Op::Copying,
+    Op::Otcd,
+    Op::Afresh,
+    Op::Windows,
+    Op::WindowsC,
+    Op::Algorithm2,
+    Op::Ring,
+    Op::RingC,
+    Op::RingPlain,
+    Op::Times,
+    Op::TimesC,
+    Op::TimesPlain,
+];
+
+/// Medians of one table, in seconds.
+pub struct Measured {
+    pub name: String,
+    pub class: Class,
+    pub rows: usize,
+    pub rings: usize,
+    pub entries: usize,
+    pub times: [f64; OPS.len()],
+}
+
+fn ring_windows(te: u16) -> [(u16, u16); 3] {
+    [
+        (1, te),
+        (1 + te / 4, te - te / 4),
+        (te / 2, te / 2 + te / 8),
+    ]
+}
+
+fn starts(te: u16) -> [u16; 2] {
+    [1, 1 + te / 3]
+}
+
+fn must(fine: bool, case: &Case, what: &str) {
+    if !fine {
+        eprintln!("bench: {}: {what} gives another answer", case.name);
+        std::process::exit(1);
+    }
+}
+
+/// Number of minimal windows: room is doubled until it is enough.
+fn window_room(case: &Case, scratch: &mut [u16]) -> Three {
+    let mut room = 1 << 14;
+    loop {
+        let mut out = Three::new(room);
+        match ARCHIVE.windows(case, &mut out, scratch) {
+            Ok(count) => return Three::new(count),
+            Err(10) => room *= 4,
+            Err(_) => must(false, case, "the archive refuses, or"),
+        }
+    }
+}
+
+/// Every peer gives the archive's answers.
+fn check(case: &Case) -> (usize, usize) {
+    let (table, k, te) = (&case.table, case.k, case.te);
+    let rows = table.days.len();
+    let mut scratch = vec![7; scratch_for(rows)];
+    let room = longest_list(1, te).unwrap_or(0) as usize;
+    let mut list = Three::new(room);
+    let Some((count, sum)) = ARCHIVE.list(case, &mut list, &mut scratch) else {
+        must(false, case, "the archive refuses, or");
+        return (0, 0);
+    };
+    must(
+        sum == list.c[..count].iter().map(|&n| u64::from(n)).sum::<u64>(),
+        case,
+        "the sum",
+    );
+    let mut other = Three::new(room);
+    let same = PEER.list(case, &mut other, &mut scratch) == Some((count, sum));
+    let same = same && other.a[..count] == list.a[..count] && other.b[..count] == list.b[..count];
+    must(
+        same && other.c[..count] == list.c[..count],
+        case,
+        "C listing",
+    );
+    for copy in [false, true] {
+        let found = peers::enumerate(table, k, 1, te, copy);
+        must(list.same(count, &found), case, "Algorithm 2 + 5");
+    }
+    let found = peers::every_start_afresh(table, k, 1, te);
+    must(list.same(count, &found), case, "peeling every start");
+    let found = peers::otcd(table, k, 1, te);
+    let mut order: Vec<usize> = (0..found.a.len()).collect();
+    order.sort_unstable_by_key(|&i| (found.a[i], found.b[i]));
+    let sorted = List {
+        a: order.iter().map(|&i| found.a[i]).collect(),
+        b: order.iter().map(|&i| found.b[i]).collect(),
+        c: order.iter().map(|&i| found.c[i]).collect(),
+    };
+    must(list.same(count, &sorted), case, "OTCD");
+
+    let mut windows = window_room(case, &mut scratch);
+    let entries = windows.a.len();
+    let found = ARCHIVE.windows(case, &mut windows, &mut scratch);
+    must(found == Ok(entries), case, "the count");
+    let found = peers::minimal_windows(table, k, 1, te);
+    must(windows.same(entries, &found), case, "Algorithm 2");
+    let mut other = Three::new(entries);
+    let same = PEER.windows(case, &mut other, &mut scratch) == Ok(entries);
+    let same = same && other.a == windows.a && other.b == windows.b && other.c == windows.c;
+    must(same, case, "C minimal windows");
+
+    let mut plain = Plain::new();
+    let mut marks = [vec![7; rows], vec![7; rows], vec![7; rows]];
+    for window in ring_windows(te) {
+        let [a, b, c] = &mut marks;
+        let ones = ARCHIVE.ring(case, window, a, &mut scratch);
+        let same = ones == PEER.ring(case, window, b, &mut scratch) && a == b;
+        must(same, case, "C window ring");
+        let count = plain.window_ring(table, k, window.0, window.1, c);
+        must(ones == Some(count) && a == c, case, "plain peeling");
+    }
+    for s in starts(te) {
+        let mut accounts = [[7; ACCOUNTS]; 3];
+        let mut times = [vec![7; rows], vec![7; rows], vec![7; rows]];
+        let [a, b, c] = &mut times;
+        ARCHIVE.times(case, s, &mut accounts[0], a, &mut scratch);
+        PEER.times(case, s, &mut accounts[1], b, &mut scratch);
+        plain.core_times(table, k, te, s, &mut accounts[2], c);
+        let same = a == b && accounts[0] == accounts[1];
+        must(same, case, "C core times");
+        let same = a == c && accounts[0] == accounts[2];
+        must(same, case, "peeling from the last day");
+    }
+    (count, entries)
+}
+
+/// Seconds of one run of an operation on a case. The buffers are the caller's.
+pub struct Bench<'a> {
+    case: &'a Case,
+    room: Three,
+    exact: Three,
+    windows: Three,
+    scratch: Vec<u16>,
+    marks: Vec<u8>,
+    accounts: Box<[u16; ACCOUNTS]>,
+    rows: Vec<u16>,
+    plain: Plain,
+}
+
+impl<'a> Bench<'a> {
+    pub fn new(case: &'a Case, rings: usize, entries: usize) -> Bench<'a> {
+        let rows = case.table.days.len();
+        Bench {
+            case,
+            room: Three::new(longest_list(1, case.te).unwrap_or(0) as usize),
+            exact: Three::new(rings),
+            windows: Three::new(entries),
+            scratch: vec![1; scratch_for(rows)],
+            marks: vec![1; rows],
+            accounts: Box::new([1; ACCOUNTS]),
+            rows: vec![1; rows],
+            plain: Plain::new(),
+        }
+    }
+
+    pub fn run(&mut self, op: Op) {
+        let case = self.case;
+        let (table, k, te) = (&case.table, case.k, case.te);
+        let scratch = &mut self.scratch[..];
+        let engine = match op {
+            Op::ListingC | Op::WindowsC | Op::RingC | Op::TimesC => &PEER,
+            _ => &ARCHIVE,
+        };
+        match op {
+            Op::Listing | Op::ListingC => drop(engine.list(case, &mut self.room, scratch)),
+            Op::ListingExact => drop(engine.list(case, &mut self.exact, scratch)),
+            Op::Counting => drop(peers::enumerate(table, k, 1, te, false)),
+            Op::Copying => drop(peers::enumerate(table, k, 1, te, true)),
+            Op::Otcd => drop(peers::otcd(table, k, 1, te)),
+            Op::Afresh => drop(peers::every_start_afresh(table, k, 1, te)),
+            Op::Windows | Op::WindowsC => drop(engine.windows(case, &mut self.windows, scratch)),
+            Op::Algorithm2 => drop(peers::minimal_windows(table, k, 1, te)),
+            Op::Ring | Op::RingC => {
+                for window in ring_windows(te) {
+                    engine.ring(case, window, &mut self.marks, scratch);
+                }
+            }
+            Op::RingPlain => {
+                for (s, e) in ring_windows(te) {
+                    self.plain.window_ring(table, k, s, e, &mut self.marks);
+                }
+            }
+            Op::Times | Op::TimesC => {
+                for s in starts(te) {
+                    let accounts = &mut self.accounts[..];
+                    engine.times(case, s, accounts, &mut self.rows, scratch);
+                }
+            }
+            Op::TimesPlain => {
+                for s in starts(te) {
+                    let (accounts, rows) = (&mut self.accounts, &mut self.rows);
+                    self.plain.core_times(table, k, te, s, accounts, rows);
+                }
+            }
+        }
+        std::hint::black_box(&mut self.room);
+        std::hint::black_box(&mut self.marks);
+    }
+}
+
+fn median(samples: &mut [f64]) -> f64 {
+    samples.sort_by(f64::total_cmp);
+    samples[samples.len() / 2]
+}
+
+/// Medians of all operations on a case, in turns: nine runs each, fewer (three
+/// at least) of what is slow; quick ones repeated to a millisecond.
+fn measure(case: &Case) -> Measured {
+    let (rings, entries) = check(case);
+    let mut bench = Bench::new(case, rings, entries);
+    let mut samples: Vec<Vec<f64>> = vec![Vec::new(); OPS.len()];
+    let mut repeats = [1_usize; OPS.len()];
+    for op in OPS {
+        let before = now();
+        bench.run(op);
+        let once = now() - before;
+        repeats[op as usize] = ((1e-3 / once.max(1e-7)).ceil() as usize).clamp(1, 1_000);
+    }
+    for round in 0..9 {
+        for op in OPS {
+            let (samples, repeats) = (&mut samples[op as usize], repeats[op as usize]);
+            if round >= 3 && samples.iter().sum::<f64>() > 0.3 {
+                continue;
+            }
+            let before = now();
+            for _ in 0..repeats {
+                bench.run(op);
+            }
+            samples.push((now() - before) / repeats as f64);
+        }
+    }
+    let mut times = [0.0; OPS.len()];
+    for (time, samples) in times.iter_mut().zip(&mut samples) {
+        *time = median(samples);
+    }
+    Measured {
+        name: case.name.clone(),
+        class: case.class,
+        rows: case.table.days.len(),
+        rings,
+        entries,
+        times,
+    }
+}
+
+/// Tries drawn tables; the slowest listings and minimal windows by seed.
+fn search(number: u64) {
+    let mut worst: Vec<(f64, f64, String)> = Vec::new();
+    let mut scratch = vec![1; scratch_for(16_384)];
+    let mut room = Three::new(524_800);
+    for seed in 0..number {
+        let case = tables::drawn(seed, 16_384);
+        let before = now();
+        let found = ARCHIVE.list(&case, &mut room, &mut scratch);
+        let listing = now() - before;
+        let mut windows = window_room(&case, &mut scratch);
+        let before = now();
+        let _ = ARCHIVE.windows(&case, &mut windows, &mut scratch);
+        let minimal = now() - before;
+        let rings = found.map_or(0, |found| found.0);
+        let name = format!("{}: {rings} rings", case.name);
+        worst.push((listing, minimal, name));
+        if seed % 50 == 49 {
+            eprintln!("searched {} of {number}", seed + 1);
+        }
+    }
+    worst.sort_by(|x, y| y.0.total_cmp(&x.0));
+    for (listing, minimal, name) in worst.iter().take(8) {
+        println!(
+            "listing {:.1} ms, minimal windows {:.1} ms: {name}",
+            listing * 1e3,
+            minimal * 1e3
+        );
+    }
+    worst.sort_by(|x, y| y.1.total_cmp(&x.1));
+    println!("by minimal windows:");
+    for (listing, minimal, name) in worst.iter().take(8) {
+        println!(
+            "listing {:.1} ms, minimal windows {:.1} ms: {name}",
+            listing * 1e3,
+            minimal * 1e3
+        );
+    }
+}
+
+/// The cases of full size: the shapes, and what the search found.
+fn full_cases() -> Vec<Case> {
+    let mut cases = tables::cases(16_384);
+    cases.extend(FOUND.map(|seed| tables::drawn(seed, 16_384)));
+    cases
+}
+
+fn main() {
+    let arguments: Vec<String> = std::env::args().skip(1).collect();
+    match arguments.iter().map(String::as_str).collect::<Vec<_>>()[..] {
+        ["--only", name] => {
+            let cases = full_cases();
+            let those: Vec<&Case> = cases.iter().filter(|c| c.name.starts_with(name)).collect();
+            for (i, case) in those.iter().enumerate() {
+                report::progress(16_384, i + 1, those.len(), &measure(case));
+            }
+        }
+        ["--search", number] => search(number.parse().unwrap_or(100)),
+        ["--memory", name] => {
+            for op in OPS.iter().filter(|op| format!("{op:?}") == name) {
+                report::memory_of(*op);
+            }
+        }
+        [file] => {
+            let mut all = Vec::new();
+            for size in SIZES {
+                let cases = match size {
+                    16_384 => full_cases(),
+                    _ => tables::cases(size),
+                };
+                let number = cases.len();
+                for (i, case) in cases.iter().enumerate() {
+                    let measured = measure(case);
+                    report::progress(size, i + 1, number, &measured);
+                    all.push((size, measured));
+                }
+            }
+            let page = report::page(&all);
+            print!("{page}");
+            if let Err(error) = std::fs::write(file, page) {
+                eprintln!("bench: {file}: {error}");
+                std::process::exit(1);
+            }
+        }
+        _ => {
+            eprintln!("use: bench FILE, bench --only NAME, or bench --search N");
+            std::process::exit(2);
+        }
+    }
+}

@@ -1,0 +1,475 @@
+//! The brute-force version: every operation from its definition, with sets and
+//! no cleverness. It is slow, and is meant to be believed on one reading; the
+//! tests compare the archive with it.
+//!
+//! Each operation takes the same inputs and lent buffers as the call of the
+//! same name, leaves in the buffers what the call must leave there, and returns
+//! the numbers that the call must return.
+
+use crate::{Table, Windows, ACCOUNTS, LAST_DAY, MOST_INPUT, MOST_LISTED, MOST_ROWS, NEVER};
+use std::collections::{BTreeMap, BTreeSet};
+
+/// What a call returns: the refusal number (0 for none), its place (line, for
+/// the listing program), the count (length of text) and the sum.
+#[derive(Clone, Copy, Debug, Default, PartialEq, Eq)]
+pub struct Answer {
+    /// Refusal number, 0 for none.
+    pub number: u32,
+    /// Row, entry or line of the refusal; 0 where there is none.
+    pub place: u64,
+    /// Count of ones, entries, rings, lines or bytes; 0 on a refusal.
+    pub count: u64,
+    /// Sum of rows of a listing; 0 on a refusal and for other calls.
+    pub sum: u64,
+}
+
+fn refused(number: u32, place: usize) -> Answer {
+    Answer {
+        number,
+        place: place as u64,
+        ..Answer::default()
+    }
+}
+
+fn counted(count: usize) -> Answer {
+    Answer {
+        count: count as u64,
+        ..Answer::default()
+    }
+}
+
+// ---- definitions ----
+
+/// A set of rows of a table.
+pub type RowSet = BTreeSet<usize>;
+
+/// The rows with s <= day <= e.
+pub fn window_rows(table: Table, s: u16, e: u16) -> RowSet {
+    (0..table.days.len())
+        .filter(|&row| s <= table.days[row] && table.days[row] <= e)
+        .collect()
+}
+
+/// The two accounts of a row.
+fn accounts_of(table: Table, row: usize) -> [u16; 2] {
+    [table.first[row], table.second[row]]
+}
+
+/// For each account that a set of rows meets, its distinct other accounts.
+fn neighbours(table: Table, rows: &RowSet) -> BTreeMap<u16, BTreeSet<u16>> {
+    let mut found: BTreeMap<u16, BTreeSet<u16>> = BTreeMap::new();
+    for &row in rows {
+        let [a, b] = accounts_of(table, row);
+        found.entry(a).or_default().insert(b);
+        found.entry(b).or_default().insert(a);
+    }
+    found
+}
+
+/// The accounts that a set of rows meets.
+fn accounts_met(table: Table, rows: &RowSet) -> BTreeSet<u16> {
+    rows.iter()
+        .flat_map(|&row| accounts_of(table, row))
+        .collect()
+}
+
+/// Does every account met have at least k distinct other accounts?
+pub fn is_good(table: Table, rows: &RowSet, k: u16) -> bool {
+    neighbours(table, rows)
+        .values()
+        .all(|others| others.len() >= usize::from(k))
+}
+
+/// The ring of [s, e] for k: the greatest good set of the window's rows.
+///
+/// A row of an account with fewer than k neighbours is in no good subset, so
+/// dropping it loses none; a set with no such row is good, and so the greatest.
+pub fn ring(table: Table, k: u16, s: u16, e: u16) -> RowSet {
+    let mut rows = window_rows(table, s, e);
+    while !is_good(table, &rows, k) {
+        let near = neighbours(table, &rows);
+        let enough = |account: &u16| near[account].len() >= usize::from(k);
+        rows.retain(|&row| accounts_of(table, row).iter().all(enough));
+    }
+    rows
+}
+
+/// The rings of all windows inside [ts, te], by window.
+pub fn all_rings(table: Table, k: u16, ts: u16, te: u16) -> BTreeMap<(u16, u16), RowSet> {
+    let mut rings = BTreeMap::new();
+    for s in ts..=te {
+        for e in s..=te {
+            rings.insert((s, e), ring(table, k, s, e));
+        }
+    }
+    rings
+}
+
+// ---- checks ----
+
+fn table_refusal(table: Table) -> Option<Answer> {
+    let rows = table.days.len();
+    if table.first.len() != rows || table.second.len() != rows {
+        return Some(refused(1, 0));
+    }
+    if rows > MOST_ROWS {
+        return Some(refused(2, 0));
+    }
+    for row in 0..rows {
+        let [a, b] = accounts_of(table, row);
+        if !(1..=LAST_DAY).contains(&table.days[row]) {
+            return Some(refused(3, row));
+        }
+        if usize::from(b) >= ACCOUNTS || a >= b {
+            return Some(refused(4, row));
+        }
+        if row > 0 && table.days[row] < table.days[row - 1] {
+            return Some(refused(5, row));
+        }
+    }
+    None
+}
+
+fn k_is_bad(k: u16) -> bool {
+    !(1..=4_095).contains(&k)
+}
+
+fn range_is_bad(ts: u16, te: u16) -> bool {
+    !(1 <= ts && ts <= te && te <= LAST_DAY)
+}
+
+fn scratch_is_short(table: Table, scratch: &[u16]) -> bool {
+    scratch.len() < 8_192 + 4 * table.days.len()
+}
+
+// ---- operations ----
+
+/// Table check.
+pub fn check_table(table: Table) -> Answer {
+    table_refusal(table).unwrap_or_default()
+}
+
+/// Window ring.
+pub fn window_ring(
+    table: Table,
+    k: u16,
+    s: u16,
+    e: u16,
+    marks: &mut [u8],
+    scratch: &mut [u16],
+) -> Answer {
+    if let Some(refusal) = table_refusal(table) {
+        return refusal;
+    }
+    if k_is_bad(k) {
+        return refused(6, 0);
+    }
+    if range_is_bad(s, e) {
+        return refused(7, 0);
+    }
+    if marks.len() != table.days.len() {
+        return refused(8, 0);
+    }
+    if scratch_is_short(table, scratch) {
+        return refused(9, 0);
+    }
+    let ring = ring(table, k, s, e);
+    for (row, mark) in marks.iter_mut().enumerate() {
+        *mark = u8::from(ring.contains(&row));
+    }
+    scratch.fill(0);
+    counted(ring.len())
+}
+
+/// Core times.
+#[allow(clippy::too_many_arguments)]
+pub fn core_times(
+    table: Table,
+    k: u16,
+    ts: u16,
+    te: u16,
+    s: u16,
+    accounts: &mut [u16],
+    rows: &mut [u16],
+    scratch: &mut [u16],
+) -> Answer {
+    if let Some(refusal) = table_refusal(table) {
+        return refusal;
+    }
+    if k_is_bad(k) {
+        return refused(6, 0);
+    }
+    if range_is_bad(ts, te) || s < ts || te < s {
+        return refused(7, 0);
+    }
+    if accounts.len() != ACCOUNTS || rows.len() != table.days.len() {
+        return refused(8, 0);
+    }
+    if scratch_is_short(table, scratch) {
+        return refused(9, 0);
+    }
+    // Try each end, the least first.
+    accounts.fill(NEVER);
+    rows.fill(NEVER);
+    for e in s..=te {
+        let ring = ring(table, k, s, e);
+        for account in accounts_met(table, &ring) {
+            let time = &mut accounts[usize::from(account)];
+            *time = e.min(*time);
+        }
+        for row in ring {
+            rows[row] = e.min(rows[row]);
+        }
+    }
+    scratch.fill(0);
+    Answer::default()
+}
+
+/// The minimal windows of every row, by row, then start.
+pub fn minimal_window_list(table: Table, k: u16, ts: u16, te: u16) -> Vec<(u16, u16, u16)> {
+    let rings = all_rings(table, k, ts, te);
+    let mut list = Vec::new();
+    for row in 0..table.days.len() {
+        for (&(s, e), ring) in &rings {
+            let smaller_has_it = rings.iter().any(|(&(s2, e2), smaller)| {
+                s <= s2 && e2 <= e && (s2, e2) != (s, e) && smaller.contains(&row)
+            });
+            if ring.contains(&row) && !smaller_has_it {
+                list.push((row as u16, s, e));
+            }
+        }
+    }
+    list
+}
+
+/// Minimal windows.
+#[allow(clippy::too_many_arguments)]
+pub fn minimal_windows(
+    table: Table,
+    k: u16,
+    ts: u16,
+    te: u16,
+    row: &mut [u16],
+    start: &mut [u16],
+    end: &mut [u16],
+    scratch: &mut [u16],
+) -> Answer {
+    if let Some(refusal) = table_refusal(table) {
+        return refusal;
+    }
+    if k_is_bad(k) {
+        return refused(6, 0);
+    }
+    if range_is_bad(ts, te) {
+        return refused(7, 0);
+    }
+    if row.len() != start.len() || row.len() != end.len() {
+        return refused(8, 0);
+    }
+    if scratch_is_short(table, scratch) {
+        return refused(9, 0);
+    }
+    scratch.fill(0);
+    let list = minimal_window_list(table, k, ts, te);
+    if list.len() > row.len() {
+        return refused(10, 0);
+    }
+    for (at, &entry) in list.iter().enumerate() {
+        (row[at], start[at], end[at]) = entry;
+    }
+    counted(list.len())
+}
+
+/// The distinct nonempty rings, each as first row day, last row day and number
+/// of rows, by start, then end.
+pub fn ring_list(table: Table, k: u16, ts: u16, te: u16) -> Vec<(u16, u16, u16)> {
+    let distinct: BTreeSet<RowSet> = all_rings(table, k, ts, te).into_values().collect();
+    let mut list = Vec::new();
+    for ring in distinct {
+        let days = ring.iter().map(|&row| table.days[row]);
+        if let (Some(first), Some(last)) = (days.clone().min(), days.max()) {
+            list.push((first, last, ring.len() as u16));
+        }
+    }
+    list.sort();
+    list
+}
+
+/// Listing.
+#[allow(clippy::too_many_arguments)]
+pub fn listing(
+    table: Table,
+    k: u16,
+    ts: u16,
+    te: u16,
+    start: &mut [u16],
+    end: &mut [u16],
+    rows: &mut [u16],
+    scratch: &mut [u16],
+) -> Answer {
+    if let Some(refusal) = table_refusal(table) {
+        return refusal;
+    }
+    if k_is_bad(k) {
+        return refused(6, 0);
+    }
+    if range_is_bad(ts, te) {
+        return refused(7, 0);
+    }
+    if start.len() != end.len() || start.len() != rows.len() {
+        return refused(8, 0);
+    }
+    if scratch_is_short(table, scratch) {
+        return refused(9, 0);
+    }
+    scratch.fill(0);
+    let list = ring_list(table, k, ts, te);
+    if list.len() > start.len() {
+        return refused(10, 0);
+    }
+    for (at, &entry) in list.iter().enumerate() {
+        (start[at], end[at], rows[at]) = entry;
+    }
+    Answer {
+        sum: list.iter().map(|&(_, _, rows)| u64::from(rows)).sum(),
+        ..counted(list.len())
+    }
+}
+
+/// Recall.
+pub fn recall(table: Table, windows: Windows, s: u16, e: u16, marks: &mut [u8]) -> Answer {
+    let Windows { row, start, end } = windows;
+    if let Some(refusal) = table_refusal(table) {
+        return refusal;
+    }
+    if row.len() != start.len() || row.len() != end.len() || marks.len() != table.days.len() {
+        return refused(8, 0);
+    }
+    for i in 0..row.len() {
+        let Some(&day) = table.days.get(usize::from(row[i])) else {
+            return refused(14, i);
+        };
+        if !(1 <= start[i] && start[i] <= day && day <= end[i] && end[i] <= LAST_DAY) {
+            return refused(14, i);
+        }
+        if i > 0 {
+            let row_rises = row[i] > row[i - 1];
+            let window_rises = start[i] > start[i - 1] && end[i] > end[i - 1];
+            if !(row_rises || row[i] == row[i - 1] && window_rises) {
+                return refused(14, i);
+            }
+        }
+    }
+    if range_is_bad(s, e) {
+        return refused(7, 0);
+    }
+    for (at, mark) in marks.iter_mut().enumerate() {
+        let listed =
+            (0..row.len()).any(|i| usize::from(row[i]) == at && s <= start[i] && end[i] <= e);
+        *mark = u8::from(listed);
+    }
+    Answer::default()
+}
+
+/// Longest list.
+pub fn longest_list(ts: u16, te: u16) -> Answer {
+    if range_is_bad(ts, te) {
+        return refused(7, 0);
+    }
+    let days = usize::from(te - ts) + 1;
+    counted(days * (days + 1) / 2)
+}
+
+// ---- text ----
+
+/// The number in a field: what printing it right-justified gives back.
+fn field(bytes: &[u8]) -> Option<u64> {
+    let text = std::str::from_utf8(bytes).ok()?;
+    let number: u64 = text.trim_start_matches(' ').parse().ok()?;
+    (text == format!("{number:>width$}", width = bytes.len())).then_some(number)
+}
+
+/// The three numbers of a line with fields of these widths, or the refusal.
+fn line_numbers(line: &[u8], widths: [usize; 3]) -> Result<[u16; 3], u32> {
+    let [a, b, c] = widths;
+    if line.len() != a + b + c + 1 || line[a + b + c] != b'\n' {
+        return Err(11);
+    }
+    let fields = [&line[..a], &line[a..a + b], &line[a + b..a + b + c]].map(field);
+    let [Some(x), Some(y), Some(z)] = fields else {
+        return Err(12);
+    };
+    if [x, y, z].iter().any(|&number| number > 65_535) {
+        return Err(13);
+    }
+    Ok([x as u16, y as u16, z as u16])
+}
+
+/// Reader.
+pub fn read_table(text: &[u8], days: &mut [u16], first: &mut [u16], second: &mut [u16]) -> Answer {
+    let mut rows = Vec::new();
+    for (line, bytes) in text.split_inclusive(|&byte| byte == b'\n').enumerate() {
+        match line_numbers(bytes, [5, 6, 6]) {
+            Ok(row) => rows.push(row),
+            Err(number) => return refused(number, line + 1),
+        }
+    }
+    if rows.len() > days.len() || rows.len() > first.len() || rows.len() > second.len() {
+        return refused(10, 0);
+    }
+    for (at, &row) in rows.iter().enumerate() {
+        [days[at], first[at], second[at]] = row;
+    }
+    counted(rows.len())
+}
+
+/// The listing program's text, or its refusal with the input line.
+pub fn list_text(input: &[u8]) -> Result<Vec<u8>, Answer> {
+    if input.len() > MOST_INPUT {
+        return Err(refused(2, 0));
+    }
+    let mut lines = input.split_inclusive(|&byte| byte == b'\n');
+    let query = lines.next().unwrap_or(b"");
+    let [k, ts, te] = line_numbers(query, [5, 5, 5]).map_err(|number| refused(number, 1))?;
+
+    let mut columns = [[0; 1_024]; 3];
+    let [days, first, second] = &mut columns;
+    let read = read_table(&input[query.len()..], days, first, second);
+    if read.number != 0 {
+        return Err(refused(read.number, read.place as usize + 1));
+    }
+    let rows = read.count as usize;
+    let table = Table {
+        days: &days[..rows],
+        first: &first[..rows],
+        second: &second[..rows],
+    };
+    let mut list = [[0; MOST_LISTED]; 3];
+    let [start, end, size] = &mut list;
+    let mut scratch = vec![0; 8_192 + 4 * rows];
+    let listed = listing(table, k, ts, te, start, end, size, &mut scratch);
+    match listed.number {
+        0 => {}
+        3..=5 => return Err(refused(listed.number, listed.place as usize + 2)),
+        number => return Err(refused(number, 0)),
+    }
+    let mut text = String::from("start  end span  rows\n");
+    for i in 0..listed.count as usize {
+        let span = end[i] - start[i];
+        text += &format!("{:>5}{:>5}{:>5}{:>6}\n", start[i], end[i], span, size[i]);
+    }
+    Ok(text.into_bytes())
+}
+
+/// The listing program as a call: text in, text out; `place` is the input line
+/// and `count` the length of the text.
+pub fn list(input: &[u8], output: &mut [u8]) -> Answer {
+    match list_text(input) {
+        Err(refusal) => refusal,
+        Ok(text) if text.len() > output.len() => refused(10, 0),
+        Ok(text) => {
+            output[..text.len()].copy_from_slice(&text);
+            counted(text.len())
+        }
+    }
+}

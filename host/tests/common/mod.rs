@@ -1,0 +1,553 @@
+//! What the tests share: a small generator, lent buffers with canaries, raw
+//! calls, tables.
+#![allow(dead_code)]
+
+use rumbleog::brute::Answer;
+use rumbleog::{raw, Table, Windows};
+
+/// splitmix64.
+pub struct Rng(pub u64);
+
+impl Rng {
+    pub fn next(&mut self) -> u64 {
+        self.0 = self.0.wrapping_add(0x9e37_79b9_7f4a_7c15);
+        let mut z = self.0;
+        z = (z ^ (z >> 30)).wrapping_mul(0xbf58_476d_1ce4_e5b9);
+        z = (z ^ (z >> 27)).wrapping_mul(0x94d0_49bb_1331_11eb);
+        z ^ (z >> 31)
+    }
+
+    /// A number below n, n > 0.
+    pub fn below(&mut self, n: usize) -> usize {
+        (self.next() % n as u64) as usize
+    }
+
+    /// A number from a to b, both included.
+    pub fn from(&mut self, a: usize, b: usize) -> usize {
+        a + self.below(b - a + 1)
+    }
+
+    /// True once in n.
+    pub fn once_in(&mut self, n: usize) -> bool {
+        self.below(n) == 0
+    }
+
+    pub fn pick<T: Copy>(&mut self, from: &[T]) -> T {
+        from[self.below(from.len())]
+    }
+}
+
+pub trait Cell: Copy + PartialEq + std::fmt::Debug {
+    fn pattern(rng: &mut Rng) -> Self;
+}
+
+impl Cell for u8 {
+    fn pattern(rng: &mut Rng) -> u8 {
+        rng.next() as u8
+    }
+}
+
+impl Cell for u16 {
+    fn pattern(rng: &mut Rng) -> u16 {
+        rng.next() as u16
+    }
+}
+
+const GUARD: usize = 24;
+
+/// A buffer to lend, patterned inside and with canaries on both sides.
+pub struct Lent<T> {
+    all: Vec<T>,
+    before: Vec<T>,
+    length: usize,
+}
+
+impl<T: Cell> Lent<T> {
+    pub fn new(rng: &mut Rng, length: usize) -> Lent<T> {
+        let all: Vec<T> = (0..length + 2 * GUARD).map(|_| T::pattern(rng)).collect();
+        Lent {
+            before: all.clone(),
+            all,
+            length,
+        }
+    }
+
+    /// An input: these contents, canaries about them.
+    pub fn holding(rng: &mut Rng, contents: &[T]) -> Lent<T> {
+        let mut lent = Lent::new(rng, contents.len());
+        lent.all[GUARD..GUARD + contents.len()].copy_from_slice(contents);
+        lent.before.copy_from_slice(&lent.all);
+        lent
+    }
+
+    pub fn get(&self) -> &[T] {
+        &self.all[GUARD..GUARD + self.length]
+    }
+
+    pub fn get_mut(&mut self) -> &mut [T] {
+        &mut self.all[GUARD..GUARD + self.length]
+    }
+
+    /// The buffer now holds this, and its canaries live.
+    pub fn holds(&self, expected: &[T], what: &str) {
+        assert_eq!(self.get().len(), expected.len(), "{what}: length");
+        for (i, (now, then)) in self.get().iter().zip(expected).enumerate() {
+            assert!(now == then, "{what}[{i}] is {now:?}, not {then:?}");
+        }
+        let (low, high) = (GUARD, GUARD + self.length);
+        assert!(
+            self.all[..low] == self.before[..low],
+            "{what}: canary before"
+        );
+        assert!(
+            self.all[high..] == self.before[high..],
+            "{what}: canary behind"
+        );
+    }
+
+    pub fn kept(&self, what: &str) {
+        self.holds(&self.before[GUARD..GUARD + self.length], what);
+    }
+}
+
+/// A table with columns of its own.
+#[derive(Clone, Debug, Default)]
+pub struct Owned {
+    pub days: Vec<u16>,
+    pub first: Vec<u16>,
+    pub second: Vec<u16>,
+}
+
+impl Owned {
+    pub fn of(rows: &[(u16, u16, u16)]) -> Owned {
+        let mut table = Owned::default();
+        for &(day, a, b) in rows {
+            table.push(day, a, b);
+        }
+        table
+    }
+
+    pub fn push(&mut self, day: u16, a: u16, b: u16) {
+        self.days.push(day);
+        self.first.push(a.min(b));
+        self.second.push(a.max(b));
+    }
+
+    pub fn lend(&self) -> Table<'_> {
+        Table {
+            days: &self.days,
+            first: &self.first,
+            second: &self.second,
+        }
+    }
+
+    pub fn rows(&self) -> usize {
+        self.days.len()
+    }
+
+    /// Rows in day order, as they came inside a day.
+    pub fn sorted(rows: &[(u16, u16, u16)]) -> Owned {
+        let mut rows = rows.to_vec();
+        rows.sort_by_key(|row| row.0);
+        Owned::of(&rows)
+    }
+
+    pub fn text(&self) -> String {
+        (0..self.rows())
+            .map(|i| {
+                let (d, a, b) = (self.days[i], self.first[i], self.second[i]);
+                format!("{d:>5}{a:>6}{b:>6}\n")
+            })
+            .collect()
+    }
+}
+
+/// 01's example.
+pub fn season() -> Owned {
+    Owned::of(&[
+        (1, 1, 2),
+        (2, 2, 3),
+        (2, 1, 3),
+        (4, 1, 2),
+        (5, 3, 4),
+        (6, 2, 4),
+    ])
+}
+
+// ---- raw calls: out-numbers start as noise, so that one not written shows ----
+
+const NOISE: u64 = 0xdead_beef_0bad_f00d;
+
+pub fn check_table(t: Table) -> Answer {
+    let mut place = NOISE;
+    // SAFETY: pointers and lengths are those of live slices; so below.
+    let number = unsafe {
+        raw::rumbleog_check_table(
+            t.days.as_ptr(),
+            t.days.len(),
+            t.first.as_ptr(),
+            t.first.len(),
+            t.second.as_ptr(),
+            t.second.len(),
+            &mut place,
+        )
+    };
+    Answer {
+        number,
+        place,
+        ..Answer::default()
+    }
+}
+
+pub fn window_ring(
+    t: Table,
+    k: u16,
+    s: u16,
+    e: u16,
+    marks: &mut [u8],
+    scratch: &mut [u16],
+) -> Answer {
+    let (mut place, mut count) = (NOISE, NOISE);
+    let number = unsafe {
+        raw::rumbleog_window_ring(
+            t.days.as_ptr(),
+            t.days.len(),
+            t.first.as_ptr(),
+            t.first.len(),
+            t.second.as_ptr(),
+            t.second.len(),
+            k,
+            s,
+            e,
+            marks.as_mut_ptr(),
+            marks.len(),
+            scratch.as_mut_ptr(),
+            scratch.len(),
+            &mut place,
+            &mut count,
+        )
+    };
+    Answer {
+        number,
+        place,
+        count,
+        sum: 0,
+    }
+}
+
+#[allow(clippy::too_many_arguments)]
+pub fn core_times(
+    t: Table,
+    k: u16,
+    ts: u16,
+    te: u16,
+    s: u16,
+    accounts: &mut [u16],
+    rows: &mut [u16],
+    scratch: &mut [u16],
+) -> Answer {
+    let mut place = NOISE;
+    let number = unsafe {
+        raw::rumbleog_core_times(
+            t.days.as_ptr(),
+            t.days.len(),
+            t.first.as_ptr(),
+            t.first.len(),
+            t.second.as_ptr(),
+            t.second.len(),
+            k,
+            ts,
+            te,
+            s,
+            accounts.as_mut_ptr(),
+            accounts.len(),
+            rows.as_mut_ptr(),
+            rows.len(),
+            scratch.as_mut_ptr(),
+            scratch.len(),
+            &mut place,
+        )
+    };
+    Answer {
+        number,
+        place,
+        ..Answer::default()
+    }
+}
+
+/// Minimal windows or listing: the same shape, with or without the sum.
+#[allow(clippy::too_many_arguments)]
+pub fn columns_call(
+    sums: bool,
+    t: Table,
+    k: u16,
+    ts: u16,
+    te: u16,
+    a: &mut [u16],
+    b: &mut [u16],
+    c: &mut [u16],
+    scratch: &mut [u16],
+) -> Answer {
+    let (mut place, mut count, mut sum) = (NOISE, NOISE, 0);
+    let number = if sums {
+        sum = NOISE;
+        unsafe {
+            raw::rumbleog_listing(
+                t.days.as_ptr(),
+                t.days.len(),
+                t.first.as_ptr(),
+                t.first.len(),
+                t.second.as_ptr(),
+                t.second.len(),
+                k,
+                ts,
+                te,
+                a.as_mut_ptr(),
+                a.len(),
+                b.as_mut_ptr(),
+                b.len(),
+                c.as_mut_ptr(),
+                c.len(),
+                scratch.as_mut_ptr(),
+                scratch.len(),
+                &mut place,
+                &mut count,
+                &mut sum,
+            )
+        }
+    } else {
+        unsafe {
+            raw::rumbleog_minimal_windows(
+                t.days.as_ptr(),
+                t.days.len(),
+                t.first.as_ptr(),
+                t.first.len(),
+                t.second.as_ptr(),
+                t.second.len(),
+                k,
+                ts,
+                te,
+                a.as_mut_ptr(),
+                a.len(),
+                b.as_mut_ptr(),
+                b.len(),
+                c.as_mut_ptr(),
+                c.len(),
+                scratch.as_mut_ptr(),
+                scratch.len(),
+                &mut place,
+                &mut count,
+            )
+        }
+    };
+    Answer {
+        number,
+        place,
+        count,
+        sum,
+    }
+}
+
+pub fn recall(t: Table, w: Windows, s: u16, e: u16, marks: &mut [u8]) -> Answer {
+    let mut place = NOISE;
+    let number = unsafe {
+        raw::rumbleog_recall(
+            t.days.as_ptr(),
+            t.days.len(),
+            t.first.as_ptr(),
+            t.first.len(),
+            t.second.as_ptr(),
+            t.second.len(),
+            w.row.as_ptr(),
+            w.row.len(),
+            w.start.as_ptr(),
+            w.start.len(),
+            w.end.as_ptr(),
+            w.end.len(),
+            s,
+            e,
+            marks.as_mut_ptr(),
+            marks.len(),
+            &mut place,
+        )
+    };
+    Answer {
+        number,
+        place,
+        ..Answer::default()
+    }
+}
+
+pub fn longest_list(ts: u16, te: u16) -> Answer {
+    let (mut place, mut count) = (NOISE, NOISE);
+    let number = unsafe { raw::rumbleog_longest_list(ts, te, &mut place, &mut count) };
+    Answer {
+        number,
+        place,
+        count,
+        sum: 0,
+    }
+}
+
+pub fn read_table(text: &[u8], days: &mut [u16], first: &mut [u16], second: &mut [u16]) -> Answer {
+    let (mut place, mut count) = (NOISE, NOISE);
+    let number = unsafe {
+        raw::rumbleog_read_table(
+            text.as_ptr(),
+            text.len(),
+            days.as_mut_ptr(),
+            days.len(),
+            first.as_mut_ptr(),
+            first.len(),
+            second.as_mut_ptr(),
+            second.len(),
+            &mut place,
+            &mut count,
+        )
+    };
+    Answer {
+        number,
+        place,
+        count,
+        sum: 0,
+    }
+}
+
+pub fn list(input: &[u8], output: &mut [u8]) -> Answer {
+    let (mut line, mut length) = (NOISE, NOISE);
+    let number = unsafe {
+        raw::rumbleog_list(
+            input.as_ptr(),
+            input.len(),
+            output.as_mut_ptr(),
+            output.len(),
+            &mut line,
+            &mut length,
+        )
+    };
+    Answer {
+        number,
+        place: line,
+        count: length,
+        sum: 0,
+    }
+}
+
+// ---- tables ----
+
+/// A small valid table: few days, few accounts, often rings.
+pub fn small_table(rng: &mut Rng, most_rows: usize) -> Owned {
+    let days = rng.from(1, 6);
+    let from = rng.pick(&[1, 1, 1, 2, 500, 1_024 + 1 - days]);
+    let names = rng.from(2, 6);
+    let mut accounts: Vec<u16> = Vec::new();
+    while accounts.len() < names {
+        let account = match rng.below(8) {
+            0 => 0,
+            1 => 4_095,
+            2 => rng.below(4_096) as u16,
+            _ => rng.below(9) as u16,
+        };
+        if !accounts.contains(&account) {
+            accounts.push(account);
+        }
+    }
+    let rows = rng.from(0, most_rows);
+    let mut table = Vec::new();
+    while table.len() < rows {
+        let a = rng.pick(&accounts);
+        let b = rng.pick(&accounts);
+        if a != b {
+            table.push(((from + rng.below(days)) as u16, a.min(b), a.max(b)));
+        }
+    }
+    Owned::sorted(&table)
+}
+
+/// Plants a fault (or more than one) of the table check.
+pub fn damage(rng: &mut Rng, table: &mut Owned) {
+    for _ in 0..rng.from(1, 2) {
+        let rows = table.rows();
+        if rows == 0 || rng.once_in(6) {
+            let column = match rng.below(3) {
+                0 => &mut table.days,
+                1 => &mut table.first,
+                _ => &mut table.second,
+            };
+            if column.is_empty() || rng.once_in(2) {
+                column.push(7);
+            } else {
+                column.pop();
+            }
+            return;
+        }
+        let row = rng.below(rows);
+        match rng.below(7) {
+            0 => table.days[row] = rng.pick(&[0, 1_025, 65_535]),
+            1 => table.second[row] = rng.pick(&[4_096, 65_535]),
+            2 => table.first[row] = table.second[row],
+            3 => std::mem::swap(&mut table.first[row], &mut table.second[row]),
+            4 => table.days[row] = table.days[row].saturating_sub(1),
+            5 => table.days.swap(0, row),
+            _ => {
+                // two faults in one row: the first of 3, 4, 5 counts
+                table.days[row] = rng.pick(&[0, 1, 1_025]);
+                table.first[row] = 4_095;
+            }
+        }
+    }
+}
+
+/// k: mostly where rings are, now and then at the edges.
+pub fn some_k(rng: &mut Rng) -> u16 {
+    match rng.below(20) {
+        0 => 0,
+        1 => rng.pick(&[4_095, 4_096, 65_535]),
+        2 => rng.from(5, 9) as u16,
+        3..=6 => 1,
+        7 | 8 => 3,
+        9 => 4,
+        _ => 2,
+    }
+}
+
+/// Days about the table's days: mostly a right range, never a wide one.
+pub fn some_range(rng: &mut Rng, table: &Owned) -> (u16, u16) {
+    let low = table.days.iter().copied().min().unwrap_or(1);
+    let low = low.clamp(1, 1_024);
+    let a = (low + rng.below(3) as u16).saturating_sub(1).max(1);
+    let b = a + rng.below(7) as u16;
+    match rng.below(24) {
+        0 => (0, b),
+        1 => (b + 1, a),
+        2 => (a, a - 1),
+        3 => (1_020, 1_025),
+        4 => (a, 65_535),
+        5 => (1_025, 1_025),
+        6 => (1_019, 1_024),
+        _ => (a.min(1_024), b.min(1_024)),
+    }
+}
+
+/// A length that should be `right`: mostly is.
+pub fn some_length(rng: &mut Rng, right: usize) -> usize {
+    match rng.below(14) {
+        0 => right + 1,
+        1 => right.saturating_sub(1),
+        2 => 0,
+        _ => right,
+    }
+}
+
+/// Scratch: exact, longer, one short, none.
+pub fn some_scratch(rng: &mut Rng, rows: usize) -> usize {
+    let need = 8_192 + 4 * rows;
+    match rng.below(12) {
+        0 => need - 1,
+        1 => need + 1,
+        2 => need + rng.below(100),
+        3 => rng.below(2) * 8_192,
+        4 => need - 4 * rows.min(1),
+        _ => need,
+    }
+}

@@ -1,0 +1,415 @@
+//! Examples whose answers are printed elsewhere, and the edges of each limit.
+
+mod common;
+
+use common::*;
+use rumbleog::{self as lib, brute, Refusal, Table, Windows, NEVER};
+
+/// Minimal windows through the wrapper, cut at their count.
+fn windows(table: &Owned, k: u16, ts: u16, te: u16) -> Vec<(u16, u16, u16)> {
+    let mut columns = [vec![0; 4_000], vec![0; 4_000], vec![0; 4_000]];
+    let [a, b, c] = &mut columns;
+    let mut scratch = vec![0xabcd; lib::scratch_for(table.rows())];
+    let count = lib::minimal_windows(table.lend(), k, ts, te, a, b, c, &mut scratch).unwrap();
+    (0..count as usize).map(|i| (a[i], b[i], c[i])).collect()
+}
+
+fn rings(table: &Owned, k: u16, ts: u16, te: u16) -> (Vec<(u16, u16, u16)>, u64) {
+    let mut columns = [vec![0; 4_000], vec![0; 4_000], vec![0; 4_000]];
+    let [a, b, c] = &mut columns;
+    let mut scratch = vec![0xabcd; lib::scratch_for(table.rows())];
+    let listed = lib::listing(table.lend(), k, ts, te, a, b, c, &mut scratch).unwrap();
+    let list = (0..listed.count as usize)
+        .map(|i| (a[i], b[i], c[i]))
+        .collect();
+    (list, listed.sum)
+}
+
+fn times(table: &Owned, k: u16, ts: u16, te: u16, s: u16) -> (Vec<u16>, Vec<u16>) {
+    let mut accounts = vec![7; 4_096];
+    let mut rows = vec![7; table.rows()];
+    let mut scratch = vec![0xabcd; lib::scratch_for(table.rows())];
+    lib::core_times(
+        table.lend(),
+        k,
+        ts,
+        te,
+        s,
+        &mut accounts,
+        &mut rows,
+        &mut scratch,
+    )
+    .unwrap();
+    (accounts, rows)
+}
+
+/// 01, "Rows to check by": start 1, 2 and 3.
+#[test]
+fn season_core_times() {
+    let table = season();
+    let (accounts, rows) = times(&table, 2, 1, 6, 1);
+    assert_eq!(rows, [2, 2, 2, 4, 6, 6]);
+    for (account, &time) in accounts.iter().enumerate() {
+        let expected = match account {
+            1..=3 => 2,
+            4 => 6,
+            _ => NEVER,
+        };
+        assert_eq!(time, expected, "account {account}");
+    }
+    let (_, rows) = times(&table, 2, 1, 6, 2);
+    assert_eq!(rows, [NEVER, 4, 4, 4, 6, 6]);
+    let (accounts, rows) = times(&table, 2, 1, 6, 3);
+    assert!(accounts.iter().chain(&rows).all(|&time| time == NEVER));
+}
+
+#[test]
+fn season_minimal_windows() {
+    let table = season();
+    let list = [
+        (0, 1, 2),
+        (1, 1, 2),
+        (1, 2, 4),
+        (2, 1, 2),
+        (2, 2, 4),
+        (3, 2, 4),
+        (4, 2, 6),
+        (5, 2, 6),
+    ];
+    assert_eq!(windows(&table, 2, 1, 6), list);
+    // Seven places: 10, columns kept, scratch all 0.
+    let mut columns = [[9; 7]; 3];
+    let [a, b, c] = &mut columns;
+    let mut scratch = vec![5; lib::scratch_for(6) + 3];
+    assert_eq!(
+        lib::minimal_windows(table.lend(), 2, 1, 6, a, b, c, &mut scratch),
+        Err(Refusal::NoRoom)
+    );
+    assert_eq!(columns, [[9; 7]; 3]);
+    assert!(scratch.iter().all(|&number| number == 0));
+}
+
+#[test]
+fn season_rings() {
+    let table = season();
+    let list = vec![(1, 2, 3), (1, 4, 4), (1, 6, 6), (2, 4, 3), (2, 6, 5)];
+    assert_eq!(rings(&table, 2, 1, 6), (list, 21));
+    assert_eq!(rings(&table, 3, 1, 6), (vec![], 0));
+    assert_eq!(rings(&table, 1, 1, 6).0.len(), 15);
+    let text = format!("    2    1    6\n{}", table.text());
+    let mut out = vec![b'#'; 200];
+    let length = lib::list(text.as_bytes(), &mut out).unwrap();
+    let expected = "start  end span  rows\n\
+                    \x20   1    2    1     3\n\
+                    \x20   1    4    3     4\n\
+                    \x20   1    6    5     6\n\
+                    \x20   2    4    2     3\n\
+                    \x20   2    6    4     5\n";
+    assert_eq!(&out[..length], expected.as_bytes());
+    assert!(out[length..].iter().all(|&byte| byte == b'#'));
+}
+
+#[test]
+fn empty_tables_and_equal_rows() {
+    let empty = Owned::default();
+    assert_eq!(rings(&empty, 1, 1, 1_024), (vec![], 0));
+    assert_eq!(windows(&empty, 4_095, 1, 1_024), []);
+    assert!(times(&empty, 1, 1, 1_024, 5).0.iter().all(|&t| t == NEVER));
+    let pair = Owned::of(&[(1, 1, 2), (2, 1, 2)]);
+    assert_eq!(rings(&pair, 2, 1, 2), (vec![], 0));
+    let list = vec![(1, 1, 1), (1, 2, 2), (2, 2, 1)];
+    assert_eq!(rings(&pair, 1, 1, 2), (list, 4));
+    let twice = Owned::of(&[(3, 1, 2), (3, 1, 2), (3, 1, 2)]);
+    assert_eq!(rings(&twice, 1, 1, 9), (vec![(3, 3, 3)], 3));
+    assert_eq!(rings(&twice, 2, 1, 9), (vec![], 0));
+    let triangle = Owned::of(&[(3, 1, 2), (3, 1, 2), (3, 1, 3), (3, 2, 3)]);
+    assert_eq!(rings(&triangle, 2, 3, 3), (vec![(3, 3, 4)], 4));
+    assert_eq!(rings(&triangle, 3, 3, 3), (vec![], 0));
+}
+
+/// NULL for an empty slice, as C hosts may pass it.
+#[test]
+fn null_slices() {
+    let (mut place, mut count) = (7, 7);
+    let (none, mut scratch) = (std::ptr::null::<u16>(), vec![1; 8_192]);
+    // SAFETY: NULL with length 0, and a live scratch.
+    let number = unsafe {
+        lib::raw::rumbleog_window_ring(
+            none,
+            0,
+            none,
+            0,
+            none,
+            0,
+            1,
+            1,
+            1,
+            std::ptr::null_mut(),
+            0,
+            scratch.as_mut_ptr(),
+            scratch.len(),
+            &mut place,
+            &mut count,
+        )
+    };
+    assert_eq!((number, place, count), (0, 0, 0));
+    assert!(scratch.iter().all(|&number| number == 0));
+    let (none8, mut length) = (std::ptr::null::<u8>(), 7);
+    // SAFETY: NULL with length 0.
+    let number = unsafe {
+        lib::raw::rumbleog_list(none8, 0, std::ptr::null_mut(), 0, &mut place, &mut length)
+    };
+    assert_eq!((number, place, length), (11, 1, 0));
+    let number = unsafe {
+        lib::raw::rumbleog_read_table(
+            none8,
+            0,
+            std::ptr::null_mut(),
+            0,
+            std::ptr::null_mut(),
+            0,
+            std::ptr::null_mut(),
+            0,
+            &mut place,
+            &mut count,
+        )
+    };
+    assert_eq!((number, place, count), (0, 0, 0));
+}
+
+#[test]
+fn limits_pass_and_next_are_refused() {
+    let check = |day: u16, a: u16, b: u16| {
+        lib::check_table(Table {
+            days: &[1, day],
+            first: &[0, a],
+            second: &[1, b],
+        })
+    };
+    assert_eq!(check(1_024, 4_094, 4_095), Ok(()));
+    assert_eq!(check(1_024, 0, 4_095), Ok(()));
+    assert_eq!(check(0, 0, 1), Err(Refusal::BadDay(1)));
+    assert_eq!(check(1_025, 0, 1), Err(Refusal::BadDay(1)));
+    assert_eq!(check(1, 0, 4_096), Err(Refusal::BadAccounts(1)));
+    assert_eq!(check(1, 4_096, 4_097), Err(Refusal::BadAccounts(1)));
+    assert_eq!(check(1, 3, 3), Err(Refusal::BadAccounts(1)));
+    assert_eq!(check(0, 3, 3), Err(Refusal::BadDay(1)));
+    let late = Owned::of(&[
+        (1_024, 4_093, 4_094),
+        (1_024, 4_093, 4_095),
+        (1_024, 4_094, 4_095),
+    ]);
+    assert_eq!(rings(&late, 2, 1, 1_024), (vec![(1_024, 1_024, 3)], 3));
+    assert_eq!(rings(&late, 2, 1_024, 1_024).0.len(), 1);
+    assert_eq!(
+        windows(&late, 2, 1, 1_024),
+        [(0, 1_024, 1_024), (1, 1_024, 1_024), (2, 1_024, 1_024)]
+    );
+    let (accounts, rows) = times(&late, 2, 1, 1_024, 1);
+    assert_eq!(rows, [1_024; 3]);
+    assert_eq!(accounts[4_092..], [NEVER, 1_024, 1_024, 1_024]);
+    let (_, rows) = times(&late, 2, 1, 1_023, 1);
+    assert_eq!(rows, [NEVER; 3]);
+
+    // 16,384 rows pass, 16,385 are refused, after 1 and before any row.
+    let column = vec![1_u16; 16_385];
+    let second = vec![2_u16; 16_385];
+    let table = |n: usize, m: usize| Table {
+        days: &column[..n],
+        first: &column[..n],
+        second: &second[..m],
+    };
+    assert_eq!(lib::check_table(table(16_384, 16_384)), Ok(()));
+    assert_eq!(
+        lib::check_table(table(16_385, 16_385)),
+        Err(Refusal::TooLarge)
+    );
+    assert_eq!(
+        lib::check_table(table(16_385, 16_384)),
+        Err(Refusal::ColumnsDiffer)
+    );
+    let zeros = vec![0_u16; 16_385];
+    let bad = Table {
+        days: &zeros,
+        first: &zeros,
+        second: &zeros,
+    };
+    assert_eq!(lib::check_table(bad), Err(Refusal::TooLarge));
+}
+
+#[test]
+fn k_zero_and_beyond() {
+    let table = season();
+    for (k, expected) in [(0, 6), (4_096, 6), (65_535, 6), (1, 0), (4_095, 0)] {
+        let mut marks = [3; 6];
+        let mut scratch = vec![3; lib::scratch_for(6)];
+        let got = window_ring(table.lend(), k, 1, 6, &mut marks, &mut scratch);
+        assert_eq!(got.number, expected, "k {k}");
+        assert_eq!(got.count, if k == 1 { 6 } else { 0 });
+        if expected == 6 {
+            assert_eq!(marks, [3; 6]);
+            assert!(scratch.iter().all(|&number| number == 3));
+        }
+    }
+    // No table has the rows for a ring of k = 4,095; the largest clique has 181.
+    let mut rows = Vec::new();
+    for b in 0..181 {
+        for a in 0..b {
+            rows.push((1, a, b));
+        }
+    }
+    let clique = Owned::of(&rows);
+    assert_eq!(rings(&clique, 180, 1, 1).0, [(1, 1, 16_290)]);
+    assert_eq!(rings(&clique, 181, 1, 1).0, []);
+    assert_eq!(rings(&clique, 4_095, 1, 1).0, []);
+}
+
+/// 001, Figure 1 and Table II: k = 2, range [1, 7]; v1 to v9 are accounts 1 to 9.
+#[test]
+fn the_papers_example() {
+    let table = Owned::of(&[
+        (1, 2, 9),
+        (2, 1, 4),
+        (2, 2, 3),
+        (3, 1, 2),
+        (3, 2, 4),
+        (4, 3, 9),
+        (4, 4, 8),
+        (5, 1, 6),
+        (5, 1, 7),
+        (5, 2, 8),
+        (5, 6, 7),
+        (6, 1, 3),
+        (6, 3, 5),
+        (7, 1, 5),
+    ]);
+    let skyline = [
+        (0, 1, 4),
+        (1, 2, 3),
+        (2, 1, 4),
+        (2, 2, 6),
+        (3, 2, 3),
+        (3, 3, 5),
+        (4, 2, 3),
+        (4, 3, 5),
+        (5, 1, 4),
+        (6, 3, 5),
+        (7, 5, 5),
+        (8, 5, 5),
+        (9, 3, 5),
+        (10, 5, 5),
+        (11, 2, 6),
+        (11, 6, 7),
+        (12, 6, 7),
+        (13, 6, 7),
+    ];
+    assert_eq!(windows(&table, 2, 1, 7), skyline);
+    assert_eq!(brute::minimal_window_list(table.lend(), 2, 1, 7), skyline);
+    // 001, Example 1: two temporal 2-cores in [1, 4].
+    let list = vec![(1, 4, 6), (2, 3, 3)];
+    assert_eq!(rings(&table, 2, 1, 4), (list, 9));
+    // 001, Table I, but for v3 from 4, which Table II contradicts.
+    let (accounts, _) = times(&table, 2, 1, 7, 1);
+    assert_eq!(accounts[1..10], [3, 3, 4, 3, 7, 5, 5, 5, 4]);
+    let (accounts, _) = times(&table, 2, 1, 7, 4);
+    let n = NEVER;
+    assert_eq!(accounts[1..10], [5, n, 7, n, 7, 5, 5, n, n]);
+    let (accounts, _) = times(&table, 2, 1, 7, 6);
+    assert_eq!(accounts[1..10], [7, n, 7, n, 7, n, n, n, n]);
+    let (accounts, _) = times(&table, 2, 1, 7, 7);
+    assert_eq!(accounts[1..10], [n; 9]);
+}
+
+/// Each wrapper turns each number into its refusal.
+#[test]
+fn wrappers_name_refusals() {
+    let table = season();
+    let mut marks = [0; 6];
+    let mut scratch = vec![0; lib::scratch_for(6)];
+    let short = lib::scratch_for(6) - 1;
+    let t = table.lend();
+    let fifth = Table {
+        days: &t.days[..5],
+        ..t
+    };
+    assert_eq!(
+        lib::window_ring(fifth, 2, 1, 6, &mut marks, &mut scratch),
+        Err(Refusal::ColumnsDiffer)
+    );
+    assert_eq!(
+        lib::window_ring(t, 0, 1, 6, &mut marks, &mut scratch),
+        Err(Refusal::BadK)
+    );
+    assert_eq!(
+        lib::window_ring(t, 2, 6, 1, &mut marks, &mut scratch),
+        Err(Refusal::BadRange)
+    );
+    assert_eq!(
+        lib::window_ring(t, 2, 1, 6, &mut marks[1..], &mut scratch),
+        Err(Refusal::BadLength)
+    );
+    assert_eq!(
+        lib::window_ring(t, 2, 1, 6, &mut marks, &mut scratch[..short]),
+        Err(Refusal::Scratch)
+    );
+    let list = Windows {
+        row: &[0, 1, 1],
+        start: &[1, 1, 1],
+        end: &[2, 2, 4],
+    };
+    assert_eq!(
+        lib::recall(t, list, 1, 6, &mut marks),
+        Err(Refusal::BadEntry(2))
+    );
+    let mut days = [0; 2];
+    let mut first = [0; 2];
+    let mut second = [0; 2];
+    let mut read =
+        |text: &str| lib::read_table(text.as_bytes(), &mut days, &mut first, &mut second);
+    assert_eq!(read("    1     1     2\n"), Ok(1));
+    assert_eq!(read("    1     1    2\n"), Err(Refusal::BadLine(1)));
+    assert_eq!(read("    1     1    02\n"), Err(Refusal::BadField(1)));
+    assert_eq!(
+        read("    1     1     2\n    1     1 65536\n"),
+        Err(Refusal::BadNumber(2))
+    );
+    assert_eq!(read(&"    1     1     2\n".repeat(3)), Err(Refusal::NoRoom));
+    assert_eq!(lib::longest_list(1, 1_024), Ok(524_800));
+    assert_eq!(lib::longest_list(2, 1), Err(Refusal::BadRange));
+    for number in 1..=20 {
+        let refusal = Refusal::of(number, 3).unwrap();
+        assert_eq!(refusal.number(), number);
+        let has_place = matches!(number, 3..=5 | 11..=20);
+        assert_eq!(refusal.place(), if has_place { 3 } else { 0 });
+        assert!(refusal.to_string().starts_with("refused "));
+    }
+}
+
+/// The C host's expected listings are those of the brute-force version.
+#[test]
+fn examples_listed() {
+    for (name, number) in [
+        ("season", 0),
+        ("market", 0),
+        ("broken-day", 5),
+        ("broken-field", 12),
+    ] {
+        let text = std::fs::read(format!("../examples/{name}.txt")).unwrap();
+        let expected = std::fs::read(format!("c/expected/{name}.txt")).unwrap();
+        assert!(text.len() <= lib::MOST_INPUT);
+        let mut output = vec![b'#'; lib::text_for(lib::MOST_LISTED)];
+        let got = list(&text, &mut output);
+        assert_eq!(got.number, number, "{name}");
+        match brute::list_text(&text) {
+            Ok(listing) => {
+                assert!(listing == expected, "{name}");
+                assert!(listing == output[..got.count as usize], "{name}");
+            }
+            Err(refusal) => {
+                assert_eq!((got.number, got.place), (refusal.number, refusal.place));
+                let line = format!("refused{:>5}{:>6}\n", got.number, got.place);
+                assert_eq!(line.as_bytes(), expected, "{name}");
+            }
+        }
+    }
+}

@@ -1,0 +1,432 @@
+//! Tables of full size, where brute force cannot follow: the calls are held
+//! against each other, and the window ring against a plain peeling.
+
+mod common;
+
+#[path = "../src/bin/bench/tables.rs"]
+#[allow(dead_code)]
+mod tables;
+
+use common::Rng;
+use rumbleog::{self as lib, Refusal, Table, Windows, NEVER};
+use tables::{cases, Case, Columns};
+
+fn lend(columns: &Columns) -> Table<'_> {
+    Table {
+        days: &columns.days,
+        first: &columns.first,
+        second: &columns.second,
+    }
+}
+
+/// Entries of three columns, cut at their count.
+struct List {
+    a: Vec<u16>,
+    b: Vec<u16>,
+    c: Vec<u16>,
+}
+
+impl List {
+    fn of(places: usize) -> List {
+        List {
+            a: vec![0xaaaa; places],
+            b: vec![0xbbbb; places],
+            c: vec![0xcccc; places],
+        }
+    }
+
+    fn cut(&mut self, count: usize) {
+        self.a.truncate(count);
+        self.b.truncate(count);
+        self.c.truncate(count);
+    }
+
+    fn windows(&self) -> Windows<'_> {
+        Windows {
+            row: &self.a,
+            start: &self.b,
+            end: &self.c,
+        }
+    }
+}
+
+/// Marks of the ring by plain peeling, with a set for each account.
+fn plain_ring(table: Table, k: u16, s: u16, e: u16) -> Vec<u8> {
+    use std::collections::{BTreeMap, BTreeSet};
+    let mut near: BTreeMap<u16, BTreeSet<u16>> = BTreeMap::new();
+    let inside = |row: usize| s <= table.days[row] && table.days[row] <= e;
+    for row in (0..table.days.len()).filter(|&row| inside(row)) {
+        let (a, b) = (table.first[row], table.second[row]);
+        near.entry(a).or_default().insert(b);
+        near.entry(b).or_default().insert(a);
+    }
+    loop {
+        let short: Vec<u16> = near
+            .iter()
+            .filter(|(_, others)| others.len() < usize::from(k))
+            .map(|(&account, _)| account)
+            .collect();
+        if short.is_empty() {
+            break;
+        }
+        for account in short {
+            for other in near.remove(&account).unwrap_or_default() {
+                if let Some(others) = near.get_mut(&other) {
+                    others.remove(&account);
+                }
+            }
+        }
+    }
+    (0..table.days.len())
+        .map(|row| {
+            let met = near.contains_key(&table.first[row]) && near.contains_key(&table.second[row]);
+            u8::from(inside(row) && met)
+        })
+        .collect()
+}
+
+/// What one table says, and that its parts agree. The number of windows tried.
+fn agrees(case: &Case, seed: u64) -> usize {
+    let rng = &mut Rng(seed);
+    let table = lend(&case.table);
+    let (k, te) = (case.k, case.te);
+    let rows = table.days.len();
+    let name = &case.name;
+    let mut scratch = vec![0x5a5a; lib::scratch_for(rows) + rng.below(5)];
+    let mut tried = 0;
+
+    // Listing: with room for any list, with exact room, with a place too few.
+    let room = lib::longest_list(1, te).unwrap() as usize;
+    let mut rings = List::of(room);
+    let listed = {
+        let List { a, b, c } = &mut rings;
+        lib::listing(table, k, 1, te, a, b, c, &mut scratch).unwrap()
+    };
+    let count = listed.count as usize;
+    assert!(scratch.iter().all(|&number| number == 0), "{name}");
+    assert!(
+        rings.a[count..].iter().all(|&number| number == 0xaaaa),
+        "{name}"
+    );
+    rings.cut(count);
+    let sum: u64 = rings.c.iter().map(|&rows| u64::from(rows)).sum();
+    assert_eq!(sum, listed.sum, "{name}");
+    for i in 1..count {
+        let last = (rings.a[i - 1], rings.b[i - 1]);
+        assert!(last < (rings.a[i], rings.b[i]), "{name}: order at {i}");
+    }
+    let mut exact = List::of(count);
+    scratch.fill(0xffff);
+    let again = {
+        let List { a, b, c } = &mut exact;
+        lib::listing(table, k, 1, te, a, b, c, &mut scratch).unwrap()
+    };
+    assert_eq!(again, listed, "{name}");
+    assert!(
+        (&exact.a, &exact.b, &exact.c) == (&rings.a, &rings.b, &rings.c),
+        "{name}: exact room"
+    );
+    if count > 0 {
+        let mut short = List::of(count - 1);
+        let List { a, b, c } = &mut short;
+        let refused = lib::listing(table, k, 1, te, a, b, c, &mut scratch);
+        assert_eq!(refused, Err(Refusal::NoRoom), "{name}");
+        assert!(a.iter().all(|&number| number == 0xaaaa), "{name}");
+    }
+
+    // Minimal windows: a place too few tells nothing but 10.
+    let mut places = 1 << 16;
+    let mut windows;
+    loop {
+        windows = List::of(places);
+        let List { a, b, c } = &mut windows;
+        match lib::minimal_windows(table, k, 1, te, a, b, c, &mut scratch) {
+            Ok(count) => {
+                windows.cut(count as usize);
+                break;
+            }
+            Err(refusal) => {
+                assert_eq!(refusal, Refusal::NoRoom, "{name}");
+                assert!(a.iter().all(|&number| number == 0xaaaa), "{name}");
+                places *= 2;
+            }
+        }
+    }
+    if !windows.a.is_empty() {
+        let mut short = List::of(windows.a.len() - 1);
+        let List { a, b, c } = &mut short;
+        let refused = lib::minimal_windows(table, k, 1, te, a, b, c, &mut scratch);
+        assert_eq!(refused, Err(Refusal::NoRoom), "{name}");
+    }
+
+    // Core times at some starts, from the minimal windows: the least end among
+    // a row's windows that start no earlier.
+    let mut accounts = vec![0; 4_096];
+    let mut times = vec![0; rows];
+    let mut marks = vec![7; rows];
+    let mut recalled = vec![7; rows];
+    for _ in 0..12 {
+        let s = 1 + rng.below(usize::from(te)) as u16;
+        lib::core_times(table, k, 1, te, s, &mut accounts, &mut times, &mut scratch).unwrap();
+        let mut least = vec![NEVER; rows];
+        for i in 0..windows.a.len() {
+            let row = usize::from(windows.a[i]);
+            if windows.b[i] >= s {
+                least[row] = least[row].min(windows.c[i]);
+            }
+        }
+        assert!(times == least, "{name}: core times at {s}");
+        // and against window rings
+        for _ in 0..4 {
+            let e = s + rng.below(usize::from(te - s) + 1) as u16;
+            lib::window_ring(table, k, s, e, &mut marks, &mut scratch).unwrap();
+            for row in 0..rows {
+                assert_eq!(
+                    marks[row] == 1,
+                    times[row] <= e,
+                    "{name}: row {row} [{s},{e}]"
+                );
+            }
+            let mut met = vec![false; 4_096];
+            for row in (0..rows).filter(|&row| marks[row] == 1) {
+                met[usize::from(table.first[row])] = true;
+                met[usize::from(table.second[row])] = true;
+            }
+            for account in 0..4_096 {
+                assert_eq!(
+                    met[account],
+                    accounts[account] <= e,
+                    "{name}: account {account} [{s},{e}]"
+                );
+            }
+            tried += 1;
+        }
+    }
+
+    // Windows: recall is the ring, and the ring's tightest window is listed.
+    for turn in 0..60 {
+        let s = 1 + rng.below(usize::from(te)) as u16;
+        let e = s + rng.below(usize::from(te - s) + 1) as u16;
+        let ones = lib::window_ring(table, k, s, e, &mut marks, &mut scratch).unwrap();
+        lib::recall(table, windows.windows(), s, e, &mut recalled).unwrap();
+        assert!(marks == recalled, "{name}: recall [{s},{e}]");
+        if turn < 6 {
+            assert!(marks == plain_ring(table, k, s, e), "{name}: [{s},{e}]");
+        }
+        let ring: Vec<usize> = (0..rows).filter(|&row| marks[row] == 1).collect();
+        assert_eq!(ring.len() as u64, ones, "{name}");
+        if let (Some(&first), Some(&last)) = (ring.first(), ring.last()) {
+            let tight = (table.days[first], table.days[last]);
+            let at = (0..count)
+                .collect::<Vec<_>>()
+                .binary_search_by_key(&tight, |&i| (rings.a[i], rings.b[i]));
+            let at = at.unwrap_or_else(|_| panic!("{name}: {tight:?} is not listed"));
+            assert_eq!(u64::from(rings.c[at]), ones, "{name}: {tight:?}");
+        }
+        tried += 1;
+    }
+
+    // Listed entries: each, or several hundred of a long list.
+    let step = count / 500 + 1;
+    for i in (rng.below(step)..count).step_by(step) {
+        let (s, e) = (rings.a[i], rings.b[i]);
+        let ones = lib::window_ring(table, k, s, e, &mut marks, &mut scratch).unwrap();
+        assert_eq!(ones, u64::from(rings.c[i]), "{name}: entry {i}");
+        let first = marks.iter().position(|&mark| mark == 1).unwrap();
+        let last = marks.iter().rposition(|&mark| mark == 1).unwrap();
+        assert_eq!((table.days[first], table.days[last]), (s, e), "{name}");
+        tried += 1;
+    }
+    println!(
+        "{name}: {rows} rows, {count} rings, {} minimal windows, {tried} window rings",
+        windows.a.len()
+    );
+    tried
+}
+
+#[test]
+fn full_tables_agree() {
+    let mut tried = 0;
+    for case in cases(16_384) {
+        assert!(case.table.days.len() > 16_000, "{}", case.name);
+        tried += agrees(&case, 31);
+    }
+    println!("full tables: {tried} window rings compared");
+}
+
+#[test]
+fn middle_tables_agree() {
+    for case in cases(1_024).iter().chain(&cases(2_500)) {
+        agrees(case, 32);
+    }
+}
+
+/// Listing and minimal windows rebuilt from the window rings of ALL windows.
+#[test]
+fn lists_rebuilt_from_all_window_rings() {
+    let mut tried = 0;
+    for seed in 0..60 {
+        let mut case = tables::drawn(seed, 400);
+        // Fold the days so that all windows can be tried.
+        let days = 36;
+        for day in &mut case.table.days {
+            *day = 1 + (*day - 1) * (days - 1) / 1_023;
+        }
+        let table = lend(&case.table);
+        let rows = table.days.len();
+        let k = case.k;
+        let mut scratch = vec![0; lib::scratch_for(rows)];
+        let mut marks = vec![0; rows];
+        let mut expected_rings = std::collections::BTreeSet::new();
+        // times[row]: its core time at the start after this one
+        let mut after = vec![NEVER; rows];
+        let mut expected_windows = Vec::new();
+        for s in (1..=days).rev() {
+            let mut times = vec![NEVER; rows];
+            for e in (s..=days).rev() {
+                let ones = lib::window_ring(table, k, s, e, &mut marks, &mut scratch).unwrap();
+                for row in (0..rows).filter(|&row| marks[row] == 1) {
+                    times[row] = e;
+                }
+                if ones > 0 {
+                    let first = marks.iter().position(|&mark| mark == 1).unwrap();
+                    let last = marks.iter().rposition(|&mark| mark == 1).unwrap();
+                    expected_rings.insert((table.days[first], table.days[last], ones as u16));
+                }
+                tried += 1;
+            }
+            for row in 0..rows {
+                if times[row] != NEVER && times[row] != after[row] {
+                    expected_windows.push((row as u16, s, times[row]));
+                }
+            }
+            after = times;
+        }
+        expected_windows.sort();
+        let mut list = List::of(expected_windows.len());
+        let List { a, b, c } = &mut list;
+        let count = lib::minimal_windows(table, k, 1, days, a, b, c, &mut scratch);
+        assert_eq!(count, Ok(expected_windows.len() as u64), "{}", case.name);
+        let got: Vec<_> = (0..a.len()).map(|i| (a[i], b[i], c[i])).collect();
+        assert!(got == expected_windows, "{}", case.name);
+        let mut list = List::of(expected_rings.len());
+        let List { a, b, c } = &mut list;
+        let listed = lib::listing(table, k, 1, days, a, b, c, &mut scratch).unwrap();
+        assert_eq!(listed.count as usize, expected_rings.len(), "{}", case.name);
+        let got: Vec<_> = (0..a.len()).map(|i| (a[i], b[i], c[i])).collect();
+        assert!(
+            got == expected_rings.into_iter().collect::<Vec<_>>(),
+            "{}",
+            case.name
+        );
+    }
+    println!("lists rebuilt from {tried} window rings");
+}
+
+/// A listing of the most rings there can be, and lists past 65,535 entries.
+#[test]
+fn the_longest_lists() {
+    // A row a day: every window has a ring of its own for k = 1.
+    let mut columns = Columns::default();
+    for i in 0..16_384_u16 {
+        columns.days.push(1 + i / 16);
+        columns.first.push(i % 16);
+        columns.second.push(16 + i % 7);
+    }
+    let table = lend(&columns);
+    let mut scratch = vec![1; lib::scratch_for(16_384)];
+    let mut list = List::of(524_800);
+    let List { a, b, c } = &mut list;
+    let listed = lib::listing(table, 1, 1, 1_024, a, b, c, &mut scratch).unwrap();
+    assert_eq!(listed.count, 524_800);
+    assert_eq!(lib::longest_list(1, 1_024), Ok(524_800));
+    let mut at = 0;
+    let mut sum = 0;
+    for s in 1..=1_024 {
+        for e in s..=1_024 {
+            assert_eq!((a[at], b[at], c[at]), (s, e, 16 * (e - s + 1)));
+            sum += u64::from(c[at]);
+            at += 1;
+        }
+    }
+    assert_eq!(listed.sum, sum);
+    assert!(sum > 1 << 31);
+    let mut short = List::of(524_799);
+    let List { a, b, c } = &mut short;
+    let refused = lib::listing(table, 1, 1, 1_024, a, b, c, &mut scratch);
+    assert_eq!(refused, Err(Refusal::NoRoom));
+
+    // A cycle that breaks each day: every row has many minimal windows.
+    let longest = cases(16_384)
+        .into_iter()
+        .filter(|case| case.name.starts_with("cycle"))
+        .map(|case| {
+            let table = lend(&case.table);
+            let mut list = List::of(20_000_000);
+            let List { a, b, c } = &mut list;
+            lib::minimal_windows(table, case.k, 1, 1_024, a, b, c, &mut scratch).unwrap()
+        })
+        .max()
+        .unwrap_or(0);
+    assert!(longest > 65_535, "{longest} entries only");
+    println!("longest minimal-window list: {longest} entries");
+}
+
+/// Eight threads at once on one table: each call touches what it is lent.
+#[test]
+fn eight_threads() {
+    type Answers = (
+        Vec<u16>,
+        Vec<u16>,
+        Vec<u16>,
+        Vec<u16>,
+        Vec<u8>,
+        Vec<u8>,
+        u64,
+    );
+    let case = &cases(4_096)[4];
+    fn answers(case: &Case) -> Answers {
+        let table = lend(&case.table);
+        let rows = table.days.len();
+        let mut scratch = vec![9; lib::scratch_for(rows)];
+        let mut rings = List::of(524_800);
+        let List { a, b, c } = &mut rings;
+        let listed = lib::listing(table, case.k, 1, case.te, a, b, c, &mut scratch).unwrap();
+        rings.cut(listed.count as usize);
+        let mut windows = List::of(1 << 20);
+        let List { a, b, c } = &mut windows;
+        let count = lib::minimal_windows(table, case.k, 1, case.te, a, b, c, &mut scratch).unwrap();
+        windows.cut(count as usize);
+        let mut accounts = vec![0; 4_096];
+        let mut times = vec![0; rows];
+        lib::core_times(
+            table,
+            case.k,
+            1,
+            case.te,
+            100,
+            &mut accounts,
+            &mut times,
+            &mut scratch,
+        )
+        .unwrap();
+        let mut marks = vec![0; rows];
+        lib::window_ring(table, case.k, 90, 900, &mut marks, &mut scratch).unwrap();
+        let mut recalled = vec![0; rows];
+        lib::recall(table, windows.windows(), 90, 900, &mut recalled).unwrap();
+        (
+            rings.c, windows.c, accounts, times, marks, recalled, listed.sum,
+        )
+    }
+    let alone = answers(case);
+    assert_eq!(alone.4, alone.5);
+    std::thread::scope(|scope| {
+        for _ in 0..8 {
+            scope.spawn(|| {
+                for _ in 0..4 {
+                    assert!(answers(case) == alone, "another answer in a thread");
+                }
+            });
+        }
+    });
+}

@@ -1,0 +1,444 @@
+//! Every call that takes a table against the brute-force version, on seeded
+//! random small tables, valid and damaged.
+
+mod common;
+
+use common::*;
+use rumbleog::brute::{self, RowSet};
+use rumbleog::{Table, Windows};
+
+/// The columns of a table, lent between canaries.
+struct LentTable {
+    days: Lent<u16>,
+    first: Lent<u16>,
+    second: Lent<u16>,
+}
+
+impl LentTable {
+    fn new(rng: &mut Rng, table: &Owned) -> LentTable {
+        LentTable {
+            days: Lent::holding(rng, &table.days),
+            first: Lent::holding(rng, &table.first),
+            second: Lent::holding(rng, &table.second),
+        }
+    }
+
+    fn lend(&self) -> Table<'_> {
+        Table {
+            days: self.days.get(),
+            first: self.first.get(),
+            second: self.second.get(),
+        }
+    }
+
+    fn kept(&self) {
+        self.days.kept("days");
+        self.first.kept("first");
+        self.second.kept("second");
+    }
+}
+
+/// A table for a case: one in five is damaged.
+fn case_table(rng: &mut Rng, most_rows: usize) -> Owned {
+    let mut table = small_table(rng, most_rows);
+    if rng.once_in(5) {
+        damage(rng, &mut table);
+    }
+    table
+}
+
+/// How often each refusal number came up: a test that never meets one is weak.
+struct Seen([u64; 16]);
+
+impl Seen {
+    fn report(&self, call: &str, cases: u64, all: &[usize]) {
+        println!(
+            "{call}: {cases} random cases; by refusal number {:?}",
+            &self.0[..15]
+        );
+        for &number in all {
+            assert!(self.0[number] > 0, "{call}: no case met {number}");
+        }
+    }
+}
+
+#[test]
+fn table_check() {
+    let mut rng = Rng(1);
+    let mut seen = Seen([0; 16]);
+    let cases = 100_000;
+    for case in 0..cases {
+        let mut table = small_table(&mut rng, 20);
+        if !rng.once_in(4) {
+            damage(&mut rng, &mut table);
+        }
+        let lent = LentTable::new(&mut rng, &table);
+        let expected = brute::check_table(table.lend());
+        assert_eq!(check_table(lent.lend()), expected, "case {case}: {table:?}");
+        lent.kept();
+        seen.0[expected.number as usize] += 1;
+    }
+    seen.report("check_table", cases, &[0, 1, 3, 4, 5]);
+}
+
+#[test]
+fn window_rings() {
+    let mut rng = Rng(2);
+    let mut seen = Seen([0; 16]);
+    let cases = 60_000;
+    for case in 0..cases {
+        let table = case_table(&mut rng, 18);
+        let k = some_k(&mut rng);
+        let (s, e) = some_range(&mut rng, &table);
+        let length = some_length(&mut rng, table.rows());
+        let mut marks = Lent::<u8>::new(&mut rng, length);
+        let length = some_scratch(&mut rng, table.rows());
+        let mut scratch = Lent::<u16>::new(&mut rng, length);
+        let lent = LentTable::new(&mut rng, &table);
+
+        let mut want_marks = marks.get().to_vec();
+        let mut want_scratch = scratch.get().to_vec();
+        let expected =
+            brute::window_ring(table.lend(), k, s, e, &mut want_marks, &mut want_scratch);
+        let got = window_ring(lent.lend(), k, s, e, marks.get_mut(), scratch.get_mut());
+        assert_eq!(got, expected, "case {case}: k {k} [{s},{e}] {table:?}");
+        marks.holds(&want_marks, "marks");
+        scratch.holds(&want_scratch, "scratch");
+        lent.kept();
+        seen.0[expected.number as usize] += 1;
+    }
+    seen.report("window_ring", cases, &[0, 1, 3, 4, 5, 6, 7, 8, 9]);
+}
+
+#[test]
+fn core_time_columns() {
+    let mut rng = Rng(3);
+    let mut seen = Seen([0; 16]);
+    let cases = 20_000;
+    for case in 0..cases {
+        let table = case_table(&mut rng, 18);
+        let k = some_k(&mut rng);
+        let (ts, te) = some_range(&mut rng, &table);
+        let s = match rng.below(10) {
+            0 => ts.saturating_sub(1),
+            1 => te.saturating_add(1),
+            _ => ts + rng.below(usize::from(te.saturating_sub(ts)).min(10) + 1) as u16,
+        };
+        let length = some_length(&mut rng, 4_096);
+        let mut accounts = Lent::<u16>::new(&mut rng, length);
+        let length = some_length(&mut rng, table.rows());
+        let mut rows = Lent::<u16>::new(&mut rng, length);
+        let length = some_scratch(&mut rng, table.rows());
+        let mut scratch = Lent::<u16>::new(&mut rng, length);
+        let lent = LentTable::new(&mut rng, &table);
+
+        let mut want_accounts = accounts.get().to_vec();
+        let mut want_rows = rows.get().to_vec();
+        let mut want_scratch = scratch.get().to_vec();
+        let expected = brute::core_times(
+            table.lend(),
+            k,
+            ts,
+            te,
+            s,
+            &mut want_accounts,
+            &mut want_rows,
+            &mut want_scratch,
+        );
+        let got = core_times(
+            lent.lend(),
+            k,
+            ts,
+            te,
+            s,
+            accounts.get_mut(),
+            rows.get_mut(),
+            scratch.get_mut(),
+        );
+        assert_eq!(
+            got, expected,
+            "case {case}: k {k} [{ts},{te}] from {s} {table:?}"
+        );
+        accounts.holds(&want_accounts, "accounts");
+        rows.holds(&want_rows, "rows");
+        scratch.holds(&want_scratch, "scratch");
+        lent.kept();
+        seen.0[expected.number as usize] += 1;
+    }
+    seen.report("core_times", cases, &[0, 1, 3, 4, 5, 6, 7, 8, 9]);
+}
+
+/// Minimal windows and listing: three columns out, with the same checks.
+fn column_cases(sums: bool, call: &str, seed: u64, cases: u64, most_rows: usize) {
+    let mut rng = Rng(seed);
+    let mut seen = Seen([0; 16]);
+    for case in 0..cases {
+        let table = case_table(&mut rng, most_rows);
+        let k = some_k(&mut rng);
+        let (ts, te) = some_range(&mut rng, &table);
+        // Lent places: about the number of entries, or room for any listing.
+        let mut entries = 0;
+        let query_fits = (1..=4_095).contains(&k) && 1 <= ts && ts <= te && te <= 1_024;
+        if query_fits && brute::check_table(table.lend()).number == 0 {
+            entries = match sums {
+                true => brute::ring_list(table.lend(), k, ts, te).len(),
+                false => brute::minimal_window_list(table.lend(), k, ts, te).len(),
+            };
+        }
+        let most = usize::from(te.saturating_sub(ts)).min(20) + 1;
+        let places = match rng.below(8) {
+            0 | 1 => entries,
+            2 | 3 => entries.saturating_sub(1),
+            4 => entries + 1,
+            5 => rng.below(entries + 1),
+            6 => most * (most + 1) / 2,
+            _ => entries + rng.below(40),
+        };
+        let mut columns = [places; 3];
+        if rng.once_in(12) {
+            let odd = rng.below(3);
+            columns[odd] = some_length(&mut rng, places + 1);
+        }
+        let [mut a, mut b, mut c] = columns.map(|n| Lent::<u16>::new(&mut rng, n));
+        let length = some_scratch(&mut rng, table.rows());
+        let mut scratch = Lent::<u16>::new(&mut rng, length);
+        let lent = LentTable::new(&mut rng, &table);
+
+        let mut want_a = a.get().to_vec();
+        let mut want_b = b.get().to_vec();
+        let mut want_c = c.get().to_vec();
+        let mut want_scratch = scratch.get().to_vec();
+        let brute_call = match sums {
+            true => brute::listing,
+            false => brute::minimal_windows,
+        };
+        let expected = brute_call(
+            table.lend(),
+            k,
+            ts,
+            te,
+            &mut want_a,
+            &mut want_b,
+            &mut want_c,
+            &mut want_scratch,
+        );
+        let got = columns_call(
+            sums,
+            lent.lend(),
+            k,
+            ts,
+            te,
+            a.get_mut(),
+            b.get_mut(),
+            c.get_mut(),
+            scratch.get_mut(),
+        );
+        assert_eq!(
+            got, expected,
+            "case {case}: k {k} [{ts},{te}] places {columns:?} {table:?}"
+        );
+        a.holds(&want_a, "first column");
+        b.holds(&want_b, "second column");
+        c.holds(&want_c, "third column");
+        scratch.holds(&want_scratch, "scratch");
+        lent.kept();
+        seen.0[expected.number as usize] += 1;
+    }
+    seen.report(call, cases, &[0, 1, 3, 4, 5, 6, 7, 8, 9, 10]);
+}
+
+#[test]
+fn minimal_window_columns() {
+    column_cases(false, "minimal_windows", 4, 30_000, 16);
+}
+
+#[test]
+fn listing_columns() {
+    column_cases(true, "listing", 5, 30_000, 16);
+}
+
+/// A list for recall: right, or with a fault of 14 in it.
+fn some_windows(rng: &mut Rng, table: &Owned) -> [Vec<u16>; 3] {
+    let mut list: Vec<(u16, u16, u16)> = Vec::new();
+    let fine = brute::check_table(table.lend()).number == 0;
+    if fine && rng.once_in(3) {
+        let (ts, te) = some_range(rng, table);
+        if 1 <= ts && ts <= te && te <= 1_024 {
+            list = brute::minimal_window_list(table.lend(), 2, ts, te);
+        }
+    } else if fine {
+        for row in 0..table.rows() {
+            let day = table.days[row];
+            let (mut start, mut end) = (0, day - 1);
+            for _ in 0..rng.below(4) {
+                start += 1 + rng.below(2) as u16;
+                if rng.once_in(4) {
+                    start = start.max(day);
+                }
+                end += 1 + rng.below(2) as u16;
+                if start > day || end > 1_024 {
+                    break;
+                }
+                list.push((row as u16, start, end));
+            }
+        }
+    }
+    if !list.is_empty() && rng.once_in(2) {
+        let at = rng.below(list.len());
+        let day = table.days[usize::from(list[at].0)];
+        let entry = list[at];
+        match rng.below(12) {
+            0 => list[at].0 = table.rows() as u16,
+            1 => list[at].0 = 65_535,
+            2 => list[at].1 = 0,
+            3 => list[at].1 = day + 1,
+            4 => list[at].2 = day - 1,
+            5 => list[at].2 = rng.pick(&[1_025, 65_535]),
+            6 => list.insert(at, entry),
+            7 => list.insert(at + 1, (entry.0, entry.1, (entry.2 + 1).min(1_024))),
+            8 => list.insert(at + 1, (entry.0, (entry.1 + 1).min(day), entry.2)),
+            9 => list.swap(0, at),
+            10 => list[at].0 = list[at].0.saturating_sub(1),
+            _ => {
+                list[at].1 = list[at].1.saturating_sub(1);
+                list[at].2 += 1;
+            }
+        }
+    }
+    let mut columns = [
+        list.iter().map(|w| w.0).collect::<Vec<u16>>(),
+        list.iter().map(|w| w.1).collect(),
+        list.iter().map(|w| w.2).collect(),
+    ];
+    if rng.once_in(12) {
+        let odd = rng.below(3);
+        if columns[odd].is_empty() || rng.once_in(2) {
+            columns[odd].push(1);
+        } else {
+            columns[odd].pop();
+        }
+    }
+    columns
+}
+
+#[test]
+fn recalled_marks() {
+    let mut rng = Rng(6);
+    let mut seen = Seen([0; 16]);
+    let cases = 60_000;
+    for case in 0..cases {
+        let table = case_table(&mut rng, 14);
+        let list = some_windows(&mut rng, &table);
+        let (s, e) = some_range(&mut rng, &table);
+        let length = some_length(&mut rng, table.rows());
+        let mut marks = Lent::<u8>::new(&mut rng, length);
+        let lent = LentTable::new(&mut rng, &table);
+        let columns = [
+            Lent::holding(&mut rng, &list[0]),
+            Lent::holding(&mut rng, &list[1]),
+            Lent::holding(&mut rng, &list[2]),
+        ];
+        let windows = Windows {
+            row: columns[0].get(),
+            start: columns[1].get(),
+            end: columns[2].get(),
+        };
+
+        let mut want = marks.get().to_vec();
+        let expected = brute::recall(table.lend(), windows, s, e, &mut want);
+        let got = recall(lent.lend(), windows, s, e, marks.get_mut());
+        assert_eq!(got, expected, "case {case}: [{s},{e}] {table:?} {list:?}");
+        marks.holds(&want, "marks");
+        lent.kept();
+        for column in &columns {
+            column.kept("list");
+        }
+        seen.0[expected.number as usize] += 1;
+    }
+    seen.report("recall", cases, &[0, 1, 3, 4, 5, 7, 8, 14]);
+}
+
+#[test]
+fn longest_lists() {
+    let mut cases = 0;
+    let edges = [0, 1, 2, 3, 511, 512, 1_023, 1_024, 1_025, 1_026, 65_535];
+    for ts in edges {
+        for te in 0..=1_100 {
+            assert_eq!(longest_list(ts, te), brute::longest_list(ts, te));
+            assert_eq!(longest_list(te, ts), brute::longest_list(te, ts));
+            cases += 2;
+        }
+    }
+    println!("longest_list: {cases} cases");
+}
+
+/// The brute-force ring is the greatest good set: the union of all good sets.
+#[test]
+fn brute_ring_is_the_union_of_all_good_sets() {
+    let mut rng = Rng(7);
+    let cases = 1_500;
+    for case in 0..cases {
+        let table = small_table(&mut rng, 9);
+        let k = rng.from(1, 3) as u16;
+        let (s, e) = some_range(&mut rng, &table);
+        let rows: Vec<usize> = brute::window_rows(table.lend(), s, e).into_iter().collect();
+        let mut union = RowSet::new();
+        for bits in 0..1_u32 << rows.len() {
+            let set: RowSet = (0..rows.len())
+                .filter(|i| bits >> i & 1 == 1)
+                .map(|i| rows[i])
+                .collect();
+            if brute::is_good(table.lend(), &set, k) {
+                union.extend(set);
+            }
+        }
+        assert_eq!(
+            brute::ring(table.lend(), k, s, e),
+            union,
+            "case {case}: k {k} [{s},{e}] {table:?}"
+        );
+    }
+    println!("brute ring against all subsets: {cases} random cases");
+}
+
+/// Middle-sized tables, where times settle over many starts.
+#[test]
+fn middle_sized_tables() {
+    let mut rng = Rng(8);
+    let cases = 500;
+    for case in 0..cases {
+        let days = rng.from(5, 12);
+        let accounts = rng.from(4, 14);
+        let mut rows = Vec::new();
+        for _ in 0..rng.from(20, 70) {
+            let a = rng.below(accounts) as u16;
+            let b = rng.below(accounts) as u16;
+            if a != b {
+                rows.push((rng.from(1, days) as u16, a, b));
+            }
+        }
+        let table = Owned::sorted(&rows);
+        let k = rng.from(1, 4) as u16;
+        let (ts, te) = (rng.from(1, 2) as u16, (days - rng.below(2)) as u16);
+        let mut scratch = Lent::<u16>::new(&mut rng, 8_192 + 4 * table.rows());
+        for sums in [false, true] {
+            let list = match sums {
+                true => brute::ring_list(table.lend(), k, ts, te),
+                false => brute::minimal_window_list(table.lend(), k, ts, te),
+            };
+            let places = [list.len(), list.len() + 100][rng.below(2)];
+            let mut columns = [vec![0; places], vec![0; places], vec![0; places]];
+            let [a, b, c] = &mut columns;
+            let scratch = scratch.get_mut();
+            let got = columns_call(sums, table.lend(), k, ts, te, a, b, c, scratch);
+            assert_eq!(
+                (got.number, got.count),
+                (0, list.len() as u64),
+                "case {case}"
+            );
+            let written: Vec<_> = (0..list.len()).map(|i| (a[i], b[i], c[i])).collect();
+            assert_eq!(written, list, "case {case}: k {k} [{ts},{te}] {table:?}");
+        }
+    }
+    println!("middle-sized tables: {cases} random cases");
+}

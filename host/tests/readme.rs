@@ -1,0 +1,130 @@
+//! The README's worked examples. Each is quoted there, and the last test sees
+//! to it that every block of code in the README stands in a file that runs.
+
+use rumbleog::*;
+
+/// Six payments: day, first account, second account.
+const DAYS: [u16; 6] = [1, 2, 2, 4, 5, 6];
+const FIRST: [u16; 6] = [1, 2, 1, 1, 3, 2];
+const SECOND: [u16; 6] = [2, 3, 3, 2, 4, 4];
+const SEASON: Table = Table {
+    days: &DAYS,
+    first: &FIRST,
+    second: &SECOND,
+};
+
+#[test]
+fn a_window_ring() -> Result<(), Refusal> {
+    // Which payments of days 1 to 4 lie in a ring of at least 2 partners each?
+    let mut marks = [0; 6];
+    let mut scratch = vec![0; scratch_for(6)];
+    let count = window_ring(SEASON, 2, 1, 4, &mut marks, &mut scratch)?;
+    assert_eq!(count, 4);
+    assert_eq!(marks, [1, 1, 1, 1, 0, 0]);
+    Ok(())
+}
+
+#[test]
+fn core_times_of_a_start() -> Result<(), Refusal> {
+    // From day 1 on, on which day does each account and each payment join a ring?
+    let mut accounts = vec![0; ACCOUNTS];
+    let mut rows = [0; 6];
+    let mut scratch = vec![0; scratch_for(6)];
+    core_times(SEASON, 2, 1, 6, 1, &mut accounts, &mut rows, &mut scratch)?;
+    assert_eq!(accounts[..6], [NEVER, 2, 2, 2, 6, NEVER]);
+    assert_eq!(rows, [2, 2, 2, 4, 6, 6]);
+    Ok(())
+}
+
+#[test]
+fn minimal_windows_and_recall() -> Result<(), Refusal> {
+    // Kept once: the minimal windows of every payment in days 1 to 6.
+    let (mut row, mut start, mut end) = ([0; 16], [0; 16], [0; 16]);
+    let mut scratch = vec![0; scratch_for(6)];
+    let count = minimal_windows(
+        SEASON,
+        2,
+        1,
+        6,
+        &mut row,
+        &mut start,
+        &mut end,
+        &mut scratch,
+    )? as usize;
+    assert_eq!(count, 8);
+    assert_eq!(row[..count], [0, 1, 1, 2, 2, 3, 4, 5]);
+    assert_eq!(start[..count], [1, 1, 2, 1, 2, 2, 2, 2]);
+    assert_eq!(end[..count], [2, 2, 4, 2, 4, 4, 6, 6]);
+
+    // Asked for years: the ring of any window in that range, with no search.
+    let kept = Windows {
+        row: &row[..count],
+        start: &start[..count],
+        end: &end[..count],
+    };
+    let mut marks = [0; 6];
+    recall(SEASON, kept, 2, 4, &mut marks)?;
+    assert_eq!(marks, [0, 1, 1, 1, 0, 0]);
+    Ok(())
+}
+
+#[test]
+fn a_listing() -> Result<(), Refusal> {
+    // Every ring of days 1 to 6 once, by its tightest window. There is always room.
+    let places = longest_list(1, 6)? as usize;
+    let (mut start, mut end, mut rows) = (vec![0; places], vec![0; places], vec![0; places]);
+    let mut scratch = vec![0; scratch_for(6)];
+    let listed = listing(
+        SEASON,
+        2,
+        1,
+        6,
+        &mut start,
+        &mut end,
+        &mut rows,
+        &mut scratch,
+    )?;
+    assert_eq!(listed, Listed { count: 5, sum: 21 });
+    assert_eq!(start[..5], [1, 1, 1, 2, 2]);
+    assert_eq!(end[..5], [2, 4, 6, 4, 6]);
+    assert_eq!(rows[..5], [3, 4, 6, 3, 5]);
+    Ok(())
+}
+
+/// The lines of a text without the blanks around them.
+fn lines(text: &str) -> Vec<&str> {
+    text.lines()
+        .map(str::trim)
+        .filter(|l| !l.is_empty())
+        .collect()
+}
+
+#[test]
+fn the_readme_quotes_what_runs() {
+    let read = |name: &str| std::fs::read_to_string(name).unwrap();
+    let readme = read("../README.md");
+    let sources = [
+        ("rust", read("tests/readme.rs")),
+        ("c", read("c/host.c")),
+        ("text", read("../examples/season.txt")),
+        ("text", read("c/expected/season.txt")),
+        ("text", read("c/expected/broken-day.txt")),
+        ("text", read("c/expected/season-ring.txt")),
+    ];
+    let mut quoted = 0;
+    let mut parts = readme.split("\n```");
+    parts.next();
+    while let (Some(block), Some(_)) = (parts.next(), parts.next()) {
+        let (kind, body) = block.split_once('\n').unwrap();
+        if kind.is_empty() || kind == "sh" {
+            continue;
+        }
+        let body = lines(body);
+        let runs = sources.iter().any(|(of, source)| {
+            *of == kind && lines(source).windows(body.len()).any(|part| part == body)
+        });
+        assert!(runs, "in no file that runs: {body:?}");
+        quoted += 1;
+    }
+    assert!(quoted >= 7, "{quoted} blocks");
+}

@@ -1,0 +1,399 @@
+//! The reader and the listing program: text around every refusal.
+
+mod common;
+
+use common::*;
+use rumbleog::brute;
+
+/// Compares the reader on one text and these column lengths.
+fn read(rng: &mut Rng, text: &[u8], lengths: [usize; 3]) -> u32 {
+    let lent = Lent::holding(rng, text);
+    let [mut days, mut first, mut second] = lengths.map(|n| Lent::<u16>::new(rng, n));
+    let mut want = [
+        days.get().to_vec(),
+        first.get().to_vec(),
+        second.get().to_vec(),
+    ];
+    let [a, b, c] = &mut want;
+    let expected = brute::read_table(text, a, b, c);
+    let got = read_table(
+        lent.get(),
+        days.get_mut(),
+        first.get_mut(),
+        second.get_mut(),
+    );
+    assert_eq!(
+        got,
+        expected,
+        "{lengths:?} {:?}",
+        String::from_utf8_lossy(text)
+    );
+    days.holds(&want[0], "days");
+    first.holds(&want[1], "first");
+    second.holds(&want[2], "second");
+    lent.kept("text");
+    got.number
+}
+
+/// Compares the listing on one text; room for the answer, one byte less, none,
+/// and more.
+fn listed(rng: &mut Rng, input: &[u8]) -> u32 {
+    let lent = Lent::holding(rng, input);
+    let answer = brute::list_text(input);
+    let length = answer.as_ref().map_or(200, Vec::len);
+    let mut number = 0;
+    for room in [length, length - 1, length + 30, 0] {
+        let mut output = Lent::<u8>::new(rng, room);
+        let mut want = output.get().to_vec();
+        let expected = match &answer {
+            Err(refusal) => *refusal,
+            Ok(text) if text.len() > room => brute::Answer {
+                number: 10,
+                ..brute::Answer::default()
+            },
+            Ok(text) => {
+                want[..text.len()].copy_from_slice(text);
+                brute::Answer {
+                    count: text.len() as u64,
+                    ..brute::Answer::default()
+                }
+            }
+        };
+        let got = list(lent.get(), output.get_mut());
+        assert_eq!(
+            got,
+            expected,
+            "room {room}: {:?}",
+            String::from_utf8_lossy(input)
+        );
+        output.holds(&want, "output");
+        number = number.max(got.number);
+    }
+    lent.kept("input");
+    answer.map_or_else(|refusal| refusal.number, |_| 0)
+}
+
+const TWO: &str = "    3     1     7\n    9    12  4095\n";
+
+/// Every byte of a text replaced by every byte.
+#[test]
+fn each_byte_of_rows() {
+    let mut rng = Rng(21);
+    let mut cases = 0;
+    for at in 0..TWO.len() {
+        for byte in 0..=255 {
+            let mut text = TWO.as_bytes().to_vec();
+            text[at] = byte;
+            read(&mut rng, &text, [2, 2, 2]);
+            cases += 1;
+        }
+    }
+    println!("read_table, a byte replaced: {cases} cases");
+}
+
+#[test]
+fn each_byte_of_a_listing() {
+    let mut rng = Rng(22);
+    let mut seen = [0; 16];
+    let text = format!("    2    1    6\n{}", season().text());
+    let bytes = b"\0\t\n\r 0123456789/:+-AZ\x7f\x80\xff";
+    let mut cases = 0;
+    for at in 0..text.len() {
+        for &byte in bytes {
+            // Wide ranges are dear to brute force and cheap to avoid.
+            if (5..16).contains(&at) && byte.is_ascii_digit() && at % 5 != 4 {
+                continue;
+            }
+            let mut text = text.clone().into_bytes();
+            text[at] = byte;
+            seen[listed(&mut rng, &text) as usize] += 1;
+            cases += 4;
+        }
+    }
+    println!("list, a byte replaced: {cases} cases; by refusal number {seen:?}");
+    for number in [0, 3, 4, 5, 6, 7, 11, 12] {
+        assert!(seen[number] > 0, "no text met {number}");
+    }
+}
+
+/// Cut anywhere, a byte dropped, a byte put in.
+#[test]
+fn cut_and_shifted_text() {
+    let mut rng = Rng(23);
+    let text = format!("    2    1    6\n{}", season().text()).into_bytes();
+    let mut cases = 0;
+    for at in 0..=text.len() {
+        listed(&mut rng, &text[..at]);
+        read(&mut rng, &text[16.min(at)..at], [6, 6, 6]);
+        read(&mut rng, &text[at..], [6, 6, 6]);
+        for byte in [None, Some(b'\n'), Some(b' '), Some(b'1')] {
+            let mut other = text.clone();
+            match byte {
+                None if at < text.len() => drop(other.remove(at)),
+                None => {}
+                Some(byte) => other.insert(at, byte),
+            }
+            listed(&mut rng, &other);
+            read(&mut rng, &other[16..], [7, 7, 7]);
+            cases += 5;
+        }
+        cases += 6;
+    }
+    println!("cut and shifted text: {cases} cases");
+}
+
+#[test]
+fn fields() {
+    let mut rng = Rng(24);
+    let days = [
+        "     ", "    0", "    1", "   00", "   01", "00001", "65535", "65536", "99999", "10000",
+        "1    ", " 1 1 ", "1 111", "   -1", "   +1", "  1.0", "\t   1", "    a", "  \0 1",
+        "  \n 1", "09999", "    9", "   10", "  100", " 1000", " 9999", "  ١ ",
+    ];
+    let accounts = [
+        "      ", "     0", "     1", "    00", "000000", "065535", "065536", " 65535", " 65536",
+        "655350", "999999", "100000", " 99999", "1     ", "   1 1", "    -5", "    5 ", "00000a",
+        "65536a", "     a", "  4095", "  4096",
+    ];
+    let mut seen = [0; 16];
+    let mut cases = 0;
+    for day in days {
+        for first in accounts {
+            for second in accounts {
+                let line = format!("{day}{first}{second}\n");
+                for text in [line.clone(), TWO.to_string() + &line, line + TWO] {
+                    seen[read(&mut rng, text.as_bytes(), [3, 3, 3]) as usize] += 1;
+                    cases += 1;
+                }
+            }
+        }
+    }
+    for number in [0, 11, 12, 13] {
+        assert!(seen[number] > 0, "no text met {number}");
+    }
+    // The query line, with and without a row behind it.
+    for k in days {
+        for ts in days {
+            for te in [
+                "    1", "    6", "65536", " 0001", "    0", " 1025", "     ",
+            ] {
+                // Brute force goes through every window: keep ranges short.
+                if ts.trim() == "1" || te.trim() == ts.trim() || te.trim() == "6" {
+                    listed(&mut rng, format!("{k}{ts}{te}\n").as_bytes());
+                    listed(&mut rng, format!("{k}{ts}{te}\n{TWO}").as_bytes());
+                    cases += 8;
+                }
+            }
+        }
+    }
+    println!("fields: {cases} cases");
+}
+
+/// Places: the shortest column decides, and columns may differ.
+#[test]
+fn reader_places() {
+    let mut rng = Rng(25);
+    let mut cases = 0;
+    for lines in 0..4 {
+        let text = "    3     1     7\n".repeat(lines);
+        for a in 0..6 {
+            for b in 0..6 {
+                for c in 0..6 {
+                    let number = read(&mut rng, text.as_bytes(), [a, b, c]);
+                    assert_eq!(number, if a.min(b).min(c) < lines { 10 } else { 0 });
+                    // A broken line is found before the places are counted.
+                    let broken = text.clone() + "    3     1    07\n";
+                    assert_eq!(read(&mut rng, broken.as_bytes(), [a, b, c]), 12);
+                    cases += 2;
+                }
+            }
+        }
+    }
+    // Long text: the reader has no limit of its own.
+    let text = "    3     1     7\n".repeat(20_000);
+    assert_eq!(read(&mut rng, text.as_bytes(), [20_000, 20_001, 20_000]), 0);
+    assert_eq!(
+        read(&mut rng, text.as_bytes(), [20_000, 19_999, 20_000]),
+        10
+    );
+    println!("reader places: {cases} cases");
+}
+
+/// Random tables as text, valid and damaged, with random damage of bytes.
+#[test]
+fn random_listings() {
+    let mut rng = Rng(26);
+    let mut seen = [0; 16];
+    let cases = 10_000;
+    for _ in 0..cases {
+        let mut table = small_table(&mut rng, 14);
+        if rng.once_in(5) {
+            damage(&mut rng, &mut table);
+        }
+        let rows = table
+            .days
+            .len()
+            .min(table.first.len())
+            .min(table.second.len());
+        table.days.truncate(rows);
+        let (ts, te) = some_range(&mut rng, &table);
+        let k = some_k(&mut rng);
+        let mut text = format!("{k:>5}{ts:>5}{te:>5}\n{}", table.text()).into_bytes();
+        if rng.once_in(4) {
+            let at = rng.below(text.len());
+            if at >= 16 {
+                text[at] = rng.pick(b" 019\nx");
+            }
+        }
+        if rng.once_in(10) {
+            text.pop();
+        }
+        seen[listed(&mut rng, &text) as usize] += 1;
+    }
+    println!("list: {cases} random texts, 4 rooms each; by refusal number {seen:?}");
+    for number in [0, 3, 4, 5, 6, 7, 11, 12] {
+        assert!(seen[number] > 0, "no text met {number}");
+    }
+}
+
+/// Triangles on days 2 to 64, and one that opens on day 1 and closes on day
+/// `close`: 63 * 64 / 2 + 65 - close rings, all found without brute force.
+fn triangles(close: u16) -> Owned {
+    let mut rows = vec![(1, 4, 5), (1, 4, 6), (close, 5, 6)];
+    for day in 2..=64 {
+        rows.extend([(day, 1, 2), (day, 1, 3), (day, 2, 3)]);
+    }
+    Owned::sorted(&rows)
+}
+
+#[test]
+fn the_lists_room_is_2048_rings() {
+    for (close, rings) in [(34, 2_047), (33, 2_048), (32, 2_049), (2, 2_079)] {
+        let text = format!("    2    1   64\n{}", triangles(close).text());
+        let mut output = vec![b'#'; 22 * 2_100];
+        let got = list(text.as_bytes(), &mut output);
+        if rings <= 2_048 {
+            assert_eq!((got.number, got.place), (0, 0));
+            assert_eq!(got.count, 22 * (1 + rings));
+            let end = got.count as usize;
+            assert_eq!(brute::list_text(text.as_bytes()).unwrap(), output[..end]);
+            assert!(output[end..].iter().all(|&byte| byte == b'#'));
+            let exact = list(text.as_bytes(), &mut output[..end]);
+            assert_eq!(exact, got);
+            let short = list(text.as_bytes(), &mut output[..end - 1]);
+            assert_eq!((short.number, short.place, short.count), (10, 0, 0));
+        } else {
+            assert_eq!((got.number, got.place, got.count), (10, 0, 0));
+            assert!(output.iter().all(|&byte| byte == b'#'));
+        }
+    }
+}
+
+/// 18,448 bytes are read, 18,449 are not, whatever they are.
+#[test]
+fn the_programs_bytes() {
+    let row = "    7     1     2\n";
+    let full = String::from("    1    1    9\n") + &row.repeat(1_024);
+    assert_eq!(full.len(), 18_448);
+    let mut output = vec![b'#'; 100];
+    let got = list(full.as_bytes(), &mut output);
+    assert_eq!((got.number, got.place, got.count), (0, 0, 44));
+    assert_eq!(
+        &output[..44],
+        b"start  end span  rows\n    7    7    0  1024\n"
+    );
+    for extra in ["\n", " ", "x", row] {
+        let over = full.clone() + extra;
+        let got = list(over.as_bytes(), &mut output);
+        assert_eq!((got.number, got.place, got.count), (2, 0, 0));
+    }
+    // Before any line is read.
+    let noise = vec![b'x'; 18_449];
+    let got = list(&noise, &mut output);
+    assert_eq!((got.number, got.place, got.count), (2, 0, 0));
+    let got = list(&noise[..18_448], &mut output);
+    assert_eq!((got.number, got.place, got.count), (11, 1, 0));
+    // The last line of a full text.
+    let mut last = full.clone().into_bytes();
+    last[18_447] = b' ';
+    let got = list(&last, &mut output);
+    assert_eq!((got.number, got.place, got.count), (11, 1_025, 0));
+    let got = list(&full.as_bytes()[..18_447], &mut output);
+    assert_eq!((got.number, got.place, got.count), (11, 1_025, 0));
+    let mut day = full.into_bytes();
+    day[16 + 18 * 1_023 + 4] = b'6';
+    let got = list(&day, &mut output);
+    assert_eq!((got.number, got.place, got.count), (5, 1_025, 0));
+}
+
+/// Which refusal comes first, and its line.
+#[test]
+fn order_of_the_programs_refusals() {
+    let mut rng = Rng(27);
+    let cases = [
+        ("", 11, 1),
+        ("\n", 11, 1),
+        ("    2    1    6", 11, 1),
+        ("    2    1    6\n", 0, 0),
+        ("    2    1    6 \n", 11, 1),
+        ("   2     1    6\n", 12, 1),
+        ("65536    1     \n", 12, 1),
+        ("65536    1    6\n", 13, 1),
+        ("65536    1    6\n\n", 13, 1),
+        ("    0    9    6\n\n", 11, 2),
+        ("    0    9    6\n    1     1     2\n    0     1\n", 11, 3),
+        ("    0    9    6\n    0     1     2\n", 3, 2),
+        (
+            "    0    9    6\n    1     1     2\n    1     2     2\n",
+            4,
+            3,
+        ),
+        (
+            "    0    9    6\n    2     1     2\n    1     1     2\n",
+            5,
+            3,
+        ),
+        (
+            "    0    9    6\n    2     1     2\n    1     2     1\n",
+            4,
+            3,
+        ),
+        (
+            "    0    9    6\n    2     1     2\n    2     1     2\n",
+            6,
+            0,
+        ),
+        (
+            "    1    9    6\n    2     1     2\n    2     1     2\n",
+            7,
+            0,
+        ),
+        ("    1    0    6\n", 7, 0),
+        ("    1    1 1025\n", 7, 0),
+        (" 4096    1    6\n", 6, 0),
+        (" 4095    1    6\n", 0, 0),
+        (
+            "    1    1    6\n    1     1 65536\n    0     1     2\n",
+            13,
+            2,
+        ),
+        ("    1    1    6\n    1 65536    02\n", 12, 2),
+        ("    1    1    6\n    1     1 65535\n", 4, 2),
+        ("    1    1    6\n 1024     0  4095\n", 0, 0),
+        ("    1    1    6\n 1025     0  4095\n", 3, 2),
+        ("    1    1    6\n    1     0  4096\n", 4, 2),
+        ("    1    1    6\n    1     1     2\r\n", 11, 2),
+        ("    1    1    6\n    1     1     2\n\n", 11, 3),
+        (
+            "    1    1    6\n    1     1     2\n    1     1     3",
+            11,
+            3,
+        ),
+    ];
+    for (text, number, line) in cases {
+        let mut output = [b'#'; 100];
+        let got = list(text.as_bytes(), &mut output);
+        assert_eq!((got.number, got.place), (number, line), "{text:?}");
+        listed(&mut rng, text.as_bytes());
+    }
+}
