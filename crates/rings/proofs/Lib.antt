@@ -18,3 +18,4 @@ pub mod MarkLaws
 pub mod CallLaws
 pub mod TimeLaws
 pub mod RecallLaws
+pub mod Demand2
