@@ -63,7 +63,7 @@ abbrev pub Time : ℕ → ℕ → ℕ → Type 0
 Time s hi x = (x ≡ never) ⊎ ((s ≤ x) × (x ≤ hi))
 
 module _ {s hi : ℕ} (fits : hi < never) where
-  time-le : {x : ℕ} → Time s hi x → x ≤ never
+  pub time-le : {x : ℕ} → Time s hi x → x ≤ never
   time-le (_⊎_.inl e) = omega (arith, e)
   time-le (_⊎_.inr r) = omega (arith, r .1)
 

@@ -1,6 +1,6 @@
 -- Rows by day, in a table whose days never fall.
 --     Scan, scan-next, scan-found, scan-end     the loop of `rows_before`
---     span-of        the rows of a window
+--     span-after, span-of      the rows of a window
 --     setting-of     what peeling works on
 -- Assumes nothing.
 use Prim.Native.Nat.{ℕ, zero, suc, _+_, _≤_, _<_}
@@ -42,15 +42,18 @@ scan-found {d} {day} {r} up S h = record { within = S .within; before = S .befor
 pub scan-end : {d : List ℕ} {day r : ℕ} → Scan d day r → length d ≤ r → Split d day r
 scan-end S h = record { within = S .within; before = S .before; after = λ j a b. absurd (omega arith) }
 
--- the rows of the window [s, e], where s ≤ e
-pub span-of : {d : List ℕ} {s e lo end : ℕ} → s ≤ e → Split d s lo → Split d (e + 1) end → Span d e lo end
-span-of {d} {s} {e} {lo} {end} h a b =
+-- the rows of the window [s, e]: there are none where s is the day after e
+pub span-after : {d : List ℕ} {s e lo end : ℕ} → s ≤ e + 1 → Split d s lo → Split d (e + 1) end → Span d e lo end
+span-after {d} {s} {e} {lo} {end} h a b =
     record {
       within = b .within;
       inside = λ j k. let x = b .before j k in omega arith;
       later = λ j k l. let x = b .after j k l in omega arith;
       ordered = ⊎-elim (λ y. leb-true lo end y) (λ y. let k = leb-false lo end y in let x = a .before end k in let w = a .within in let z = b .after end (le-refl end) (omega arith) in absurd (omega arith)) (look (leb lo end));
     }
+
+pub span-of : {d : List ℕ} {s e lo end : ℕ} → s ≤ e → Split d s lo → Split d (e + 1) end → Span d e lo end
+span-of h a b = span-after (omega arith) a b
 
 pub setting-of : {d f s : List ℕ} {k start stop lo : ℕ} → Sound d f s → 1 ≤ k → stop ≤ 1024 → Split d start lo → Setting (tableOf d f s) (query k) start stop lo
 unfolding dayOf firstOf secondOf at

@@ -9,30 +9,28 @@
 --     the-recall            Recall of such a list marks the ring of every window of the range
 -- Where Minimal windows comes to stand, its columns are this list: its answer is defined by `minimalWindows`.
 -- Assumes nothing.
-use Prim.Native.Nat.{ℕ, max, _+_, _≤_, _<_}
-use native.Mathlib.Nat.{le-trans, le-refl, zero-add}
+use Prim.Native.Nat.{ℕ, max, _≤_, _<_}
+use native.Mathlib.Nat.{le-refl, zero-add}
 use native.Mathlib.Omega.{arith}
-use mathlib.Core.Path.{_≡_, refl, sym, _∙_, ap, subst}
+use mathlib.Core.Path.{_≡_, sym, _∙_, ap, subst}
 use mathlib.Core.Logic.{_⊎_, ⊎-elim, _↔_}
-use mathlib.Core.Bool.{Bool, true, false}
+use mathlib.Core.Bool.{Bool, true}
 use mathlib.Core.List.{List}
-use lib.ListN.{length, getD}
-use Rattle.rings.specs.Words.{run}
+use lib.ListN.{getD}
 use Rattle.rings.specs.Table.{Table, size, dayOf, firstOf, secondOf}
 use Rattle.rings.specs.Ring.{met, IsRing, ring, inRing, members}
 use Rattle.rings.specs.CoreTimes.{never, accountTime, rowTime}
 use Rattle.rings.specs.Windows.{Entry, minimalWindows, IsMinimalList, recalled}
 use Rattle.rings.specs.Buffers.{marks}
-use Rattle.rings.specs.Checks.{counted}
 use Rattle.rings.specs.WindowRingCall.{ringChecks, ringAnswer, ringMarks}
-use Rattle.rings.specs.CoreTimesCall.{timesAnswer, accountColumn, rowColumn}
+use Rattle.rings.specs.CoreTimesCall.{accountColumn, rowColumn}
 use Rattle.rings.specs.declared.Query.{Query}
 use Rattle.rings.specs.declared.refusal.Verdict.the-variants.{Accepted}
 use Rattle.rings.specs.declared.refusal.Counted.{Counted}
-use Rattle.rings.proofs.WordLaws.{look, clash, getD-run}
+use Rattle.rings.proofs.WordLaws.{getD-run}
 use Rattle.rings.proofs.CheckLaws.{counted-yes}
 use Rattle.rings.proofs.RingLaws.{Inside, ring-is, ring-only}
-use Rattle.rings.proofs.CoreTimeLaws.{Time, account-time, account-reach-i, account-reach-e, row-time, row-reach-i, row-reach-e, row-max, row-outside}
+use Rattle.rings.proofs.CoreTimeLaws.{account-time, account-reach-i, account-reach-e, row-time, row-reach-i, row-reach-e, row-max, row-outside}
 use Rattle.rings.proofs.WindowLaws.{Inner, inner-minimal, minimal-inner, list-is, list-only, recall-ring}
 
 -- ---- Window ring

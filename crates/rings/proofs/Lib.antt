@@ -18,4 +18,6 @@ pub mod MarkLaws
 pub mod CallLaws
 pub mod TimeLaws
 pub mod RecallLaws
+pub mod PlaceLaws
+pub mod ClosingLaws
 pub mod Demand2

@@ -55,7 +55,7 @@ module _ {A : Type 0} where
       ⊎-elim (λ a. record { part = ys; is-part = here refl; has = a })
       (λ b. let w = joined-mem yss b in record { part = w .part; is-part = there (w .is-part); has = w .has }) (append-cases ys m)
 
-  kept-yes : {b : Bool} (x : A) (xs : List A) → b ≡ true → kept b x xs ≡ x ∷ xs
+  pub kept-yes : {b : Bool} (x : A) (xs : List A) → b ≡ true → kept b x xs ≡ x ∷ xs
   unfolding kept
   kept-yes x xs h = rw h
 

@@ -3,6 +3,7 @@
 --     times-of-minimal, minimal-of-times    [s, e] is a minimal window of a row exactly if e is the row's time at s and not its time at s + 1 (001, Lemma 2)
 --     inner-minimal, minimal-inner          a row is in the ring of [s, e] exactly if a minimal window of it lies inside (001, Lemma 3)
 --     windows-e, windows-i, windows-order   the windows of a range
+--     before-strict, of-row-e, of-row-i, row-order    the minimal windows of one row, and their order
 --     list-is, list-only            `minimalWindows` holds exactly the minimal windows of the range, in order, and is the only such list
 --     recall-ring                   recall from such a list marks the ring of every window inside the range
 -- Assumes nothing.
@@ -201,6 +202,13 @@ windows-order lo hi =
 
 -- ---- the list
 
+-- the order is strict
+pub before-strict : (x y : Entry) → Before x y → Before y x → ⊥
+before-strict x y (_⊎_.inl a) (_⊎_.inl b) = omega arith
+before-strict x y (_⊎_.inl a) (_⊎_.inr b) = let c = b .0 in omega arith
+before-strict x y (_⊎_.inr a) (_⊎_.inl b) = let c = a .0 in omega arith
+before-strict x y (_⊎_.inr a) (_⊎_.inr b) = let c = a .1 in let d = b .1 in omega arith
+
 module _ (t : Table) (q : Query) (lo hi : ℕ) where
   abbrev entry : ℕ → Window → Entry
   entry j w = record { row = j; start = w .start; end = w .end }
@@ -208,7 +216,7 @@ module _ (t : Table) (q : Query) (lo hi : ℕ) where
   abbrev test : ℕ → Window → Bool
   test j w = minimal t q j (w .start) (w .end)
 
-  of-row-e : (j : ℕ) (x : Entry) → Mem x (minimalOf t q lo hi j) → (x .row ≡ j) × OfRange lo hi (record { start = x .start; end = x .end }) × IsMinimal t q j (x .start) (x .end)
+  pub of-row-e : (j : ℕ) (x : Entry) → Mem x (minimalOf t q lo hi j) → (x .row ≡ j) × OfRange lo hi (record { start = x .start; end = x .end }) × IsMinimal t q j (x .start) (x .end)
   unfolding minimalOf
   of-row-e j x m =
       let a = map-mem (entry j) (chosen (test j) (windows lo hi)) m in
@@ -218,7 +226,7 @@ module _ (t : Table) (q : Query) (lo hi : ℕ) where
       let pe : w .end ≡ x .end = ap (λ (z : Entry). z .end) (sym (a .is)) in
       (ap (λ (z : Entry). z .row) (a .is), subst (OfRange lo hi) (λ i. record { start = ps i; end = pe i }) (windows-e lo hi w (b .0)), subst (λ (v : Window). IsMinimal t q j (v .start) (v .end)) (λ i. record { start = ps i; end = pe i }) (minimal-e t q j (w .start) (w .end) (b .1)))
 
-  of-row-i : (x : Entry) → OfRange lo hi (record { start = x .start; end = x .end }) → IsMinimal t q (x .row) (x .start) (x .end) → Mem x (minimalOf t q lo hi (x .row))
+  pub of-row-i : (x : Entry) → OfRange lo hi (record { start = x .start; end = x .end }) → IsMinimal t q (x .row) (x .start) (x .end) → Mem x (minimalOf t q lo hi (x .row))
   unfolding minimalOf
   of-row-i x o m =
       mem-map (entry (x .row)) (chosen (test (x .row)) (windows lo hi))
@@ -234,7 +242,7 @@ module _ (t : Table) (q : Query) (lo hi : ℕ) where
           ⊎-elim (λ h. clash (minimal-e t q j (w .start) (w .end) b .has) (minimal-e t q j (v .start) (v .end) a .none-smaller (w .start) (w .end) (omega arith) (o .order) (leb-true (w .end) (v .end) h) (λ z. let u = z .0 in omega arith)))
           (λ h. leb-false (w .end) (v .end) h) (look (leb (w .end) (v .end)))
 
-  row-order : (j : ℕ) → Pairwise Before (minimalOf t q lo hi j)
+  pub row-order : (j : ℕ) → Pairwise Before (minimalOf t q lo hi j)
   unfolding minimalOf
   row-order j =
       pair-map (entry j) Before (chosen (test j) (windows lo hi))
@@ -276,13 +284,7 @@ module _ (t : Table) (q : Query) (lo hi : ℕ) where
   -- and is the only such list
   pub list-only : (es : List Entry) → IsMinimalList t q lo hi es → es ≡ minimalWindows t q lo hi
   list-only es l =
-      pair-unique Before strict es (minimalWindows t q lo hi) (l .in-order) (list-is .in-order) (λ x m. list-is .whole x (l .each x m)) (λ x m. l .whole x (list-is .each x m))
-    where
-      strict : (x y : Entry) → Before x y → Before y x → ⊥
-      strict x y (_⊎_.inl a) (_⊎_.inl b) = omega arith
-      strict x y (_⊎_.inl a) (_⊎_.inr b) = let c = b .0 in omega arith
-      strict x y (_⊎_.inr a) (_⊎_.inl b) = let c = a .0 in omega arith
-      strict x y (_⊎_.inr a) (_⊎_.inr b) = let c = a .1 in let d = b .1 in omega arith
+      pair-unique Before before-strict es (minimalWindows t q lo hi) (l .in-order) (list-is .in-order) (λ x m. list-is .whole x (l .each x m)) (λ x m. l .whole x (list-is .each x m))
 
   -- recall from such a list marks the ring of every window inside the range
   pub recall-ring : hi < never → (es : List Entry) → IsMinimalList t q lo hi es → (s e j : ℕ) → lo ≤ s → e ≤ hi → recalled es s e j ≡ inRing t q s e j

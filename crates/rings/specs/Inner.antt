@@ -4,3 +4,4 @@ pub mod Links
 pub mod Support
 pub mod Peeling
 pub mod Recalling
+pub mod Closing

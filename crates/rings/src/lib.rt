@@ -8,6 +8,7 @@ pub mod refusal;
 pub mod ring;
 pub mod table;
 pub mod times;
+pub mod windows;
 
 pub use recalling::recall;
 pub use refusal::Counted;

@@ -1,6 +1,6 @@
 // Core times of one start from nothing, by peeling: accounts fall where fewer than k neighbours are left, as the rows leave from the last day on.
 // times: 0 while an account has not fallen, then its core time; left: its neighbours left; queue: who fell and is still to be walked.
-// Each account is walked once and each row leaves once, so the work is linear in the rows of the window.
+// Each account is walked once and each row leaves once, so the work is linear in the rows up to the window's end: the walk over an account's rows passes those before its first row too.
 ghost use mathlib.Core.Path.{_≡_};
 ghost use Prim.Native.Nat.{_+_, _*_, _≤_, _<_};
 ghost use lib.ListN.{length, getD};
