@@ -2,30 +2,37 @@
 --     scratch-kept             a refusal of the shared checks keeps the scratch
 --     ring-refused, ring-done      Window ring
 --     times-refused, times-done    Core times
+--     then-room                a check behind the shared ones
+--     windows-full, windows-found, windows-refused, windows-done    Minimal windows
 -- Assumes nothing.
-use Prim.Native.Nat.{ℕ, _≤_}
+use Prim.Native.Nat.{ℕ, _≤_, _<_}
 use mathlib.Core.Path.{_≡_, refl, sym, _∙_, ap, subst}
 use mathlib.Core.Bool.{Bool, true, false}
-use mathlib.Core.List.{List}
+use mathlib.Core.List.{List, map}
 use lib.ListN.{length, replicate}
-use lib.Dec.{leb, eqb}
+use lib.Dec.{leb, ltb, eqb}
+use borrow.Author.Tests.{lt-ltb, le-ltb}
 use Rattle.rings.specs.Words.{_and_, no, run}
 use Rattle.rings.specs.Table.{Table}
 use Rattle.rings.specs.Ring.{ring, members}
 use Rattle.rings.specs.TableCheck.{tableCheck}
-use Rattle.rings.specs.Checks.{_when_, _then_, queryCheck, rangeCheck, scratchCheck}
+use Rattle.rings.specs.Checks.{_when_, _then_, counted, queryCheck, rangeCheck, scratchCheck}
 use Rattle.rings.specs.Refusals.{behindScratch}
-use Rattle.rings.specs.Buffers.{marks, cleared, clearedIf, scratchOn, countedScratch, verdictScratch}
-use Rattle.rings.specs.CoreTimes.{accountTime, rowTime}
+use Rattle.rings.specs.Buffers.{marks, over, cleared, clearedIf, scratchOn, countedScratch, verdictScratch}
+use Rattle.rings.specs.CoreTimes.{never, accountTime, rowTime}
 use Rattle.rings.specs.CoreTimesCall.{timesAnswer, accountColumn, rowColumn}
+use Rattle.rings.specs.Windows.{Entry, minimalWindows}
+use Rattle.rings.specs.MinimalWindowsCall.{minimalChecks, minimalAnswer, entryColumn, minimalRows, minimalStarts, minimalEnds}
+use Rattle.rings.specs.Inner.Closing.{place}
 use Rattle.rings.specs.WindowRingCall.{ringChecks, ringAnswer, ringMarks}
 use Rattle.rings.specs.declared.Query.{Query}
 use Rattle.rings.specs.declared.refusal.Refusal.{Refusal}
-use Rattle.rings.specs.declared.refusal.Refusal.the-variants.{BadWindow, BadLengths}
+use Rattle.rings.specs.declared.refusal.Refusal.the-variants.{BadWindow, BadLengths, NoRoom}
 use Rattle.rings.specs.declared.refusal.Verdict.{Verdict}
 use Rattle.rings.specs.declared.refusal.Verdict.the-variants.{Accepted, Refused}
 use Rattle.rings.specs.declared.refusal.Counted.{Counted}
-use Rattle.rings.proofs.CheckLaws.{Front, front-call, counted-yes, counted-no}
+use Rattle.rings.proofs.CheckLaws.{Front, front-call, then-refused, then-accepted, counted-yes, counted-no}
+use Rattle.rings.proofs.PlaceLaws.{list-length}
 
 -- the shared checks
 abbrev pub shared : Table → Query → Bool → Bool → ℕ → Verdict
@@ -71,3 +78,60 @@ module _ (t : Table) (q : Query) (lo hi s : ℕ) (a r sc : List ℕ) {window len
       → (Accepted ≡ timesAnswer t q lo hi s (length a) (length r) (length sc)) × ((a′ ≡ accountColumn Accepted t q hi s a) × ((r′ ≡ rowColumn Accepted t q hi s r) × (sc′ ≡ verdictScratch Accepted sc)))
   unfolding accountColumn rowColumn verdictScratch cleared
   times-done h ea er es = (sym (times-checks ∙ h), (ea, (er, es)))
+
+-- ---- a check behind the shared ones
+
+then-assoc : (v w x : Verdict) → (v then w) then x ≡ v then (w then x)
+unfolding _then_
+then-assoc Accepted w x = refl
+then-assoc (Refused r) w x = refl
+
+pub then-room : (t : Table) (q : Query) (window lengths : Bool) (n : ℕ) (w : Verdict) → shared t q window lengths n then w ≡ (tableCheck t then queryCheck q then BadWindow when no window then BadLengths when no lengths then scratchCheck (length (t .days)) n then w)
+then-room t q window lengths n w =
+    then-assoc (tableCheck t) (queryCheck q then b then c then d) w
+    ∙ ap (λ (v : Verdict). tableCheck t then v) (then-assoc (queryCheck q) (b then c then d) w ∙ ap (λ (v : Verdict). queryCheck q then v) (then-assoc b (c then d) w ∙ ap (λ (v : Verdict). b then v) (then-assoc c d w)))
+  where
+    b : Verdict
+    b = BadWindow when no window
+
+    c : Verdict
+    c = BadLengths when no lengths
+
+    d : Verdict
+    d = scratchCheck (length (t .days)) n
+
+-- ---- Minimal windows
+
+module _ (t : Table) (q : Query) (lo hi : ℕ) (fits : hi < never) (rows starts ends sc : List ℕ) {total : ℕ} (et : total ≡ place t q lo hi (length (t .days)) 0) where
+  abbrev list : List Entry
+  list = minimalWindows t q lo hi
+
+  is-length : total ≡ length list
+  is-length = et ∙ sym (list-length t q lo hi fits)
+
+  pub windows-full : {sc′ : List ℕ} → length rows < total → sc′ ≡ replicate (length sc) 0
+      → (Counted.Refused NoRoom ≡ counted (NoRoom when ltb (length rows) (length list)) (length list)) × ((rows ≡ minimalRows (Counted.Refused NoRoom) t q lo hi rows) × ((starts ≡ minimalStarts (Counted.Refused NoRoom) t q lo hi starts) × ((ends ≡ minimalEnds (Counted.Refused NoRoom) t q lo hi ends) × (sc′ ≡ countedScratch (Counted.Refused NoRoom) sc))))
+  unfolding _when_ minimalRows minimalStarts minimalEnds entryColumn countedScratch scratchOn clearedIf cleared behindScratch
+  windows-full h es = (sym (counted-no (length list) (ap (λ (b : Bool). NoRoom when b) (lt-ltb (length rows) (length list) (subst (λ (n : ℕ). length rows < n) is-length h)))), (refl, (refl, (refl, es))))
+
+  pub windows-found : {sc′ rows′ starts′ ends′ : List ℕ} → total ≤ length rows → (rows′ ≡ over (map (λ (x : Entry). x .row) list) rows) × (starts′ ≡ over (map (λ (x : Entry). x .start) list) starts) × (ends′ ≡ over (map (λ (x : Entry). x .end) list) ends) → sc′ ≡ replicate (length sc) 0
+      → (Counted.Count total ≡ counted (NoRoom when ltb (length rows) (length list)) (length list)) × ((rows′ ≡ minimalRows (Counted.Count total) t q lo hi rows) × ((starts′ ≡ minimalStarts (Counted.Count total) t q lo hi starts) × ((ends′ ≡ minimalEnds (Counted.Count total) t q lo hi ends) × (sc′ ≡ countedScratch (Counted.Count total) sc))))
+  unfolding _when_ minimalRows minimalStarts minimalEnds entryColumn countedScratch cleared
+  windows-found h w es = (ap Counted.Count is-length ∙ sym (counted-yes (length list) (ap (λ (b : Bool). NoRoom when b) (le-ltb (length rows) (length list) (subst (λ (n : ℕ). n ≤ length rows) is-length h)))), (w .0, (w .1, (w .2, es))))
+
+module _ (t : Table) (q : Query) (lo hi : ℕ) (rows starts ends sc : List ℕ) {window lengths : Bool} (ew : window ≡ (leb 1 lo and leb lo hi and leb hi 1024)) (el : lengths ≡ (eqb (length starts) (length rows) and eqb (length ends) (length rows))) where
+  abbrev room : Verdict
+  room = NoRoom when ltb (length rows) (length (minimalWindows t q lo hi))
+
+  windows-checks : minimalChecks t q lo hi (length rows) (length starts) (length ends) (length sc) ≡ shared t q window lengths (length sc) then room
+  unfolding minimalChecks rangeCheck
+  windows-checks = sym (then-room t q window lengths (length sc) room ∙ rw (ew, el) refl)
+
+  pub windows-refused : {r : Refusal} → shared t q window lengths (length sc) ≡ Refused r
+      → (Counted.Refused r ≡ minimalAnswer t q lo hi (length rows) (length starts) (length ends) (length sc)) × ((rows ≡ minimalRows (Counted.Refused r) t q lo hi rows) × ((starts ≡ minimalStarts (Counted.Refused r) t q lo hi starts) × ((ends ≡ minimalEnds (Counted.Refused r) t q lo hi ends) × (sc ≡ countedScratch (Counted.Refused r) sc))))
+  unfolding minimalAnswer minimalRows minimalStarts minimalEnds entryColumn countedScratch
+  windows-refused h = (sym (counted-no (length (minimalWindows t q lo hi)) (windows-checks ∙ then-refused room h)), (refl, (refl, (refl, scratch-kept t q window lengths (length sc) sc h))))
+
+  pub windows-done : {a : Counted} → shared t q window lengths (length sc) ≡ Accepted → a ≡ counted room (length (minimalWindows t q lo hi)) → a ≡ minimalAnswer t q lo hi (length rows) (length starts) (length ends) (length sc)
+  unfolding minimalAnswer
+  windows-done h e = e ∙ ap (λ (v : Verdict). counted v (length (minimalWindows t q lo hi))) (sym (windows-checks ∙ then-accepted room h))

@@ -17,6 +17,7 @@ pub use refusal::Verdict;
 pub use ring::window_ring;
 pub use table::check_table;
 pub use times::core_times;
+pub use windows::minimal_windows;
 
 // What a query asks of a ring: each account met has at least k distinct others.
 pub struct Query {
