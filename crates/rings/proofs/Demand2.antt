@@ -4,10 +4,9 @@
 --     the-account-times     Core times: each account's column entry is the least end day that brings it into a ring
 --     the-row-times         the same for each row
 --     the-row-rule          which is the greatest of its accounts' times and its own day (001, Lemma 1 and Algorithm 2), and never outside the days
---     the-minimal-windows   the list has each minimal window of the range and nothing else, once, in order
+--     the-minimal-windows   Minimal windows counts and writes a list that has each minimal window of the range and nothing else, once, in order; there is no other such list
 --     in-ring-exactly       a payment is in the ring of a window of the range exactly if one of its minimal windows lies inside (001, Lemma 3)
 --     the-recall            Recall of such a list marks the ring of every window of the range
--- Where Minimal windows comes to stand, its columns are this list: its answer is defined by `minimalWindows`.
 -- Assumes nothing.
 use Prim.Native.Nat.{ℕ, max, _≤_, _<_}
 use native.Mathlib.Nat.{le-refl, zero-add}
@@ -15,15 +14,16 @@ use native.Mathlib.Omega.{arith}
 use mathlib.Core.Path.{_≡_, sym, _∙_, ap, subst}
 use mathlib.Core.Logic.{_⊎_, ⊎-elim, _↔_}
 use mathlib.Core.Bool.{Bool, true}
-use mathlib.Core.List.{List}
-use lib.ListN.{getD}
+use mathlib.Core.List.{List, map}
+use lib.ListN.{length, getD}
 use Rattle.rings.specs.Table.{Table, size, dayOf, firstOf, secondOf}
 use Rattle.rings.specs.Ring.{met, IsRing, ring, inRing, members}
 use Rattle.rings.specs.CoreTimes.{never, accountTime, rowTime}
 use Rattle.rings.specs.Windows.{Entry, minimalWindows, IsMinimalList, recalled}
-use Rattle.rings.specs.Buffers.{marks}
+use Rattle.rings.specs.Buffers.{marks, over}
 use Rattle.rings.specs.WindowRingCall.{ringChecks, ringAnswer, ringMarks}
 use Rattle.rings.specs.CoreTimesCall.{accountColumn, rowColumn}
+use Rattle.rings.specs.MinimalWindowsCall.{minimalChecks, minimalAnswer, entryColumn, minimalRows, minimalStarts, minimalEnds}
 use Rattle.rings.specs.declared.Query.{Query}
 use Rattle.rings.specs.declared.refusal.Verdict.the-variants.{Accepted}
 use Rattle.rings.specs.declared.refusal.Counted.{Counted}
@@ -84,8 +84,27 @@ the-row-rule t q hi s j fits = (row-max t q hi s fits j, row-outside t q hi s j)
 
 -- ---- Minimal windows and Recall
 
-pub the-minimal-windows : (t : Table) (q : Query) (lo hi : ℕ) → IsMinimalList t q lo hi (minimalWindows t q lo hi) × ((es : List Entry) → IsMinimalList t q lo hi es → es ≡ minimalWindows t q lo hi)
-the-minimal-windows t q lo hi = (list-is t q lo hi, list-only t q lo hi)
+-- of an accepted call: the columns begin with a list, that list has exactly the minimal windows of the range, and the count is its length
+pub record WindowsFound (t : Table) (q : Query) (lo hi : ℕ) (answer : Counted) (rows₀ starts₀ ends₀ rows starts ends : List ℕ) : Type 0 where
+  pub list : List Entry
+  pub is-list : IsMinimalList t q lo hi list
+  pub only : (es : List Entry) → IsMinimalList t q lo hi es → es ≡ list
+  pub counted-so : answer ≡ Counted.Count (length list)
+  pub rows-so : rows ≡ over (map (λ (x : Entry). x .row) list) rows₀
+  pub starts-so : starts ≡ over (map (λ (x : Entry). x .start) list) starts₀
+  pub ends-so : ends ≡ over (map (λ (x : Entry). x .end) list) ends₀
+
+pub the-minimal-windows : (t : Table) (q : Query) (lo hi rowPlaces startPlaces endPlaces scratch : ℕ) (rows starts ends : List ℕ) → minimalChecks t q lo hi rowPlaces startPlaces endPlaces scratch ≡ Accepted
+    → WindowsFound t q lo hi (minimalAnswer t q lo hi rowPlaces startPlaces endPlaces scratch) rows starts ends (minimalRows (minimalAnswer t q lo hi rowPlaces startPlaces endPlaces scratch) t q lo hi rows) (minimalStarts (minimalAnswer t q lo hi rowPlaces startPlaces endPlaces scratch) t q lo hi starts) (minimalEnds (minimalAnswer t q lo hi rowPlaces startPlaces endPlaces scratch) t q lo hi ends)
+unfolding minimalAnswer minimalRows minimalStarts minimalEnds entryColumn
+the-minimal-windows t q lo hi rowPlaces startPlaces endPlaces scratch rows starts ends h =
+    record { list = es; is-list = list-is t q lo hi; only = list-only t q lo hi; counted-so = e; rows-so = ap (λ (a : Counted). minimalRows a t q lo hi rows) e; starts-so = ap (λ (a : Counted). minimalStarts a t q lo hi starts) e; ends-so = ap (λ (a : Counted). minimalEnds a t q lo hi ends) e }
+  where
+    es : List Entry
+    es = minimalWindows t q lo hi
+
+    e : minimalAnswer t q lo hi rowPlaces startPlaces endPlaces scratch ≡ Counted.Count (length es)
+    e = counted-yes (length es) h
 
 pub in-ring-exactly : (t : Table) (q : Query) (s e j : ℕ) → e < never → (inRing t q s e j ≡ true) ↔ Inner t q j s e
 in-ring-exactly t q s e j fits = (inner-minimal t q j s e fits, minimal-inner t q j s e)
