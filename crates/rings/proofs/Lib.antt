@@ -20,4 +20,5 @@ pub mod TimeLaws
 pub mod RecallLaws
 pub mod PlaceLaws
 pub mod ClosingLaws
+pub mod ArchiveLaws
 pub mod Demand2
