@@ -2,3 +2,4 @@ pub mod TightLaws
 pub mod TableRule
 pub mod CountLaws
 pub mod ReachedLaws
+pub mod Demand3
