@@ -2,4 +2,10 @@ pub mod TightLaws
 pub mod TableRule
 pub mod CountLaws
 pub mod ReachedLaws
+pub mod StartLaws
+pub mod ProgressLaws
+pub mod ReadingLaws
+pub mod PrintingLaws
+pub mod AnswerLaws
+pub mod OutcomeLaws
 pub mod Demand3

@@ -8,3 +8,5 @@ pub mod EachRing
 pub mod Program
 pub mod ProgramText
 pub mod ProgramRows
+pub mod ProgramSteps
+pub mod Inner

@@ -1,8 +1,12 @@
-// The listing of a range's rings, and the longest list there can be.
+// The listing of a range's rings, the longest list there can be, and the listing as text.
 
+pub mod list;
 pub mod longest;
+pub mod program;
 
+pub use list::list_rings;
 pub use longest::longest_list;
+pub use program::list_text;
 pub use rings::Counted;
 pub use rings::Query;
 pub use rings::Refusal;

@@ -1,0 +1,200 @@
+-- Listing's answer, as the program meets it.
+--     summed-rings, summed-refused    the checks behind an answer
+--     refused-place      a refusal's place lies in the table
+--     listed-rings, listed-none    the outcome by the answer
+--     rings-count, rings-most, rings-are, rings-rise    what stands in the columns after an answer
+--     answer-none, answer-refused, answer-as   the program's answer and output, by the outcome
+-- Assumes nothing.
+use Prim.Native.Nat.{ℕ, zero, suc, _+_, _*_, _≤_, _<_}
+use mathlib.Core.Path.{_≡_, refl, sym, ap, subst, _∙_}
+use mathlib.Core.Bool.{Bool, true, false}
+use mathlib.Core.List.{List, map}
+use native.Mathlib.Omega.{arith}
+use lib.ListN.{length, drop, length-append, length-map}
+use lib.Dec.{leb, ltb, eqb}
+use borrow.Author.Tests.{ltb-false}
+use Rattle.rings.specs.Words.{_and_, _or_, no, run}
+use Rattle.rings.specs.Table.{Table, size, dayOf, firstOf, secondOf}
+use Rattle.rings.specs.Refusals.{numberOf, placeOf}
+use Rattle.rings.specs.Checks.{_when_, _then_, inOrder, queryCheck, rangeCheck, scratchCheck}
+use Rattle.rings.specs.TableCheck.{dayBefore, rowFaults, rowCheck, tableCheck}
+use Rattle.rings.specs.Buffers.{over}
+use Rattle.rings.specs.declared.Query.{Query}
+use Rattle.rings.specs.declared.refusal.Refusal.{Refusal}
+use Rattle.rings.specs.declared.refusal.Refusal.the-variants.{UnequalColumns, TooManyRows, BadDay, BadAccounts, OutOfOrder, BadK, BadWindow, BadLengths, SmallScratch, NoRoom}
+use Rattle.rings.specs.declared.refusal.Verdict.{Verdict}
+use Rattle.rings.specs.declared.refusal.Verdict.the-variants.{Accepted, Refused}
+use Rattle.rings.proofs.CheckLaws.{accepted-right, when-accepted}
+use Rattle.listing.specs.Listing.{ListedRing, listing, rowSum}
+use Rattle.listing.specs.ListingCall.{listingChecks, summed, listingAnswer, ringColumn, listingStarts, listingEnds, listingRows}
+use Rattle.listing.specs.Program.{Outcome, found, stopped, inputLine, fromList}
+use Rattle.listing.specs.ProgramText.{listAnswer, listOutput}
+use Rattle.listing.specs.ProgramSteps.{listed, refusedOf, entriesOf, Rising}
+use Rattle.listing.specs.declared.Listed.{Listed}
+use Rattle.listing.specs.declared.Printed.{Printed}
+use Rattle.listing.proofs.CountLaws.{listing-is}
+use Rattle.listing.proofs.PrintingLaws.{entries-are, place-order}
+
+-- ---- the checks behind an answer
+
+pub record Summed (v : Verdict) (ls : List ListedRing) (n : ℕ) : Type 0 where
+  pub accepted : v ≡ Accepted
+  pub counts : n ≡ length ls
+
+pub summed-rings : (v : Verdict) (ls : List ListedRing) {n sum : ℕ} → summed v ls ≡ Listed.Rings n sum → Summed v ls n
+unfolding summed
+summed-rings Accepted ls e = record { accepted = refl; counts = cc }
+summed-rings (Refused r) ls e = let z : _≡_ {A = ℕ} 0 1 = cc in absurd (omega arith)
+
+pub summed-refused : (v : Verdict) (ls : List ListedRing) {r : Refusal} → summed v ls ≡ Listed.Refused r → v ≡ Refused r
+unfolding summed
+summed-refused Accepted ls e = let z : _≡_ {A = ℕ} 0 1 = cc in absurd (omega arith)
+summed-refused (Refused f) ls {r} e = let g : f ≡ r = cc in ap Refused g
+
+-- ---- the place of a refusal
+
+-- a refusal of v has a place of at most n
+record Low (n : ℕ) (v : Verdict) : Type 0 where
+  low : (r : Refusal) → v ≡ Refused r → placeOf r ≤ n
+
+low-accepted : (n : ℕ) → Low n Accepted
+low-accepted n = record { low = λ r e. let z : _≡_ {A = ℕ} 0 1 = cc in omega arith }
+
+low-when : (n : ℕ) (r : Refusal) (b : Bool) → placeOf r ≤ n → Low n (r when b)
+unfolding _when_
+low-when n r true h = record { low = λ f e. let g : r ≡ f = cc in subst (λ (x : Refusal). placeOf x ≤ n) g h }
+low-when n r false h = low-accepted n
+
+low-then : (n : ℕ) (v w : Verdict) → Low n v → Low n w → Low n (v then w)
+unfolding _then_
+low-then n Accepted w f g = g
+low-then n (Refused r) w f g = f
+
+low-order : (m : ℕ) (f : ℕ → Verdict) (i n : ℕ) → i + n ≤ m → ((j : ℕ) → j < m → Low m (f j)) → Low m (inOrder (run f i n))
+unfolding inOrder run
+low-order m f i zero l h = low-accepted m
+low-order m f i (suc n) l h = low-then m (f i) (inOrder (run f (suc i) n)) (h i (omega arith)) (low-order m f (suc i) n (omega arith) h)
+
+low-row : (n j before day a b : ℕ) → j < n → Low n (rowFaults j before day a b)
+unfolding rowFaults placeOf
+low-row n j before day a b h =
+    low-then n (BadDay j when no (leb 1 day and leb day 1024)) (BadAccounts j when ltb 4095 b or no (ltb a b) then OutOfOrder j when ltb day before)
+    (low-when n (BadDay j) (no (leb 1 day and leb day 1024)) (omega arith))
+    (low-then n (BadAccounts j when ltb 4095 b or no (ltb a b)) (OutOfOrder j when ltb day before) (low-when n (BadAccounts j) (ltb 4095 b or no (ltb a b)) (omega arith)) (low-when n (OutOfOrder j) (ltb day before) (omega arith)))
+
+low-table : (t : Table) → Low (size t) (tableCheck t)
+unfolding tableCheck rowCheck placeOf
+low-table t =
+    low-then (size t) (UnequalColumns when no (eqb (length (t .first)) (size t) and eqb (length (t .second)) (size t))) (TooManyRows when ltb 16384 (size t) then inOrder (run (rowCheck t) 0 (size t)))
+    (low-when (size t) UnequalColumns (no (eqb (length (t .first)) (size t) and eqb (length (t .second)) (size t))) (omega arith))
+    (low-then (size t) (TooManyRows when ltb 16384 (size t)) (inOrder (run (rowCheck t) 0 (size t))) (low-when (size t) TooManyRows (ltb 16384 (size t)) (omega arith))
+    (low-order (size t) (rowCheck t) 0 (size t) (omega arith) (λ j h. low-row (size t) j (dayBefore t j) (dayOf t j) (firstOf t j) (secondOf t j) h)))
+
+low-query : (n : ℕ) (q : Query) → Low n (queryCheck q)
+unfolding queryCheck placeOf
+low-query n q = low-when n BadK (no (leb 1 (q .k) and leb (q .k) 4095)) (omega arith)
+
+low-range : (n lo hi : ℕ) → Low n (rangeCheck lo hi)
+unfolding rangeCheck placeOf
+low-range n lo hi = low-when n BadWindow (no (leb 1 lo and leb lo hi and leb hi 1024)) (omega arith)
+
+low-scratch : (n rows scratch : ℕ) → Low n (scratchCheck rows scratch)
+unfolding scratchCheck placeOf
+low-scratch n rows scratch = low-when n SmallScratch (ltb scratch (8192 + 4 * rows)) (omega arith)
+
+low-lengths : (n : ℕ) (b : Bool) → Low n (BadLengths when b)
+unfolding placeOf
+low-lengths n b = low-when n BadLengths b (omega arith)
+
+low-room : (n : ℕ) (b : Bool) → Low n (NoRoom when b)
+unfolding placeOf
+low-room n b = low-when n NoRoom b (omega arith)
+
+low-checks : (t : Table) (q : Query) (lo hi a b c d : ℕ) → Low (size t) (listingChecks t q lo hi a b c d)
+unfolding listingChecks
+low-checks t q lo hi a b c d =
+    let n = size t in
+    low-then n _ _ (low-table t)
+    (low-then n _ _ (low-query n q)
+    (low-then n _ _ (low-range n lo hi)
+    (low-then n _ _ (low-lengths n (no (eqb b a and eqb c a)))
+    (low-then n _ _ (low-scratch n n d) (low-room n (ltb a (length (listing t q lo hi))))))))
+
+pub refused-place : (t : Table) (q : Query) (lo hi a b c d : ℕ) {r : Refusal} → listingAnswer t q lo hi a b c d ≡ Listed.Refused r → placeOf r ≤ size t
+unfolding listingAnswer
+refused-place t q lo hi a b c d {r} e =
+    low-checks t q lo hi a b c d .low r (summed-refused (listingChecks t q lo hi a b c d) (listing t q lo hi) e)
+
+-- ---- a listing that is answered
+
+rings-room : (t : Table) (q : Query) (lo hi a b c d : ℕ) → listingChecks t q lo hi a b c d ≡ Accepted → length (listing t q lo hi) ≤ a
+unfolding listingChecks
+rings-room t q lo hi a b c d e =
+    let e₁ = accepted-right (tableCheck t) _ e in
+    let e₂ = accepted-right (queryCheck q) _ e₁ in
+    let e₃ = accepted-right (rangeCheck lo hi) _ e₂ in
+    let e₄ = accepted-right (BadLengths when no (eqb b a and eqb c a)) _ e₃ in
+    let e₅ = accepted-right (scratchCheck (size t) d) _ e₄ in
+    ltb-false a (length (listing t q lo hi)) (when-accepted NoRoom (ltb a (length (listing t q lo hi))) e₅)
+
+-- a column has a place for each entry that was written
+column-long : (part : ListedRing → ℕ) (ls : List ListedRing) (old : List ℕ) {now : List ℕ} {n : ℕ} → now ≡ over (map part ls) old → n ≡ length ls → n ≤ length now
+unfolding over
+column-long part ls old {now} e c =
+    omega (arith, ap length e, length-append (map part ls) (drop (length (map part ls)) old), length-map ls part)
+
+module _ (t : Table) (q : Query) (lo hi : ℕ) {r : Listed} (is : r ≡ listingAnswer t q lo hi 2048 2048 2048 12288) where
+  pub listed-rings : {n sum : ℕ} → r ≡ Listed.Rings n sum → listed t q lo hi ≡ found (listing t q lo hi)
+  unfolding listed fromList
+  listed-rings e = ap (λ (x : Listed). fromList x (listing t q lo hi)) (sym is ∙ e)
+
+  pub listed-none : {f : Refusal} → r ≡ Listed.Refused f → listed t q lo hi ≡ stopped (numberOf f) (inputLine f)
+  unfolding listed fromList
+  listed-none e = ap (λ (x : Listed). fromList x (listing t q lo hi)) (sym is ∙ e)
+
+  behind : {n sum : ℕ} → r ≡ Listed.Rings n sum → Summed (listingChecks t q lo hi 2048 2048 2048 12288) (listing t q lo hi) n
+  unfolding listingAnswer
+  behind e = summed-rings (listingChecks t q lo hi 2048 2048 2048 12288) (listing t q lo hi) (sym is ∙ e)
+
+  pub rings-count : {n sum : ℕ} → r ≡ Listed.Rings n sum → n ≡ length (listing t q lo hi)
+  rings-count e = behind e .counts
+
+  pub rings-most : {n sum : ℕ} → r ≡ Listed.Rings n sum → n ≤ 2048
+  rings-most e = omega (arith, behind e .counts, rings-room t q lo hi 2048 2048 2048 12288 (behind e .accepted))
+
+  module _ (old₁ old₂ old₃ : List ℕ) {starts ends rows : List ℕ} (a : starts ≡ listingStarts r t q lo hi old₁) (b : ends ≡ listingEnds r t q lo hi old₂) (c : rows ≡ listingRows r t q lo hi old₃) where
+    column : {n sum : ℕ} (part : ListedRing → ℕ) (old : List ℕ) {now : List ℕ} → r ≡ Listed.Rings n sum → now ≡ ringColumn r part (listing t q lo hi) old → now ≡ over (map part (listing t q lo hi)) old
+    unfolding ringColumn
+    column part old e w = w ∙ ap (λ (x : Listed). ringColumn x part (listing t q lo hi) old) e
+
+    pub rings-are : {n sum : ℕ} → r ≡ Listed.Rings n sum → entriesOf starts ends rows n ≡ listing t q lo hi
+    unfolding listingStarts listingEnds listingRows
+    rings-are e =
+        entries-are (listing t q lo hi) old₁ old₂ old₃ (column (λ x. x .start) old₁ e a) (column (λ x. x .end) old₂ e b) (column (λ x. x .rows) old₃ e c) (rings-count e)
+
+    pub rings-rise : {n sum : ℕ} → r ≡ Listed.Rings n sum → Rising starts ends rows n
+    unfolding listingStarts listingEnds listingRows
+    rings-rise {n} e =
+        let x : starts ≡ over (map (λ x. x .start) (listing t q lo hi)) old₁ = column (λ x. x .start) old₁ e a in
+        let y : ends ≡ over (map (λ x. x .end) (listing t q lo hi)) old₂ = column (λ x. x .end) old₂ e b in
+        let z : rows ≡ over (map (λ x. x .rows) (listing t q lo hi)) old₃ = column (λ x. x .rows) old₃ e c in
+        record {
+          most = rings-most e;
+          in-starts = column-long (λ x. x .start) (listing t q lo hi) old₁ x (rings-count e);
+          in-ends = column-long (λ x. x .end) (listing t q lo hi) old₂ y (rings-count e);
+          in-rows = column-long (λ x. x .rows) (listing t q lo hi) old₃ z (rings-count e);
+          order = λ i h. place-order (listing t q lo hi) old₁ old₂ old₃ x y z (λ l m. listing-is t q lo hi .each l m .order) i (omega (arith, rings-count e));
+        }
+
+-- ---- the text
+
+pub answer-none : (o : Outcome) (output : List ℕ) {n line : ℕ} → o ≡ stopped n line → (Printed.Refused n line ≡ listAnswer o (length output)) × (output ≡ listOutput (Printed.Refused n line) o output)
+unfolding listAnswer listOutput
+answer-none o output e = (rw e, refl)
+
+pub answer-refused : (o : Outcome) (output : List ℕ) (f : Refusal) {a : Printed} → o ≡ stopped (numberOf f) (inputLine f) → a ≡ refusedOf f → (a ≡ listAnswer o (length output)) × (output ≡ listOutput a o output)
+unfolding refusedOf listAnswer listOutput
+answer-refused o output f e h = rw (h, e) (refl, refl)
+
+pub answer-as : {o o′ : Outcome} (output : List ℕ) {a : Printed} {now : List ℕ} → o ≡ o′ → (a ≡ listAnswer o′ (length output)) × (now ≡ listOutput a o′ output) → (a ≡ listAnswer o (length output)) × (now ≡ listOutput a o output)
+answer-as output {a} {now} e h = (h .0 ∙ ap (λ (x : Outcome). listAnswer x (length output)) (sym e), h .1 ∙ ap (λ (x : Outcome). listOutput a x output) (sym e))

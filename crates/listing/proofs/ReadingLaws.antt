@@ -1,0 +1,181 @@
+-- Laws of reading the program's input, over plain lists.
+--     lines-most, place-lines    no more lines than bytes; the reader's place is within the text
+--     rows-asked         the columns after the reader, and its answer, are what the rows ask for
+--     query-fits         a query line is 16 bytes
+--     asks-query, asks-none    what an input asks for, by its query line
+--     too-long           an input that is too long
+--     asked-none, asked-most, part-most, asked-rows   the outcome, by what is asked
+-- Assumes nothing.
+use Prim.Native.Nat.{ℕ, zero, suc, _+_, _-_, _≤_, _<_, min}
+use mathlib.Core.Path.{_≡_, refl, sym, ap, subst, _∙_}
+use mathlib.Core.Bool.{Bool, true, false, cond}
+use mathlib.Core.Logic.{⊎-elim}
+use mathlib.Core.List.{List, [], _∷_, _++_, map}
+use native.Mathlib.Nat.{min-le-left}
+use native.Mathlib.Omega.{arith}
+use lib.ListN.{length, take, drop, length-take, length-drop}
+use lib.Seq.{take-at, take-length}
+use lib.Dec.{leb, ltb, eqb}
+use borrow.Author.Tests.{leb-true, lt-ltb, le-ltb}
+use Rattle.text.specs.Line.{prepend, linesOf, firstLine, isWhole, rowOf, stepAs, queryFrom, queryOf}
+use Rattle.text.specs.Table.{dayOf, firstOf, secondOf, daysOf, firstsOf, secondsOf, faultOr, judgedFrom, roomFor, tableReadOf, filled, place}
+use Rattle.text.specs.declared.lines.Line.{Line}
+use Rattle.text.specs.declared.lines.QueryRead.{QueryRead}
+use Rattle.text.specs.declared.table.TableRead.{TableRead}
+use Rattle.text.proofs.Tests.{look}
+use Rattle.text.proofs.LineLaws.{step-none, step-short, whole-fits}
+use Rattle.text.proofs.TableLaws.{column-length}
+use Rattle.rings.specs.Table.{tableOf as columns}
+use Rattle.listing.specs.Program.{Outcome, stopped, tableOf, fromRows, fromQuery, unlessLong, outcome}
+use Rattle.listing.specs.ProgramSteps.{query, listed, askedBy, rowsOf, asked, Asks}
+use Rattle.listing.specs.declared.program.Asked.{Asked}
+
+absurd-eq {ℓ} : {A : Type ℓ} → _≡_ {A = ℕ} 0 1 → A
+absurd-eq e = let f : ⊥ = omega arith in absurd f
+
+-- ---- the reader's place
+
+prepend-length : (b : ℕ) (ls : List (List ℕ)) → length (prepend b ls) ≤ length ls + 1
+unfolding prepend
+prepend-length b [] = omega arith
+prepend-length b (l ∷ ls) = omega arith
+
+picked : (b : ℕ) (rest : List (List ℕ)) (t : Bool) → length (cond t ((b ∷ []) ∷ rest) (prepend b rest)) ≤ length rest + 1
+picked b rest true = omega arith
+picked b rest false = prepend-length b rest
+
+pub lines-most : (s : List ℕ) → length (linesOf s) ≤ length s
+unfolding linesOf
+lines-most [] = omega arith
+lines-most (b ∷ bs) = omega (arith, picked b (linesOf bs) (eqb b 10), lines-most bs)
+
+fault-place : (n m : ℕ) (l : Line) (later : TableRead) → n ≤ m → place later ≤ m → place (faultOr n l later) ≤ m
+fault-place n m (Line.Row d a b) later h p = p
+fault-place n m Line.End later h p = p
+fault-place n m Line.BadLength later h p = h
+fault-place n m Line.BadField later h p = h
+fault-place n m Line.LargeNumber later h p = h
+
+judged-place : (n : ℕ) (ls : List (List ℕ)) → place (judgedFrom n ls) ≤ n + length ls
+unfolding judgedFrom
+judged-place n [] = omega arith
+judged-place n (l ∷ ls) = fault-place (n + 1) (n + suc (length ls)) (rowOf l) (judgedFrom (n + 1) ls) (omega arith) (omega (arith, judged-place (n + 1) ls))
+
+room-choice : (b : Bool) (n : ℕ) → place (cond b (TableRead.Rows n) TableRead.Room) ≡ 0
+room-choice true n = refl
+room-choice false n = refl
+
+room-place : (room : ℕ) (r : TableRead) → place (roomFor room r) ≤ place r
+room-place room (TableRead.Rows n) = omega (arith, room-choice (leb n room) n)
+room-place room (TableRead.LineLength n) = omega arith
+room-place room (TableRead.BrokenField n) = omega arith
+room-place room (TableRead.LargeNumber n) = omega arith
+room-place room TableRead.Room = omega arith
+
+pub place-lines : (text : List ℕ) (d f s : ℕ) {r : TableRead} → r ≡ tableReadOf text d f s → place r ≤ length text
+unfolding tableReadOf
+place-lines text d f s {r} e =
+    let j = judgedFrom 0 (linesOf text) in
+    let a : place (roomFor (min d (min f s)) j) ≤ place j = room-place (min d (min f s)) j in
+    let b : place j ≤ 0 + length (linesOf text) = judged-place 0 (linesOf text) in
+    let q : place r ≡ place (roomFor (min d (min f s)) j) = ap place e in
+    omega (arith, lines-most text)
+
+-- ---- rows
+
+record Fitting (room n : ℕ) (r : TableRead) : Type 0 where
+  fits : n ≤ room
+  is : r ≡ TableRead.Rows n
+
+fitting : (room m n : ℕ) (b : Bool) → leb m room ≡ b → cond b (TableRead.Rows m) TableRead.Room ≡ TableRead.Rows n → Fitting room n (TableRead.Rows m)
+fitting room m n true t e = let q : m ≡ n = cc in record { fits = omega (arith, leb-true m room t); is = ap TableRead.Rows q }
+fitting room m n false t e = absurd-eq (cc)
+
+room-rows : (room n : ℕ) (r : TableRead) → roomFor room r ≡ TableRead.Rows n → Fitting room n r
+room-rows room n (TableRead.Rows m) e = fitting room m n (leb m room) refl e
+room-rows room n (TableRead.LineLength m) e = absurd-eq (cc)
+room-rows room n (TableRead.BrokenField m) e = absurd-eq (cc)
+room-rows room n (TableRead.LargeNumber m) e = absurd-eq (cc)
+room-rows room n TableRead.Room e = absurd-eq (cc)
+
+-- a column's rows stand in front of it
+front : (values column : List ℕ) {now : List ℕ} (n : ℕ) → length values ≡ n → now ≡ values ++ drop n column → take n now ≡ values
+front values column n e q = ap (take n) q ∙ take-at values (drop n column) n e
+
+module _ (text : List ℕ) (k lo hi : ℕ) (days first second : List ℕ) {days′ first′ second′ : List ℕ} where
+  by-answer : (r : TableRead) → tableReadOf text 1024 1024 1024 ≡ r → days′ ≡ filled r (daysOf text) days → first′ ≡ filled r (firstsOf text) first → second′ ≡ filled r (secondsOf text) second
+      → Asks (fromRows r (tableOf text) (query k) lo hi) (askedBy r k lo hi) days′ first′ second′
+  unfolding rowsOf asked askedBy fromRows listed tableReadOf tableOf daysOf firstsOf secondsOf
+  by-answer (TableRead.Rows n) e d f s =
+      let r = room-rows 1024 n (judgedFrom 0 (linesOf text)) e in
+      let a : take n days′ ≡ daysOf text = front (daysOf text) days n (column-length text n (r .is) dayOf) d in
+      let b : take n first′ ≡ firstsOf text = front (firstsOf text) first n (column-length text n (r .is) firstOf) f in
+      let c : take n second′ ≡ secondsOf text = front (secondsOf text) second n (column-length text n (r .is) secondOf) s in
+      record { most = r .fits; is = λ i. listed (record { days = sym a i; first = sym b i; second = sym c i }) (query k) lo hi }
+  by-answer (TableRead.LineLength n) e d f s = record { most = omega arith; is = refl }
+  by-answer (TableRead.BrokenField n) e d f s = record { most = omega arith; is = refl }
+  by-answer (TableRead.LargeNumber n) e d f s = record { most = omega arith; is = refl }
+  by-answer TableRead.Room e d f s = record { most = omega arith; is = refl }
+
+  pub rows-asked : (r : TableRead) {a : Asked} → r ≡ tableReadOf text (length days) (length first) (length second) → length days ≡ 1024 → length first ≡ 1024 → length second ≡ 1024
+      → days′ ≡ filled r (daysOf text) days → first′ ≡ filled r (firstsOf text) first → second′ ≡ filled r (secondsOf text) second → a ≡ askedBy r k lo hi
+      → Asks (fromRows (tableReadOf text 1024 1024 1024) (tableOf text) (query k) lo hi) a days′ first′ second′
+  rows-asked r e ld lf ls d f s q =
+      let t : tableReadOf text 1024 1024 1024 ≡ r = sym (e ∙ rw (ld, lf, ls)) in
+      rw (t, q) (by-answer r t d f s)
+
+-- ---- the query line
+
+no-query : {A : Type 0} (k lo hi : ℕ) → QueryRead.BadLength ≡ QueryRead.Query k lo hi → A
+no-query k lo hi e = absurd-eq (cc)
+
+pub query-fits : (s : List ℕ) (k lo hi : ℕ) → queryOf s ≡ QueryRead.Query k lo hi → 16 ≤ length s
+unfolding queryOf
+query-fits [] k lo hi e = no-query k lo hi (sym (ap queryFrom (step-none 5 5 5 [] refl)) ∙ e)
+query-fits (x ∷ xs) k lo hi e =
+    ⊎-elim (λ t. whole-fits (x ∷ xs) 16 t) (λ t. no-query k lo hi (sym (ap queryFrom (step-short 5 5 5 (x ∷ xs) (omega arith) t)) ∙ e))
+    (look (isWhole 16 (firstLine (x ∷ xs))))
+
+module _ (input : List ℕ) (short : length input ≤ 18448) where
+  by-query : {r : QueryRead} → r ≡ queryOf input → outcome input ≡ fromQuery r (drop 16 input)
+  unfolding outcome unlessLong
+  by-query e = rw (le-ltb 18448 (length input) short, e)
+
+  -- the part of the input behind the query line
+  rest : List ℕ
+  rest = take (length input - 16) (drop 16 input)
+
+  rest-is : rest ≡ drop 16 input
+  unfolding rest
+  rest-is = ap (λ (k : ℕ). take k (drop 16 input)) (sym (length-drop 16 input)) ∙ take-length (drop 16 input)
+
+  pub asks-query : {r : QueryRead} {k lo hi : ℕ} {a : Asked} {d f s : List ℕ} → r ≡ queryOf input → r ≡ QueryRead.Query k lo hi
+      → Asks (fromRows (tableReadOf (take (length input - 16) (drop 16 input)) 1024 1024 1024) (tableOf (take (length input - 16) (drop 16 input))) (query k) lo hi) a d f s → Asks (outcome input) a d f s
+  unfolding fromQuery rest
+  asks-query {r} {k} {lo} {hi} e q h =
+      record { most = h .most; is = by-query (sym q ∙ e) ∙ ap (λ (l : List ℕ). fromRows (tableReadOf l 1024 1024 1024) (tableOf l) (query k) lo hi) (sym rest-is) ∙ h .is }
+
+  pub asks-none : {r : QueryRead} (q : QueryRead) {n line : ℕ} {d f s : List ℕ} → r ≡ queryOf input → r ≡ q → fromQuery q (drop 16 input) ≡ stopped n line
+      → Asks (outcome input) (Asked.Refused n line) d f s
+  unfolding rowsOf asked
+  asks-none q e t h = record { most = omega arith; is = by-query (sym t ∙ e) ∙ h }
+
+pub too-long : (input : List ℕ) → 18448 < length input → outcome input ≡ stopped 2 0
+unfolding outcome unlessLong
+too-long input h = rw (lt-ltb 18448 (length input) h)
+
+module _ {o : Outcome} {a : Asked} {d f s : List ℕ} (h : Asks o a d f s) where
+  pub asked-none : {n line : ℕ} → a ≡ Asked.Refused n line → o ≡ stopped n line
+  unfolding asked
+  asked-none e = h .is ∙ ap (λ (x : Asked). asked x d f s) e
+
+  pub asked-most : {k lo hi n : ℕ} → a ≡ Asked.Rows k lo hi n → n ≤ 1024
+  unfolding rowsOf
+  asked-most e = omega (arith, h .most, ap rowsOf e)
+
+  pub part-most : {k lo hi n : ℕ} (l : List ℕ) → a ≡ Asked.Rows k lo hi n → length (take n l) ≤ 1024
+  part-most {k} {lo} {hi} {n} l e = omega (arith, asked-most e, length-take n l, min-le-left n (length l))
+
+  pub asked-rows : {k lo hi n : ℕ} → a ≡ Asked.Rows k lo hi n → o ≡ listed (columns (take n d) (take n f) (take n s)) (query k) lo hi
+  unfolding asked
+  asked-rows e = h .is ∙ ap (λ (x : Asked). asked x d f s) e

@@ -1,0 +1,16 @@
+use Rattle.listing.proofs.StartLaws.{listed-no, listed-by}
+use Rattle.listing.proofs.list.is_listed.Statement.{statement}
+use Rattle.listing.proofs.list.is_listed.Tie as tie
+use Rattle.listing.proofs.list.is_listed.Reads as reads
+use Rattle.listing.proofs.list.is_listed.Lts as lts
+
+-- src/list.rt:122:9
+returns : tie.Need-returns
+returns c = listed-no (c .before .args .least) (c .before .args .e) (c .if1 .taken)
+
+-- src/list.rt:118:1
+returns-2 : tie.Need-returns-2
+returns-2 c = listed-by (c .before .args .least) (c .before .args .e) (c .if1 .left)
+
+pub is-listed-spec : {M : Type 1} → statement M
+is-listed-spec = tie.close (tie.spec returns returns-2)

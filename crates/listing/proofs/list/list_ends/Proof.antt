@@ -1,0 +1,129 @@
+use borrow.Author.Needs.{needs}
+use Rattle.listing.proofs.ProgressLaws.{enter-lengths, sum-next, ends-skip, ends-one, ends-end}
+use Rattle.listing.specs.Inner.{sumOf, countEntries, Progress}
+use Rattle.listing.specs.Listing.{ListedRing}
+use borrow.Author.Tests.{not-true, not-false}
+use Prim.Native.Nat.{ℕ, _+_, _-_, _*_, _≤_}
+use lib.ListN.{length}
+use mathlib.Core.List.{List, _++_}
+use mathlib.Core.Path.{refl, sym, _∙_, _≡_}
+use native.Mathlib.Omega.{arith}
+use Rattle.listing.proofs.list.list_ends.Statement.{statement}
+use Rattle.listing.proofs.list.list_ends.Tie as tie
+use Rattle.listing.proofs.list.list_ends.Reads as reads
+use Rattle.listing.proofs.list.list_ends.Lts as lts
+use Rattle.listing.proofs.list.enter.Reads as enter-reads
+use Rattle.listing.proofs.list.is_listed.Reads as is-listed-reads
+
+abbrev Inv-loop : tie.InvT-loop
+Inv-loop s te least room n sum counts starts₀ ends₀ rows₀ count₀ whole₀ total₀ e₀ starts ends rows count whole total e = (s ≤ e) × (e ≤ te + 1) × (count ≤ n + (e - s)) × (whole ≤ sum + (e - s) * 16384) × (total + sumOf counts e (te + 1 - e) ≤ 16384) × (length starts ≡ length starts₀) × (length ends ≡ length ends₀) × (length rows ≡ length rows₀) × ((goal rest : List ListedRing) (x y z : List ℕ) → Progress room goal (countEntries counts least s s 0 (te + 1 - s) ++ rest) n sum x y z starts₀ ends₀ rows₀ → Progress room goal (countEntries counts least s e total (te + 1 - e) ++ rest) count whole x y z starts ends rows)
+
+abbrev μ-loop : tie.MeasureT-loop
+μ-loop s te least room n sum counts starts₀ ends₀ rows₀ count₀ whole₀ total₀ e₀ starts ends rows count whole total e = te + 1 - e
+
+-- src/list.rt:170:5
+loop-holds : tie.Need-loop-holds Inv-loop μ-loop
+loop-holds c = (omega arith, omega (arith, c .before .before .before .before .pre .0 .0), omega arith, omega arith, omega (arith, c .before .before .before .before .pre .0 .3), refl, refl, refl, λ goal rest x y z P. P)
+
+-- src/list.rt:171:28
+cast-added : tie.Need-cast-added Inv-loop μ-loop
+cast-added c = search needs
+
+-- src/list.rt:171:21
+mul-added : tie.Need-mul-added Inv-loop μ-loop
+mul-added c = omega (arith, c .loop-test .taken, c .before .before .before .before .before .before .pre .0 .1)
+
+-- src/list.rt:171:21
+shared-slice-read-added : tie.Need-shared-slice-read-added Inv-loop μ-loop
+shared-slice-read-added c = omega (arith, c .before .loop-test .taken, c .before .before .before .before .before .before .before .pre .0 .1, c .before .before .before .before .before .before .before .pre .0 .2)
+
+-- src/list.rt:172:17
+add-total : tie.Need-add-total Inv-loop μ-loop
+add-total c = omega (arith, c .before .before .loop .inv .4, sum-next (c .before .before .before .before .before .before .before .args .counts .now) (c .before .before .before .before .before .before .before .args .te) (c .before .before .loop .e) (c .before .loop-test .taken))
+
+-- src/list.rt:173:13
+is-listed-requires : tie.Need-is-listed-requires Inv-loop μ-loop
+is-listed-requires c κs = search needs
+
+-- src/list.rt:175:17
+add-e : tie.Need-add-e Inv-loop μ-loop
+add-e c = omega (arith, c .before .before .before .loop-test .taken, c .before .before .before .before .before .before .before .before .before .pre .0 .1)
+
+-- src/list.rt:170:5
+loop-less : tie.Need-loop-less Inv-loop μ-loop
+loop-less c = omega (arith, c .before .before .before .loop-test .taken)
+
+-- src/list.rt:170:5
+loop-again : tie.Need-loop-again Inv-loop μ-loop
+loop-again c = (omega (arith, c .before .before .before .before .loop .inv .0), omega (arith, c .before .before .before .loop-test .taken), omega (arith, c .before .before .before .before .loop .inv .0, c .before .before .before .before .loop .inv .2), omega (arith, c .before .before .before .before .loop .inv .0, c .before .before .before .before .loop .inv .3), omega (arith, c .before .before .before .before .loop .inv .4, sum-next (c .before .before .before .before .before .before .before .before .before .args .counts .now) (c .before .before .before .before .before .before .before .before .before .args .te) (c .before .before .before .before .loop .e) (c .before .before .before .loop-test .taken)), c .before .before .before .before .loop .inv .5, c .before .before .before .before .loop .inv .6, c .before .before .before .before .loop .inv .7, λ goal rest x y z P. ends-skip (c .before .before .before .before .before .before .before .before .before .args .counts .now) _ _ _ _ _ (c .before .before .before .loop-test .taken) (c .before .is-listed .ensures) rest (c .before .before .before .before .loop .inv .8 goal rest x y z P) (not-true _ (c .if1 .taken)))
+
+-- src/list.rt:178:9
+enter-requires : tie.Need-enter-requires Inv-loop μ-loop
+enter-requires c κs = (omega (arith, c .before .before .before .before .before .before .before .before .before .before .before .before .pre .1 .0, c .before .before .before .before .before .before .before .loop .inv .5), c .before .before .before .before .before .before .before .loop .inv .6 ∙ (c .before .before .before .before .before .before .before .before .before .before .before .before .pre .1 .1 ∙ sym (c .before .before .before .before .before .before .before .loop .inv .5)), c .before .before .before .before .before .before .before .loop .inv .7 ∙ (c .before .before .before .before .before .before .before .before .before .before .before .before .pre .1 .2 ∙ sym (c .before .before .before .before .before .before .before .loop .inv .5)))
+
+-- src/list.rt:179:17
+add-count : tie.Need-add-count Inv-loop μ-loop
+add-count c = omega (arith, c .before .before .before .before .before .before .before .before .before .before .before .before .before .before .loop .inv .2, c .before .before .before .before .before .before .before .before .before .before .before .before .before .before .before .before .before .before .before .pre .1 .3, c .before .before .before .before .before .before .before .before .before .before .before .before .before .loop-test .taken, c .before .before .before .before .before .before .before .before .before .before .before .before .before .before .before .before .before .before .before .pre .0 .1)
+
+-- src/list.rt:180:25
+cast-whole : tie.Need-cast-whole Inv-loop μ-loop
+cast-whole c = omega (arith, c .before .before .before .before .before .before .before .before .before .before .before .before .before .before .loop .inv .4, sum-next (c .before .before .before .before .before .before .before .before .before .before .before .before .before .before .before .before .before .before .before .args .counts .now) (c .before .before .before .before .before .before .before .before .before .before .before .before .before .before .before .before .before .before .before .args .te) (c .before .before .before .before .before .before .before .before .before .before .before .before .before .before .loop .e) (c .before .before .before .before .before .before .before .before .before .before .before .before .before .loop-test .taken))
+
+-- src/list.rt:180:17
+add-whole : tie.Need-add-whole Inv-loop μ-loop
+add-whole c = omega (arith, c .before .before .before .before .before .before .before .before .before .before .before .before .before .before .loop .inv .3, c .before .before .before .before .before .before .before .before .before .before .before .before .before .before .loop .inv .4, sum-next (c .before .before .before .before .before .before .before .before .before .before .before .before .before .before .before .before .before .before .before .args .counts .now) (c .before .before .before .before .before .before .before .before .before .before .before .before .before .before .before .before .before .before .before .args .te) (c .before .before .before .before .before .before .before .before .before .before .before .before .before .before .loop .e) (c .before .before .before .before .before .before .before .before .before .before .before .before .before .loop-test .taken), c .before .before .before .before .before .before .before .before .before .before .before .before .before .before .before .before .before .before .before .pre .1 .4, c .before .before .before .before .before .before .before .before .before .before .before .before .before .loop-test .taken, c .before .before .before .before .before .before .before .before .before .before .before .before .before .before .before .before .before .before .before .pre .0 .1)
+
+-- src/list.rt:181:13
+add-e-2 : tie.Need-add-e-2 Inv-loop μ-loop
+add-e-2 c = omega (arith, c .before .before .before .before .before .before .before .before .before .before .before .before .before .loop-test .taken, c .before .before .before .before .before .before .before .before .before .before .before .before .before .before .before .before .before .before .before .pre .0 .1)
+
+-- src/list.rt:170:5
+loop-less-2 : tie.Need-loop-less-2 Inv-loop μ-loop
+loop-less-2 c = omega (arith, c .before .before .before .before .before .before .before .before .before .before .before .before .before .loop-test .taken)
+
+-- src/list.rt:170:5
+loop-again-2 : tie.Need-loop-again-2 Inv-loop μ-loop
+loop-again-2 c = (omega (arith, c .before .before .before .before .before .before .before .before .before .before .before .before .before .before .loop .inv .0), omega (arith, c .before .before .before .before .before .before .before .before .before .before .before .before .before .loop-test .taken), omega (arith, c .before .before .before .before .before .before .before .before .before .before .before .before .before .before .loop .inv .0, c .before .before .before .before .before .before .before .before .before .before .before .before .before .before .loop .inv .2), omega (arith, c .before .before .before .before .before .before .before .before .before .before .before .before .before .before .loop .inv .0, c .before .before .before .before .before .before .before .before .before .before .before .before .before .before .loop .inv .3, c .before .before .before .before .before .before .before .before .before .before .before .before .before .before .loop .inv .4, sum-next (c .before .before .before .before .before .before .before .before .before .before .before .before .before .before .before .before .before .before .before .args .counts .now) (c .before .before .before .before .before .before .before .before .before .before .before .before .before .before .before .before .before .before .before .args .te) (c .before .before .before .before .before .before .before .before .before .before .before .before .before .before .loop .e) (c .before .before .before .before .before .before .before .before .before .before .before .before .before .loop-test .taken)), omega (arith, c .before .before .before .before .before .before .before .before .before .before .before .before .before .before .loop .inv .4, sum-next (c .before .before .before .before .before .before .before .before .before .before .before .before .before .before .before .before .before .before .before .args .counts .now) (c .before .before .before .before .before .before .before .before .before .before .before .before .before .before .before .before .before .before .before .args .te) (c .before .before .before .before .before .before .before .before .before .before .before .before .before .before .loop .e) (c .before .before .before .before .before .before .before .before .before .before .before .before .before .loop-test .taken)), enter-lengths (c .before .before .before .before .before .before .enter .ensures) .0 ∙ c .before .before .before .before .before .before .before .before .before .before .before .before .before .before .loop .inv .5, enter-lengths (c .before .before .before .before .before .before .enter .ensures) .1 ∙ c .before .before .before .before .before .before .before .before .before .before .before .before .before .before .loop .inv .6, enter-lengths (c .before .before .before .before .before .before .enter .ensures) .2 ∙ c .before .before .before .before .before .before .before .before .before .before .before .before .before .before .loop .inv .7, λ goal rest x y z P. ends-one (c .before .before .before .before .before .before .before .before .before .before .before .before .before .before .before .before .before .before .before .args .counts .now) _ _ _ _ _ (c .before .before .before .before .before .before .before .before .before .before .before .before .before .loop-test .taken) (c .before .before .before .before .before .before .before .before .before .before .before .is-listed .ensures) rest (c .before .before .before .before .before .before .before .before .before .before .before .before .before .before .loop .inv .8 goal rest x y z P) (not-false _ (c .before .before .before .before .before .before .before .before .before .before .if1 .left)) (omega (arith, c .before .before .before .before .before .before .before .before .before .before .before .before .before .before .before .before .before .before .before .pre .1 .0, c .before .before .before .before .before .before .before .before .before .before .before .before .before .before .loop .inv .5)) (c .before .before .before .before .before .before .before .before .before .before .before .before .before .before .loop .inv .6 ∙ (c .before .before .before .before .before .before .before .before .before .before .before .before .before .before .before .before .before .before .before .pre .1 .1 ∙ sym (c .before .before .before .before .before .before .before .before .before .before .before .before .before .before .loop .inv .5))) (c .before .before .before .before .before .before .before .before .before .before .before .before .before .before .loop .inv .7 ∙ (c .before .before .before .before .before .before .before .before .before .before .before .before .before .before .before .before .before .before .before .pre .1 .2 ∙ sym (c .before .before .before .before .before .before .before .before .before .before .before .before .before .before .loop .inv .5))) (c .before .before .before .before .before .before .enter .ensures))
+
+-- src/list.rt:150:1
+same-length : tie.Need-same-length Inv-loop μ-loop
+same-length c = c .before .loop .inv .5
+
+-- src/list.rt:150:1
+same-length-2 : tie.Need-same-length-2 Inv-loop μ-loop
+same-length-2 c = c .before .loop .inv .6
+
+-- src/list.rt:150:1
+same-length-3 : tie.Need-same-length-3 Inv-loop μ-loop
+same-length-3 c = c .before .loop .inv .7
+
+-- src/list.rt:150:1
+returns : tie.Need-returns Inv-loop μ-loop
+returns c = (omega (arith, c .before .loop .inv .1, c .before .loop .inv .2, c .before .before .before .before .before .before .pre .0 .1), omega (arith, c .before .loop .inv .1, c .before .loop .inv .3, c .before .before .before .before .before .before .pre .0 .1), λ goal rest x y z P. ends-end (c .before .before .before .before .before .before .args .counts .now) _ _ _ _ _ (c .loop-test .left) rest (c .before .loop .inv .8 goal rest x y z P))
+
+pub list-ends-spec : {M : Type 1} → statement M
+list-ends-spec =
+    tie.close
+    (tie.spec
+    Inv-loop
+    μ-loop
+    loop-holds
+    cast-added
+    mul-added
+    shared-slice-read-added
+    add-total
+    is-listed-requires
+    add-e
+    loop-less
+    loop-again
+    enter-requires
+    add-count
+    cast-whole
+    add-whole
+    add-e-2
+    loop-less-2
+    loop-again-2
+    same-length
+    same-length-2
+    same-length-3
+    returns)

@@ -1,0 +1,78 @@
+use Rattle.listing.proofs.ProgressLaws.{list-refused, list-done}
+use Rattle.rings.proofs.MarkLaws.{call-sound, call-k, call-window, call-lengths, call-scratch, window-e, lengths-e}
+use lib.ListN.{length}
+use mathlib.Core.Path.{sym, _∙_}
+use borrow.Author.Needs.{needs}
+use Rattle.listing.proofs.list.list_rings.Statement.{statement}
+use Rattle.listing.proofs.list.list_rings.Tie as tie
+use Rattle.listing.proofs.list.list_rings.Reads as reads
+use Rattle.listing.proofs.list.list_rings.Lts as lts
+use Rattle.listing.proofs.list.find_rings.Reads as find-rings-reads
+use Rattle.rings.proofs.checks.are_equal.Reads as are-equal-reads
+use Rattle.rings.proofs.checks.check_call.Reads as check-call-reads
+use Rattle.rings.proofs.checks.is_window.Reads as is-window-reads
+
+-- src/list.rt:432:9
+is-window-requires : tie.Need-is-window-requires
+is-window-requires c κs = search needs
+
+-- src/list.rt:433:9
+are-equal-requires : tie.Need-are-equal-requires
+are-equal-requires c κs = search needs
+
+-- src/list.rt:434:9
+check-call-requires : tie.Need-check-call-requires
+check-call-requires c κs = search needs
+
+-- src/list.rt:436:26
+enum-known-found : tie.Need-enum-known-found
+enum-known-found c = search needs
+
+-- src/list.rt:438:17
+enum-told : tie.Need-enum-told
+enum-told c = search needs
+
+-- src/list.rt:439:13
+find-rings-requires : tie.Need-find-rings-requires
+find-rings-requires c κs = (call-sound _ _ _ _ _ _ _ (sym (c .before .before .before .before .before .before .check-call .ensures) ∙ c .before .before .before .before .enum-told .given .1), (call-k _ _ _ _ _ _ _ (sym (c .before .before .before .before .before .before .check-call .ensures) ∙ c .before .before .before .before .enum-told .given .1) .0, window-e (c .before .before .before .before .before .before .before .before .before .before .before .before .before .before .before .before .args .ts) (c .before .before .before .before .before .before .before .before .before .before .before .before .before .before .before .before .args .te) (c .before .before .before .before .before .before .before .before .is-window .ensures) (call-window _ _ _ _ _ _ _ (sym (c .before .before .before .before .before .before .check-call .ensures) ∙ c .before .before .before .before .enum-told .given .1)) .0, window-e (c .before .before .before .before .before .before .before .before .before .before .before .before .before .before .before .before .args .ts) (c .before .before .before .before .before .before .before .before .before .before .before .before .before .before .before .before .args .te) (c .before .before .before .before .before .before .before .before .is-window .ensures) (call-window _ _ _ _ _ _ _ (sym (c .before .before .before .before .before .before .check-call .ensures) ∙ c .before .before .before .before .enum-told .given .1)) .1, window-e (c .before .before .before .before .before .before .before .before .before .before .before .before .before .before .before .before .args .ts) (c .before .before .before .before .before .before .before .before .before .before .before .before .before .before .before .before .args .te) (c .before .before .before .before .before .before .before .before .is-window .ensures) (call-window _ _ _ _ _ _ _ (sym (c .before .before .before .before .before .before .check-call .ensures) ∙ c .before .before .before .before .enum-told .given .1)) .2, lengths-e (length (c .before .before .before .before .before .before .before .before .before .before .before .before .before .before .before .before .args .ends .now)) (length (c .before .before .before .before .before .before .before .before .before .before .before .before .before .before .before .before .args .starts .now)) (length (c .before .before .before .before .before .before .before .before .before .before .before .before .before .before .before .before .args .rows .now)) (length (c .before .before .before .before .before .before .before .before .before .before .before .before .before .before .before .before .args .starts .now)) (c .before .before .before .before .before .before .before .are-equal .ensures) (call-lengths _ _ _ _ _ _ _ (sym (c .before .before .before .before .before .before .check-call .ensures) ∙ c .before .before .before .before .enum-told .given .1)) .0, lengths-e (length (c .before .before .before .before .before .before .before .before .before .before .before .before .before .before .before .before .args .ends .now)) (length (c .before .before .before .before .before .before .before .before .before .before .before .before .before .before .before .before .args .starts .now)) (length (c .before .before .before .before .before .before .before .before .before .before .before .before .before .before .before .before .args .rows .now)) (length (c .before .before .before .before .before .before .before .before .before .before .before .before .before .before .before .before .args .starts .now)) (c .before .before .before .before .before .before .before .are-equal .ensures) (call-lengths _ _ _ _ _ _ _ (sym (c .before .before .before .before .before .before .check-call .ensures) ∙ c .before .before .before .before .enum-told .given .1)) .1, call-scratch _ _ _ _ _ _ _ (sym (c .before .before .before .before .before .before .check-call .ensures) ∙ c .before .before .before .before .enum-told .given .1)))
+
+-- src/list.rt:414:1
+returns : tie.Need-returns
+returns c = list-refused _ _ _ _ (c .before .before .before .before .before .before .before .before .before .before .before .before .before .args .starts .now) (c .before .before .before .before .before .before .before .before .before .before .before .before .before .args .ends .now) (c .before .before .before .before .before .before .before .before .before .before .before .before .before .args .rows .now) (c .before .before .before .before .before .before .before .before .before .before .before .before .before .args .scratch .now) (c .before .before .before .before .before .is-window .ensures) (c .before .before .before .before .are-equal .ensures) (sym (c .before .before .before .check-call .ensures) ∙ c .before .found .given .1)
+
+-- src/list.rt:414:1
+same-length : tie.Need-same-length
+same-length c = search needs
+
+-- src/list.rt:414:1
+same-length-2 : tie.Need-same-length-2
+same-length-2 c = search needs
+
+-- src/list.rt:414:1
+same-length-3 : tie.Need-same-length-3
+same-length-3 c = search needs
+
+-- src/list.rt:414:1
+same-length-4 : tie.Need-same-length-4
+same-length-4 c = search needs
+
+-- src/list.rt:414:1
+returns-2 : tie.Need-returns-2
+returns-2 c = list-done _ _ _ _ (c .before .before .before .before .before .before .before .before .before .before .before .before .before .before .before .before .before .before .before .before .before .before .before .before .before .args .starts .now) (c .before .before .before .before .before .before .before .before .before .before .before .before .before .before .before .before .before .before .before .before .before .before .before .before .before .args .ends .now) (c .before .before .before .before .before .before .before .before .before .before .before .before .before .before .before .before .before .before .before .before .before .before .before .before .before .args .rows .now) (c .before .before .before .before .before .before .before .before .before .before .before .before .before .before .before .before .before .before .before .before .before .before .before .before .before .args .scratch .now) (c .before .before .before .before .before .before .before .before .before .before .before .before .before .before .before .before .before .is-window .ensures) (c .before .before .before .before .before .before .before .before .before .before .before .before .before .before .before .before .are-equal .ensures) (sym (c .before .before .before .before .before .before .before .before .before .before .before .before .before .before .before .check-call .ensures) ∙ c .before .before .before .before .before .before .before .before .before .before .before .before .before .enum-told .given .1) (c .before .before .before .before .before .before .before .before .find-rings .ensures)
+
+pub list-rings-spec : {M : Type 1} → statement M
+list-rings-spec =
+    tie.close
+    (tie.spec
+    is-window-requires
+    are-equal-requires
+    check-call-requires
+    enum-known-found
+    enum-told
+    find-rings-requires
+    returns
+    same-length
+    same-length-2
+    same-length-3
+    same-length-4
+    returns-2)

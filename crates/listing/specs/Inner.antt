@@ -1,0 +1,75 @@
+-- What the steps of Listing promise (src/list.rt).
+--     startEntries t q hi s    the entries that start on s
+--     restFrom t q hi s        the entries that start on s or later
+--     Timed t q hi s n xs      xs holds, for each day, how many of the first n rows have this core time at s
+--     Adding time xs xs'       one row more with this core time
+--     Earliest t q hi s r      r is the least core time at s of the rows dated s, never if none has one
+--     sumOf xs e m             the sum of xs from e on, m numbers
+--     countEntries xs least s e total m    the entries of start s with an end from e on, m days, as the counts xs say; total rows have earlier core times
+--     Entering                 an entry goes to place n of three columns, if n is below room
+--     columnOf part room ls old    a column after the entries ls, of which those below room were written
+--     Progress room goal rest  of the entries goal all but rest are counted, summed up and written
+use Prim.Native.Nat.{ℕ, zero, suc, _+_, _-_, _≤_, _<_}
+use mathlib.Core.Path.{_≡_}
+use mathlib.Core.Logic.{_⊎_}
+use mathlib.Core.List.{List, [], _++_, map}
+use lib.ListN.{length, getD, set, take}
+use lib.Dec.{leb, ltb, eqb}
+use Rattle.rings.specs.Words.{_and_, at, count, run, joined, kept, chosen}
+use Rattle.rings.specs.Table.{Table, dayOf}
+use Rattle.rings.specs.CoreTimes.{never, rowTime}
+use Rattle.rings.specs.Windows.{windowsFrom}
+use Rattle.rings.specs.Buffers.{over}
+use Rattle.rings.specs.declared.Query.{Query}
+use Rattle.listing.specs.Tight.{tight}
+use Rattle.listing.specs.Listing.{ListedRing, entryOf, rowSum}
+
+unfoldable pub startEntries : Table → Query → ℕ → ℕ → List ListedRing
+startEntries t q hi s = map (entryOf t q) (chosen (λ w. tight t q (w .start) (w .end)) (windowsFrom hi s))
+
+unfoldable pub restFrom : Table → Query → ℕ → ℕ → List ListedRing
+restFrom t q hi s = joined (run (startEntries t q hi) s (suc hi - s))
+
+pub record Timed (t : Table) (q : Query) (hi s n : ℕ) (xs : List ℕ) : Type 0 where
+  pub long : length xs ≡ 1025
+  pub each : (e : ℕ) → e < 1025 → getD xs e 0 ≡ count (λ j. eqb (rowTime t q hi s j) e) n
+
+pub data Adding (time : ℕ) (xs xs′ : List ℕ) : Type 0 where
+  pass : time ≡ never → xs′ ≡ xs → Adding time xs xs′
+  one : (time ≡ never → ⊥) → xs′ ≡ set xs time (getD xs time 0 + 1) → Adding time xs xs′
+
+pub record DatedTime (t : Table) (q : Query) (hi s r : ℕ) : Type 0 where
+  pub row : ℕ
+  pub dated : dayOf t row ≡ s
+  pub time-is : rowTime t q hi s row ≡ r
+
+pub record Earliest (t : Table) (q : Query) (hi s r : ℕ) : Type 0 where
+  pub lower : (j : ℕ) → dayOf t j ≡ s → r ≤ rowTime t q hi s j
+  pub reached : (r ≡ never) ⊎ DatedTime t q hi s r
+
+unfoldable pub sumOf : List ℕ → ℕ → ℕ → ℕ
+sumOf xs e zero = 0
+sumOf xs e (suc m) = at xs e + sumOf xs (suc e) m
+
+-- [s, e] is listed if a row's core time is e and that of a row dated s is at most e; its ring has the rows with core times of at most e
+unfoldable pub countEntries : List ℕ → ℕ → ℕ → ℕ → ℕ → ℕ → List ListedRing
+countEntries xs least s e total zero = []
+countEntries xs least s e total (suc m) =
+    kept (ltb 0 (at xs e) and leb least e) (record { start = s; end = e; rows = total + at xs e }) (countEntries xs least s (suc e) (total + at xs e) m)
+
+pub data Entering (room n s e total : ℕ) (starts ends rows starts′ ends′ rows′ : List ℕ) : Type 0 where
+  pass : room ≤ n → (starts′ ≡ starts) × (ends′ ≡ ends) × (rows′ ≡ rows) → Entering room n s e total starts ends rows starts′ ends′ rows′
+  one : n < room → (starts′ ≡ set starts n s) × (ends′ ≡ set ends n e) × (rows′ ≡ set rows n total) → Entering room n s e total starts ends rows starts′ ends′ rows′
+
+abbrev pub columnOf : (ListedRing → ℕ) → ℕ → List ListedRing → List ℕ → List ℕ
+columnOf part room ls old = over (map part (take room ls)) old
+
+-- starts₀, ends₀ and rows₀ are the columns as they were lent
+pub record Progress (room : ℕ) (goal rest : List ListedRing) (n sum : ℕ) (starts₀ ends₀ rows₀ starts ends rows : List ℕ) : Type 0 where
+  pub done : List ListedRing
+  pub split : done ++ rest ≡ goal
+  pub counted : n ≡ length done
+  pub summed : sum ≡ rowSum done
+  pub in-starts : starts ≡ columnOf (λ x. x .start) room done starts₀
+  pub in-ends : ends ≡ columnOf (λ x. x .end) room done ends₀
+  pub in-rows : rows ≡ columnOf (λ x. x .rows) room done rows₀

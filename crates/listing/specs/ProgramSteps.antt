@@ -1,0 +1,72 @@
+-- The listing program step by step: what its functions hand to each other.
+--     query k            the query of a k
+--     listed t q lo hi   the outcome of Listing, for a table that was read
+--     refusedOf r        the answer for a refusal of Listing
+--     askedBy t k lo hi  what an input asks for, by what the reader says of its rows
+--     rowsOf a           how many rows an input has
+--     asked a d f s      the outcome of what is asked, the rows standing in front of the columns d, f, s
+--     Asks o a d f s     an input of the outcome o asks for a
+--     entryOf, entriesOf the entry at a place of three columns, and the first n
+--     linesOf ls         the lines of a listing, without the header
+--     Rising             the columns have n entries, and each starts by its end
+use Prim.Native.Nat.{ℕ, _+_, _≤_, _<_}
+use mathlib.Core.Path.{_≡_}
+use mathlib.Core.List.{List, map}
+use lib.ListN.{length, getD, take}
+use Rattle.text.specs.Print.{entryLines}
+use Rattle.text.specs.declared.table.TableRead.{TableRead}
+use Rattle.rings.specs.Words.{run}
+use Rattle.rings.specs.Table.{Table, tableOf}
+use Rattle.rings.specs.Refusals.{numberOf}
+use Rattle.rings.specs.declared.Query.{Query}
+use Rattle.rings.specs.declared.refusal.Refusal.{Refusal}
+use Rattle.listing.specs.Listing.{ListedRing, listing}
+use Rattle.listing.specs.ListingCall.{listingAnswer}
+use Rattle.listing.specs.Program.{Outcome, stopped, inputLine, fromList}
+use Rattle.listing.specs.ProgramText.{lineOf}
+use Rattle.listing.specs.declared.Printed.{Printed}
+use Rattle.listing.specs.declared.program.Asked.{Asked}
+
+abbrev pub query : ℕ → Query
+query k = record { k = k }
+
+unfoldable pub listed : Table → Query → ℕ → ℕ → Outcome
+listed t q lo hi = fromList (listingAnswer t q lo hi 2048 2048 2048 12288) (listing t q lo hi)
+
+unfoldable pub refusedOf : Refusal → Printed
+refusedOf r = Printed.Refused (numberOf r) (inputLine r)
+
+unfoldable pub askedBy : TableRead → ℕ → ℕ → ℕ → Asked
+askedBy (TableRead.Rows n) k lo hi = Asked.Rows k lo hi n
+askedBy (TableRead.LineLength n) k lo hi = Asked.Refused 11 (n + 1)
+askedBy (TableRead.BrokenField n) k lo hi = Asked.Refused 12 (n + 1)
+askedBy (TableRead.LargeNumber n) k lo hi = Asked.Refused 13 (n + 1)
+askedBy TableRead.Room k lo hi = Asked.Refused 10 0
+
+unfoldable pub rowsOf : Asked → ℕ
+rowsOf (Asked.Rows k lo hi n) = n
+rowsOf (Asked.Refused number line) = 0
+
+unfoldable pub asked : Asked → List ℕ → List ℕ → List ℕ → Outcome
+asked (Asked.Rows k lo hi n) d f s = listed (tableOf (take n d) (take n f) (take n s)) (query k) lo hi
+asked (Asked.Refused number line) d f s = stopped number line
+
+pub record Asks (o : Outcome) (a : Asked) (d f s : List ℕ) : Type 0 where
+  pub most : rowsOf a ≤ 1024
+  pub is : o ≡ asked a d f s
+
+unfoldable pub entryOf : List ℕ → List ℕ → List ℕ → ℕ → ListedRing
+entryOf starts ends rows i = record { start = getD starts i 0; end = getD ends i 0; rows = getD rows i 0 }
+
+unfoldable pub entriesOf : List ℕ → List ℕ → List ℕ → ℕ → List ListedRing
+entriesOf starts ends rows n = run (entryOf starts ends rows) 0 n
+
+unfoldable pub linesOf : List ListedRing → List ℕ
+linesOf ls = entryLines (map lineOf ls)
+
+pub record Rising (starts ends rows : List ℕ) (n : ℕ) : Type 0 where
+  pub most : n ≤ 2048
+  pub in-starts : n ≤ length starts
+  pub in-ends : n ≤ length ends
+  pub in-rows : n ≤ length rows
+  pub order : (i : ℕ) → i < n → getD starts i 0 ≤ getD ends i 0
