@@ -1,0 +1,85 @@
+-- An export hands on what its call answered: v is the answer that came back, a the answer by the definition, n the numbers told.
+--     told               n for a report of v is n for the report of a
+--     *-told             one for each call with buffers: its buffers at exit go by a as they go by v
+use Prim.Native.Nat.{ℕ}
+use mathlib.Core.Path.{_≡_, _∙_, ap}
+use mathlib.Core.List.{List}
+use Rattle.rings.specs.Table.{Table}
+use Rattle.rings.specs.Refusals.{Report, verdictReport, countedReport}
+use Rattle.rings.specs.Buffers.{verdictScratch, countedScratch}
+use Rattle.rings.specs.WindowRingCall.{ringMarks}
+use Rattle.rings.specs.CoreTimesCall.{accountColumn, rowColumn}
+use Rattle.rings.specs.RecallCall.{Columns, recallMarks}
+use Rattle.rings.specs.MinimalWindowsCall.{minimalRows, minimalStarts, minimalEnds}
+use Rattle.rings.specs.declared.Query.{Query}
+use Rattle.rings.specs.declared.refusal.Verdict.{Verdict}
+use Rattle.rings.specs.declared.refusal.Counted.{Counted}
+use Rattle.text.specs.Table.{filled}
+use Rattle.text.specs.declared.table.TableRead.{TableRead}
+use Rattle.listing.specs.ListingCall.{listingStarts, listingEnds, listingRows, listingScratch, listingReport, listingSum}
+use Rattle.listing.specs.Program.{Outcome}
+use Rattle.listing.specs.ProgramText.{listOutput, printedReport}
+use Rattle.listing.specs.declared.Listed.{Listed}
+use Rattle.listing.specs.declared.Printed.{Printed}
+use Rattle.engine.specs.Numbers.{readReport, numbers}
+use Rattle.engine.specs.declared.numbers.Numbers.{Numbers}
+
+-- the equations of the numbers
+pub record Told (n : Numbers) (a : Report) : Type 0 where
+  pub number : n .number ≡ a .number
+  pub place : n .place ≡ a .place
+  pub count : n .count ≡ a .count
+
+pub told : {A : Type 0} (report : A → Report) {v a : A} {n : Numbers} → v ≡ a → n ≡ numbers (report v) → Told n (report a)
+told report {n = n} e h =
+    let f = h ∙ ap (λ x. numbers (report x)) e in
+    record { number = ap (λ x. x .number) f; place = ap (λ x. x .place) f; count = ap (λ x. x .count) f }
+
+pub ring-told : (t : Table) (q : Query) (s e : ℕ) (old before : List ℕ) {v a : Counted} {n : Numbers} {marks scratch : List ℕ}
+    → v ≡ a → marks ≡ ringMarks v t q s e old → scratch ≡ countedScratch v before → n ≡ numbers (countedReport v)
+    → (n .number ≡ countedReport a .number) × (n .place ≡ countedReport a .place) × (n .count ≡ countedReport a .count) × (marks ≡ ringMarks a t q s e old) × (scratch ≡ countedScratch a before)
+ring-told t q s e old before answer marks scratch h =
+    let n = told countedReport answer h in
+    (n .number, n .place, n .count, marks ∙ ap (λ v. ringMarks v t q s e old) answer, scratch ∙ ap (λ v. countedScratch v before) answer)
+
+pub times-told : (t : Table) (q : Query) (te s : ℕ) (old old′ before : List ℕ) {v a : Verdict} {n : Numbers} {accounts rows scratch : List ℕ}
+    → v ≡ a → accounts ≡ accountColumn v t q te s old → rows ≡ rowColumn v t q te s old′ → scratch ≡ verdictScratch v before → n ≡ numbers (verdictReport v)
+    → (n .number ≡ verdictReport a .number) × (n .place ≡ verdictReport a .place) × (accounts ≡ accountColumn a t q te s old) × (rows ≡ rowColumn a t q te s old′) × (scratch ≡ verdictScratch a before)
+times-told t q te s old old′ before answer accounts rows scratch h =
+    let n = told verdictReport answer h in
+    (n .number, n .place, accounts ∙ ap (λ v. accountColumn v t q te s old) answer, rows ∙ ap (λ v. rowColumn v t q te s old′) answer, scratch ∙ ap (λ v. verdictScratch v before) answer)
+
+pub recall-told : (t : Table) (l : Columns) (s e : ℕ) (old : List ℕ) {v a : Verdict} {n : Numbers} {marks : List ℕ}
+    → v ≡ a → marks ≡ recallMarks v t l s e old → n ≡ numbers (verdictReport v)
+    → (n .number ≡ verdictReport a .number) × (n .place ≡ verdictReport a .place) × (marks ≡ recallMarks a t l s e old)
+recall-told t l s e old answer marks h =
+    let n = told verdictReport answer h in
+    (n .number, n .place, marks ∙ ap (λ v. recallMarks v t l s e old) answer)
+
+pub read-told : (new new′ new″ old old′ old″ : List ℕ) {v a : TableRead} {n : Numbers} {x x′ x″ : List ℕ}
+    → v ≡ a → x ≡ filled v new old → x′ ≡ filled v new′ old′ → x″ ≡ filled v new″ old″ → n ≡ numbers (readReport v)
+    → (n .number ≡ readReport a .number) × (n .place ≡ readReport a .place) × (n .count ≡ readReport a .count) × (x ≡ filled a new old) × (x′ ≡ filled a new′ old′) × (x″ ≡ filled a new″ old″)
+read-told new new′ new″ old old′ old″ answer x x′ x″ h =
+    let n = told readReport answer h in
+    (n .number, n .place, n .count, x ∙ ap (λ v. filled v new old) answer, x′ ∙ ap (λ v. filled v new′ old′) answer, x″ ∙ ap (λ v. filled v new″ old″) answer)
+
+pub minimal-told : (t : Table) (q : Query) (ts te : ℕ) (old old′ old″ before : List ℕ) {v a : Counted} {n : Numbers} {rows starts ends scratch : List ℕ}
+    → v ≡ a → rows ≡ minimalRows v t q ts te old → starts ≡ minimalStarts v t q ts te old′ → ends ≡ minimalEnds v t q ts te old″ → scratch ≡ countedScratch v before → n ≡ numbers (countedReport v)
+    → (n .number ≡ countedReport a .number) × (n .place ≡ countedReport a .place) × (n .count ≡ countedReport a .count) × (rows ≡ minimalRows a t q ts te old) × (starts ≡ minimalStarts a t q ts te old′) × (ends ≡ minimalEnds a t q ts te old″) × (scratch ≡ countedScratch a before)
+minimal-told t q ts te old old′ old″ before answer rows starts ends scratch h =
+    let n = told countedReport answer h in
+    (n .number, n .place, n .count, rows ∙ ap (λ v. minimalRows v t q ts te old) answer, starts ∙ ap (λ v. minimalStarts v t q ts te old′) answer, ends ∙ ap (λ v. minimalEnds v t q ts te old″) answer, scratch ∙ ap (λ v. countedScratch v before) answer)
+
+pub listing-told : (t : Table) (q : Query) (ts te : ℕ) (old old′ old″ before : List ℕ) {v a : Listed} {n : Numbers} {sum : ℕ} {starts ends rows scratch : List ℕ}
+    → v ≡ a → starts ≡ listingStarts v t q ts te old → ends ≡ listingEnds v t q ts te old′ → rows ≡ listingRows v t q ts te old″ → scratch ≡ listingScratch v before → n ≡ numbers (listingReport v) → sum ≡ listingSum v
+    → (n .number ≡ listingReport a .number) × (n .place ≡ listingReport a .place) × (n .count ≡ listingReport a .count) × (sum ≡ listingSum a) × (starts ≡ listingStarts a t q ts te old) × (ends ≡ listingEnds a t q ts te old′) × (rows ≡ listingRows a t q ts te old″) × (scratch ≡ listingScratch a before)
+listing-told t q ts te old old′ old″ before answer starts ends rows scratch h sum =
+    let n = told listingReport answer h in
+    (n .number, n .place, n .count, sum ∙ ap listingSum answer, starts ∙ ap (λ v. listingStarts v t q ts te old) answer, ends ∙ ap (λ v. listingEnds v t q ts te old′) answer, rows ∙ ap (λ v. listingRows v t q ts te old″) answer, scratch ∙ ap (λ v. listingScratch v before) answer)
+
+pub list-told : (o : Outcome) (old : List ℕ) {v a : Printed} {n : Numbers} {output : List ℕ}
+    → v ≡ a → output ≡ listOutput v o old → n ≡ numbers (printedReport v)
+    → (n .number ≡ printedReport a .number) × (n .place ≡ printedReport a .place) × (n .count ≡ printedReport a .count) × (output ≡ listOutput a o old)
+list-told o old answer output h =
+    let n = told printedReport answer h in
+    (n .number, n .place, n .count, output ∙ ap (λ v. listOutput v o old) answer)

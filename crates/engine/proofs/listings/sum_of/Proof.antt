@@ -1,0 +1,23 @@
+-- `listings::sum_of` meets its contract: by the cases of the answer.
+-- Assumes nothing.
+use Rattle.listing.specs.ListingCall.{listingSum}
+use borrow.Author.Needs.{needs}
+use Rattle.engine.proofs.listings.sum_of.Statement.{statement}
+use Rattle.engine.proofs.listings.sum_of.Tie as tie
+
+enum-known-l : tie.Need-enum-known-l
+enum-known-l c = search needs
+
+enum-told : tie.Need-enum-told
+enum-told c = search needs
+
+returns : tie.Need-returns
+unfolding listingSum
+returns c = simp (c .before .l .given .1)
+
+returns-2 : tie.Need-returns-2
+unfolding listingSum
+returns-2 c = search needs
+
+pub sum-of-spec : {M : Type 1} → statement M
+sum-of-spec = tie.close (tie.spec enum-known-l enum-told returns returns-2)

@@ -1,0 +1,30 @@
+-- `reading::rumbleog_read_table` meets its contract: it hands on what the call answered.
+-- Assumes nothing.
+use Rattle.text.specs.Table.{daysOf, firstsOf, secondsOf}
+use Rattle.engine.proofs.ToldLaws.{read-told}
+use borrow.Author.Needs.{needs}
+use Rattle.engine.proofs.reading.rumbleog_read_table.Statement.{statement}
+use Rattle.engine.proofs.reading.rumbleog_read_table.Tie as tie
+
+read-table-requires : tie.Need-read-table-requires
+read-table-requires c κs = search needs
+
+of-read-requires : tie.Need-of-read-requires
+of-read-requires c κs = search needs
+
+same-length : tie.Need-same-length
+same-length c = search needs
+
+same-length-2 : tie.Need-same-length-2
+same-length-2 c = search needs
+
+same-length-3 : tie.Need-same-length-3
+same-length-3 c = search needs
+
+returns : tie.Need-returns
+returns c = read-told (daysOf (c .before .before .before .before .before .before .before .before .before .before .before .before .before .before .before .args .text .now)) (firstsOf (c .before .before .before .before .before .before .before .before .before .before .before .before .before .before .before .args .text .now)) (secondsOf (c .before .before .before .before .before .before .before .before .before .before .before .before .before .before .before .args .text .now)) (c .before .before .before .before .before .before .before .before .before .before .before .before .before .before .before .args .days .now) (c .before .before .before .before .before .before .before .before .before .before .before .before .before .before .before .args .first .now) (c .before .before .before .before .before .before .before .before .before .before .before .before .before .before .before .args .second .now) (c .before .before .before .before .before .before .before .read-table .ensures .0) (c .before .before .before .before .before .before .before .read-table .ensures .1 .0) (c .before .before .before .before .before .before .before .read-table .ensures .1 .1 .0) (c .before .before .before .before .before .before .before .read-table .ensures .1 .1 .1) (c .of-read .ensures)
+
+pub rumbleog-read-table-spec : {M : Type 1} → statement M
+rumbleog-read-table-spec =
+    tie.close
+    (tie.spec read-table-requires of-read-requires same-length same-length-2 same-length-3 returns)

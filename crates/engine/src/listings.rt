@@ -1,0 +1,80 @@
+// Listing.
+ghost use mathlib.Core.Path.{_≡_};
+ghost use lib.ListN.{length};
+ghost use Rattle.rings.specs.Table.{tableOf};
+ghost use Rattle.listing.specs.ListingCall.{listingAnswer, listingStarts, listingEnds, listingRows, listingScratch, listingReport, listingSum};
+ghost use Rattle.engine.specs.Numbers.{asked, numbers};
+use crate::numbers::Numbers;
+use crate::numbers::of_refusal;
+use listing::Listed;
+use listing::list_rings;
+use rings::Query;
+
+fn of_listed(l: Listed) -> Numbers
+    ensures { λ n. ⌜ n ≡ numbers (listingReport l) ⌝ }
+{
+    match l {
+        Listed::Rings { count: n, sum: _ } => Numbers {
+            number: 0,
+            place: 0,
+            count: n as u64,
+        },
+        Listed::Refused(r) => of_refusal(r),
+    }
+}
+
+fn sum_of(l: Listed) -> u64
+    ensures { λ n. ⌜ n ≡ listingSum l ⌝ }
+{
+    match l {
+        Listed::Rings { count: _, sum: n } => n,
+        Listed::Refused(_) => 0,
+    }
+}
+
+#[no_mangle]
+pub extern "C" fn rumbleog_listing(
+    days: &[u16],
+    first: &[u16],
+    second: &[u16],
+    k: u16,
+    ts: u16,
+    te: u16,
+    start: &mut [u16],
+    end: &mut [u16],
+    rows: &mut [u16],
+    scratch: &mut [u16],
+    place: &mut u64,
+    count: &mut u64,
+    sum: &mut u64,
+) -> u32
+    ensures { λ r. ⌜ (
+        let t = tableOf (now (days .entry)) (now (first .entry)) (now (second .entry)) in
+        let a = listingAnswer t (asked k) ts te (length (now (start .entry))) (length (now (end .entry))) (length (now (rows .entry))) (length (now (scratch .entry))) in
+        (r ≡ listingReport a .number)
+        × (now (place .exit) ≡ listingReport a .place)
+        × (now (count .exit) ≡ listingReport a .count)
+        × (now (sum .exit) ≡ listingSum a)
+        × (now (start .exit) ≡ listingStarts a t (asked k) ts te (now (start .entry)))
+        × (now (end .exit) ≡ listingEnds a t (asked k) ts te (now (end .entry)))
+        × (now (rows .exit) ≡ listingRows a t (asked k) ts te (now (rows .entry)))
+        × (now (scratch .exit) ≡ listingScratch a (now (scratch .entry)))) ⌝ }
+{
+    let answer = list_rings(
+        days,
+        first,
+        second,
+        Query { k: k },
+        ts,
+        te,
+        start,
+        end,
+        rows,
+        scratch,
+    );
+    let told = of_listed(answer);
+    *place = told.place;
+    *count = told.count;
+    *sum = sum_of(answer);
+    told.number
+}

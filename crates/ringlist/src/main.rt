@@ -1,0 +1,48 @@
+// The listing program: a query and rows from standard input, their listing or the refused line to standard output.
+ghost use mathlib.Core.Path.{_≡_};
+ghost use Prim.Native.Nat.{_≤_};
+ghost use lib.ListN.{length, take};
+ghost use Rattle.io.specs.Counts.{Counts};
+ghost use Rattle.text.specs.Print.{refusedLine};
+ghost use Rattle.listing.specs.ProgramText.{programText};
+use libc::STDIN_FILENO;
+use libc::STDOUT_FILENO;
+use listing::Printed;
+use listing::list_text;
+use text::put_refused;
+
+// The refused line, of 19 bytes.
+fn refuse(number: u32, line: usize, output: &mut [u8]) -> usize
+    requires { ⌜ (number ≤ 14) × (line ≤ 18450) × (length (now output) ≡ 45078) ⌝ }
+    ensures { λ r. ⌜ Counts r (now (output .exit)) ⌝ }
+    ensures { λ r. ⌜ take r (now (output .exit)) ≡ refusedLine number line ⌝ }
+{
+    put_refused(output, number as u16, line as u16);
+    19
+}
+
+// What the program prints for an input, from the output's start on; its length. 45,078 bytes hold the listing of 2,048 rings.
+fn answer(input: &[u8], output: &mut [u8]) -> usize
+    requires { ⌜ length (now output) ≡ 45078 ⌝ }
+    ensures { λ r. ⌜ Counts r (now (output .exit)) ⌝ }
+    ensures { λ r. ⌜ take r (now (output .exit)) ≡ programText (now (input .entry)) ⌝ }
+{
+    let printed = list_text(input, output);
+    match printed {
+        Printed::Text(n) => {
+            return n;
+        }
+        Printed::Refused { number, line } => {
+            return refuse(number, line, output);
+        }
+    }
+}
+
+// One byte more than an input may have, so that a longer one is seen.
+fn main() {
+    let mut input = [0u8; 18449];
+    let mut output = [0u8; 45078];
+    let read = io::read_full(STDIN_FILENO, &mut input);
+    let size = answer(&input[..read], &mut output);
+    io::write_all(STDOUT_FILENO, &output[..size]);
+}
