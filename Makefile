@@ -70,6 +70,8 @@ hosts: engine
 	@$(HOST) host-test
 	@echo "hosts: C host on the examples"
 	@$(HOST) c-host
+	@echo "hosts: the listing program on inputs around every refusal"
+	@sh host/ringlist-runs.sh
 else
 # No archive yet: the tests run against the C engine of host/peer, so that they are known to pass where the library is right.
 STANDIN := LIB=target/standin/libengine.a
