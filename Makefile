@@ -2,6 +2,7 @@
 # make list IN=FILE     the same for another file
 # make test             everything: the kit, the layout, every proof and must-fail edit, the hosts
 # make bench            the benchmark; writes docs/BENCHMARK.md
+# make refusals         the must-fail edits that rt ci leaves to a quicker check
 # make mutants          faults planted in the C engine of host/peer, each found by the tests of host/
 # make mutants-rattle   the same in the Rattle sources, built without proofs
 # make clean            remove what was built
@@ -9,7 +10,7 @@
 SHELL := bash
 .SHELLFLAGS := -eu -o pipefail -c
 .NOTPARALLEL:
-.PHONY: list test kit layout proofs hosts verdict engine bench mutants mutants-rattle clean
+.PHONY: list test kit layout proofs refusals hosts verdict engine bench mutants mutants-rattle clean
 
 RT ?= rt
 IN ?= examples/season.txt
@@ -33,7 +34,7 @@ else
 	@exit 1
 endif
 
-test: kit layout proofs hosts verdict
+test: kit layout proofs refusals hosts verdict
 
 # The proofs hold for one kit. Another may prove them too, but nobody has looked.
 kit:
@@ -53,12 +54,17 @@ layout:
 
 # rt ci takes every .rt and .antt file outside target/ for a lost one: so copies of `make mutants` go first.
 proofs:
-	@echo "proofs: rt ci, from nothing: every crate, every must-fail edit, every program (minutes)"
+	@echo "proofs: rt ci, from nothing: every crate, must-fail edits, every program (minutes)"
 	@rm -rf host/target/mutants/copy
 	@mkdir -p $(dir $(LOG))
 	@rm -f $(LOG)
 	@$(RT) ci 2>&1 | tee $(LOG)
 	@tail -n 1 $(LOG) | grep -qE '^[0-9]+ passed, 0 failed$$' || { echo "proofs: rt ci did not end with its verdict"; exit 1; }
+
+# Needs what rt ci proved.
+refusals:
+	@echo "refusals: the edits of crates/*/must-fail/quick (minutes)"
+	@python3 tools/refusals.py
 
 engine:
 	@echo "hosts: rt staticlib engine"

@@ -25,11 +25,11 @@ use Rattle.rings.specs.declared.refusal.Refusal.the-variants.{UnequalColumns, T
 use Rattle.rings.specs.declared.refusal.Verdict.{Verdict}
 use Rattle.rings.specs.declared.refusal.Verdict.the-variants.{Accepted, Refused}
 use Rattle.rings.proofs.CheckLaws.{accepted-right, when-accepted}
-use Rattle.listing.specs.Listing.{ListedRing, listing, rowSum}
+use Rattle.listing.specs.Listing.{ListedRing, listing}
 use Rattle.listing.specs.ListingCall.{listingChecks, summed, listingAnswer, ringColumn, listingStarts, listingEnds, listingRows}
 use Rattle.listing.specs.Program.{Outcome, found, stopped, inputLine, fromList}
 use Rattle.listing.specs.ProgramText.{listAnswer, listOutput}
-use Rattle.listing.specs.ProgramSteps.{listed, refusedOf, entriesOf, Rising}
+use Rattle.listing.specs.ProgramSteps.{listed, refusedOf, entriesAt, Rising}
 use Rattle.listing.specs.declared.Listed.{Listed}
 use Rattle.listing.specs.declared.Printed.{Printed}
 use Rattle.listing.proofs.CountLaws.{listing-is}
@@ -167,7 +167,7 @@ module _ (t : Table) (q : Query) (lo hi : ℕ) {r : Listed} (is : r ≡ listingA
     unfolding ringColumn
     column part old e w = w ∙ ap (λ (x : Listed). ringColumn x part (listing t q lo hi) old) e
 
-    pub rings-are : {n sum : ℕ} → r ≡ Listed.Rings n sum → entriesOf starts ends rows n ≡ listing t q lo hi
+    pub rings-are : {n sum : ℕ} → r ≡ Listed.Rings n sum → entriesAt starts ends rows n ≡ listing t q lo hi
     unfolding listingStarts listingEnds listingRows
     rings-are e =
         entries-are (listing t q lo hi) old₁ old₂ old₃ (column (λ x. x .start) old₁ e a) (column (λ x. x .end) old₂ e b) (column (λ x. x .rows) old₃ e c) (rings-count e)

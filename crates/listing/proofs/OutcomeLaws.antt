@@ -4,7 +4,7 @@
 --     TextAnswer, text-answer, RefusedAnswer, refused-answer    what stands behind the list call's answer, for an output of 45,078 bytes: it holds every text
 -- Assumes nothing.
 use Prim.Native.Nat.{ℕ, _+_, _*_, _≤_, _<_}
-use mathlib.Core.Path.{_≡_, refl, sym, ap, subst, _∙_}
+use mathlib.Core.Path.{_≡_, refl, sym, ap, _∙_}
 use mathlib.Core.Bool.{Bool, true, false}
 use mathlib.Core.List.{List, map, _++_}
 use native.Mathlib.Omega.{arith}

@@ -6,8 +6,8 @@
 --     rowsOf a           how many rows an input has
 --     asked a d f s      the outcome of what is asked, the rows standing in front of the columns d, f, s
 --     Asks o a d f s     an input of the outcome o asks for a
---     entryOf, entriesOf the entry at a place of three columns, and the first n
---     linesOf ls         the lines of a listing, without the header
+--     entryAt, entriesAt    the entry at a place of three columns, and the first n
+--     ringLines ls       the lines of a listing, without the header
 --     Rising             the columns have n entries, and each starts by its end
 use Prim.Native.Nat.{ℕ, _+_, _≤_, _<_}
 use mathlib.Core.Path.{_≡_}
@@ -55,14 +55,14 @@ pub record Asks (o : Outcome) (a : Asked) (d f s : List ℕ) : Type 0 where
   pub most : rowsOf a ≤ 1024
   pub is : o ≡ asked a d f s
 
-unfoldable pub entryOf : List ℕ → List ℕ → List ℕ → ℕ → ListedRing
-entryOf starts ends rows i = record { start = getD starts i 0; end = getD ends i 0; rows = getD rows i 0 }
+unfoldable pub entryAt : List ℕ → List ℕ → List ℕ → ℕ → ListedRing
+entryAt starts ends rows i = record { start = getD starts i 0; end = getD ends i 0; rows = getD rows i 0 }
 
-unfoldable pub entriesOf : List ℕ → List ℕ → List ℕ → ℕ → List ListedRing
-entriesOf starts ends rows n = run (entryOf starts ends rows) 0 n
+unfoldable pub entriesAt : List ℕ → List ℕ → List ℕ → ℕ → List ListedRing
+entriesAt starts ends rows n = run (entryAt starts ends rows) 0 n
 
-unfoldable pub linesOf : List ListedRing → List ℕ
-linesOf ls = entryLines (map lineOf ls)
+unfoldable pub ringLines : List ListedRing → List ℕ
+ringLines ls = entryLines (map lineOf ls)
 
 pub record Rising (starts ends rows : List ℕ) (n : ℕ) : Type 0 where
   pub most : n ≤ 2048

@@ -8,7 +8,7 @@ ghost use Rattle.text.specs.Table.{place, tableReadOf};
 ghost use Rattle.text.specs.Print.{pasted};
 ghost use Rattle.listing.specs.Program.{found, tableOf, fromRows, outcome};
 ghost use Rattle.listing.specs.ProgramText.{listAnswer, listOutput};
-ghost use Rattle.listing.specs.ProgramSteps.{query, listed, refusedOf, askedBy, Asks, Rising, entriesOf, linesOf};
+ghost use Rattle.listing.specs.ProgramSteps.{query, listed, refusedOf, askedBy, Asks, Rising, entriesAt, ringLines};
 use crate::Listed;
 use crate::Printed;
 use crate::list::list_rings;
@@ -154,7 +154,7 @@ fn read_input(input: &[u8], days: &mut [u16], first: &mut [u16], second: &mut [u
 fn write_lines(starts: &[u16], ends: &[u16], rows: &[u16], count: usize, output: &mut [u8])
     requires { ⌜ Rising (now starts) (now ends) (now rows) count ⌝ }
     requires { ⌜ 22 * (count + 1) ≤ length (now output) ⌝ }
-    ensures { λ _. ⌜ now (output .exit) ≡ pasted (now (output .entry)) 22 (linesOf (entriesOf (now (starts .entry)) (now (ends .entry)) (now (rows .entry)) count)) ⌝ }
+    ensures { λ _. ⌜ now (output .exit) ≡ pasted (now (output .entry)) 22 (ringLines (entriesAt (now (starts .entry)) (now (ends .entry)) (now (rows .entry)) count)) ⌝ }
 {
     let mut at: usize = 22;
     let mut i: usize = 0;
@@ -176,8 +176,8 @@ fn write_listing(
     output: &mut [u8],
 ) -> Printed
     requires { ⌜ Rising (now starts) (now ends) (now rows) count ⌝ }
-    ensures { λ r. ⌜ r ≡ listAnswer (found (entriesOf (now (starts .entry)) (now (ends .entry)) (now (rows .entry)) count)) (length (now (output .entry))) ⌝ }
-    ensures { λ r. ⌜ now (output .exit) ≡ listOutput r (found (entriesOf (now (starts .entry)) (now (ends .entry)) (now (rows .entry)) count)) (now (output .entry)) ⌝ }
+    ensures { λ r. ⌜ r ≡ listAnswer (found (entriesAt (now (starts .entry)) (now (ends .entry)) (now (rows .entry)) count)) (length (now (output .entry))) ⌝ }
+    ensures { λ r. ⌜ now (output .exit) ≡ listOutput r (found (entriesAt (now (starts .entry)) (now (ends .entry)) (now (rows .entry)) count)) (now (output .entry)) ⌝ }
 {
     let size = 22 * (count + 1);
     if output.len() < size {

@@ -1,46 +1,50 @@
-use Rattle.ringlist.proofs.PrintedLaws.{prints-found, prints-stopped}
-use Rattle.listing.proofs.OutcomeLaws.{text-answer, refused-answer}
-use lib.ListN.{length}
+-- `ringlist::answer` meets its contract: the list call's answer, in an output that holds every text.
+-- Assumes nothing.
 use mathlib.Core.Path.{ap, _∙_}
+use lib.ListN.{length}
 use borrow.Author.Needs.{needs}
+use Rattle.listing.proofs.OutcomeLaws.{text-answer, refused-answer}
+use Rattle.ringlist.proofs.PrintedLaws.{prints-found, prints-stopped}
 use Rattle.ringlist.proofs.answer.Statement.{statement}
 use Rattle.ringlist.proofs.answer.Tie as tie
-use Rattle.ringlist.proofs.answer.Reads as reads
-use Rattle.ringlist.proofs.answer.Lts as lts
-use Rattle.listing.proofs.list_text.Reads as list-text-reads
-use Rattle.ringlist.proofs.refuse.Reads as refuse-reads
 
--- src/main.rt:30:9
 list-text-requires : tie.Need-list-text-requires
 list-text-requires c κs = search needs
 
--- src/main.rt:32:23
 enum-known-printed : tie.Need-enum-known-printed
 enum-known-printed c = search needs
 
--- src/main.rt:33:13
 same-length : tie.Need-same-length
 same-length c = search needs
 
--- src/main.rt:33:13
 returns : tie.Need-returns
-returns c = prints-found (c .before .before .before .before .before .before .before .before .before .args .input .now) (text-answer (c .before .before .before .before .before .before .before .before .before .args .input .now) (c .before .before .before .before .before .before .before .before .before .args .output .now) (c .before .before .before .before .before .before .before .before .before .pre) (c .before .before .before .before .before .list-text .ensures .0) (c .before .before .before .before .before .list-text .ensures .1) (c .before .printed .given .1))
+returns c =
+    let a = c .before .before .before .before .before .before .before .before .before .args in
+    let pre = c .before .before .before .before .before .before .before .before .before .pre in
+    let list-text = c .before .before .before .before .before .list-text in
+    prints-found (a .input .now) (text-answer (a .input .now) (a .output .now) pre (list-text .ensures .0) (list-text .ensures .1) (c .before .printed .given .1))
 
--- src/main.rt:35:28
 enum-known-printed-2 : tie.Need-enum-known-printed-2
 enum-known-printed-2 c = search needs
 
--- src/main.rt:36:13
 refuse-requires : tie.Need-refuse-requires
-refuse-requires c κs = let a = refused-answer (c .before .before .before .before .before .before .before .before .before .before .args .input .now) (c .before .before .before .before .before .before .before .before .before .before .args .output .now) (c .before .before .before .before .before .before .before .before .before .before .pre) (c .before .before .before .before .before .before .list-text .ensures .0) (c .before .before .before .before .before .before .list-text .ensures .1) (c .before .before .printed2 .given .1) in (a .number, a .place, ap length (a .kept) ∙ c .before .before .before .before .before .before .before .before .before .before .pre)
+refuse-requires c κs =
+    let a = c .before .before .before .before .before .before .before .before .before .before .args in
+    let pre = c .before .before .before .before .before .before .before .before .before .before .pre in
+    let list-text = c .before .before .before .before .before .before .list-text in
+    let a = refused-answer (a .input .now) (a .output .now) pre (list-text .ensures .0) (list-text .ensures .1) (c .before .before .printed2 .given .1) in (a .number, a .place, ap length (a .kept) ∙ pre)
 
--- src/main.rt:36:13
 same-length-2 : tie.Need-same-length-2
 same-length-2 c = search needs
 
--- src/main.rt:36:13
 returns-2 : tie.Need-returns-2
-returns-2 c = prints-stopped (c .before .before .before .before .before .before .before .before .before .before .before .before .before .args .input .now) (c .before .before .refuse .result) (c .before .before .refuse .last .1 .1 .0) (refused-answer (c .before .before .before .before .before .before .before .before .before .before .before .before .before .args .input .now) (c .before .before .before .before .before .before .before .before .before .before .before .before .before .args .output .now) (c .before .before .before .before .before .before .before .before .before .before .before .before .before .pre) (c .before .before .before .before .before .before .before .before .before .list-text .ensures .0) (c .before .before .before .before .before .before .before .before .before .list-text .ensures .1) (c .before .before .before .before .before .printed2 .given .1)) (c .before .before .refuse .ensures)
+returns-2 c =
+    let a = c .before .before .before .before .before .before .before .before .before .before .before .before .before .args in
+    let refuse = c .before .before .refuse in
+    let pre = c .before .before .before .before .before .before .before .before .before .before .before .before .before .pre in
+    let list-text = c .before .before .before .before .before .before .before .before .before .list-text in
+    let printed2 = c .before .before .before .before .before .printed2 in
+    prints-stopped (a .input .now) (refuse .result) (refuse .last .1 .1 .0) (refused-answer (a .input .now) (a .output .now) pre (list-text .ensures .0) (list-text .ensures .1) (printed2 .given .1)) (refuse .ensures)
 
 pub answer-spec : {M : Type 1} → statement M
 answer-spec =

@@ -1,125 +1,99 @@
+-- `program::refused` meets its contract: the answer goes case by case.
+-- Assumes nothing.
+use mathlib.Core.Path.{sym, ap, _∙_}
+use native.Mathlib.Omega.{arith}
+use borrow.Author.Needs.{needs}
+use Rattle.rings.specs.Refusals.{numberOf, placeOf}
 use Rattle.listing.specs.ProgramSteps.{refusedOf}
 use Rattle.listing.specs.Program.{inputLine}
-use Rattle.rings.specs.Refusals.{numberOf, placeOf}
-use native.Mathlib.Omega.{arith}
-use mathlib.Core.Path.{sym, ap, _∙_}
-use borrow.Author.Needs.{needs}
 use Rattle.listing.proofs.program.refused.Statement.{statement}
 use Rattle.listing.proofs.program.refused.Tie as tie
-use Rattle.listing.proofs.program.refused.Reads as reads
-use Rattle.listing.proofs.program.refused.Lts as lts
-use Rattle.listing.proofs.program.at_row.Reads as at-row-reads
 
--- src/program.rt:55:36
 enum-told : tie.Need-enum-told
 enum-told c = search needs
 
--- src/program.rt:56:33
 enum-told-2 : tie.Need-enum-told-2
 enum-told-2 c = search needs
 
--- src/program.rt:57:25
 enum-known-r : tie.Need-enum-known-r
 enum-known-r c = search needs
 
--- src/program.rt:57:33
 at-row-requires : tie.Need-at-row-requires
 unfolding placeOf
 at-row-requires c κs = omega (arith, c .before .before .before .pre, ap placeOf (c .before .r .given .1))
 
--- src/program.rt:58:30
 enum-known-r-2 : tie.Need-enum-known-r-2
 enum-known-r-2 c = search needs
 
--- src/program.rt:58:38
 at-row-requires-2 : tie.Need-at-row-requires-2
 unfolding placeOf
 at-row-requires-2 c κs = omega (arith, c .before .before .before .pre, ap placeOf (c .before .r2 .given .1))
 
--- src/program.rt:59:29
 enum-known-r-3 : tie.Need-enum-known-r-3
 enum-known-r-3 c = search needs
 
--- src/program.rt:59:37
 at-row-requires-3 : tie.Need-at-row-requires-3
 unfolding placeOf
 at-row-requires-3 c κs = omega (arith, c .before .before .before .pre, ap placeOf (c .before .r3 .given .1))
 
--- src/program.rt:60:26
 enum-told-3 : tie.Need-enum-told-3
 enum-told-3 c = search needs
 
--- src/program.rt:61:31
 enum-told-4 : tie.Need-enum-told-4
 enum-told-4 c = search needs
 
--- src/program.rt:62:32
 enum-told-5 : tie.Need-enum-told-5
 enum-told-5 c = search needs
 
--- src/program.rt:63:34
 enum-told-6 : tie.Need-enum-told-6
 enum-told-6 c = search needs
 
--- src/program.rt:64:28
 enum-told-7 : tie.Need-enum-told-7
 enum-told-7 c = search needs
 
--- src/program.rt:68:33
 enum-told-8 : tie.Need-enum-told-8
 enum-told-8 c = search needs
 
--- src/program.rt:50:1
 returns : tie.Need-returns
 unfolding refusedOf numberOf inputLine
 returns c = ap refusedOf (sym (c .enum-told .given .1))
 
--- src/program.rt:50:1
 returns-2 : tie.Need-returns-2
 unfolding refusedOf numberOf inputLine
 returns-2 c = ap refusedOf (sym (c .enum-told2 .given .1))
 
--- src/program.rt:50:1
 returns-3 : tie.Need-returns-3
 unfolding refusedOf numberOf inputLine
 returns-3 c = c .at-row .ensures ∙ ap refusedOf (sym (c .before .before .r .given .1))
 
--- src/program.rt:50:1
 returns-4 : tie.Need-returns-4
 unfolding refusedOf numberOf inputLine
 returns-4 c = c .at-row2 .ensures ∙ ap refusedOf (sym (c .before .before .r2 .given .1))
 
--- src/program.rt:50:1
 returns-5 : tie.Need-returns-5
 unfolding refusedOf numberOf inputLine
 returns-5 c = c .at-row3 .ensures ∙ ap refusedOf (sym (c .before .before .r3 .given .1))
 
--- src/program.rt:50:1
 returns-6 : tie.Need-returns-6
 unfolding refusedOf numberOf inputLine
 returns-6 c = ap refusedOf (sym (c .enum-told3 .given .1))
 
--- src/program.rt:50:1
 returns-7 : tie.Need-returns-7
 unfolding refusedOf numberOf inputLine
 returns-7 c = ap refusedOf (sym (c .enum-told4 .given .1))
 
--- src/program.rt:50:1
 returns-8 : tie.Need-returns-8
 unfolding refusedOf numberOf inputLine
 returns-8 c = ap refusedOf (sym (c .enum-told5 .given .1))
 
--- src/program.rt:50:1
 returns-9 : tie.Need-returns-9
 unfolding refusedOf numberOf inputLine
 returns-9 c = ap refusedOf (sym (c .enum-told6 .given .1))
 
--- src/program.rt:50:1
 returns-10 : tie.Need-returns-10
 unfolding refusedOf numberOf inputLine
 returns-10 c = ap refusedOf (sym (c .enum-told7 .given .1))
 
--- src/program.rt:50:1
 returns-11 : tie.Need-returns-11
 unfolding refusedOf numberOf inputLine
 returns-11 c = ap refusedOf (sym (c .enum-told8 .given .1))
