@@ -16,6 +16,7 @@ import shutil
 import subprocess
 import sys
 import threading
+import time
 
 ROOT = os.path.dirname(os.path.dirname(os.path.abspath(__file__)))
 WORK = os.path.join(ROOT, "target", "refusals")
@@ -67,7 +68,7 @@ def try_edit(copy, crate, path, clean):
                 f.write(text.replace(old, new))
         if not kept:
             return False, "it has no 'old:' and 'new:' pair"
-        shutil.rmtree(inc)
+        shutil.rmtree(inc, ignore_errors=True)
         shutil.copytree(clean, inc)
         status, said = dev(copy, crate)
     finally:
@@ -82,49 +83,76 @@ def try_edit(copy, crate, path, clean):
     return False, "it did not reach the prover (exit %d): %s" % (status, said[:300])
 
 
-def worker(copy, names, wanted, tally, lock):
-    for crate in names:
-        todo = [(n, p) for n, p in edits(crate) if not wanted or crate in wanted or "%s/%s" % (crate, n) in wanted]
-        if not todo:
-            continue
+class Pool:
+    """Two copies of the crates, each worked in by one thread; jobs go to whoever is free."""
+
+    def __init__(self):
+        self.lock, self.jobs, self.refused, self.failed = threading.Lock(), [], 0, 0
+        self.copies = [os.path.join(WORK, str(i)) for i in range(2)]
+        for copy in self.copies:
+            os.makedirs(copy)
+            shutil.copy(os.path.join(ROOT, "crates.txt"), copy)
+            shutil.copytree(os.path.join(ROOT, "crates"), os.path.join(copy, "crates"))
+            for part in ("rlib", "stamp", "log"):
+                if os.path.isdir(os.path.join(ROOT, "target", part)):
+                    shutil.copytree(os.path.join(ROOT, "target", part), os.path.join(copy, "target", part))
+
+    def run(self, jobs):
+        self.jobs = list(jobs)
+        threads = [threading.Thread(target=self.work, args=(copy,)) for copy in self.copies]
+        for t in threads:
+            t.start()
+        for t in threads:
+            t.join()
+
+    def work(self, copy):
+        while True:
+            with self.lock:
+                if not self.jobs:
+                    return
+                job = self.jobs.pop(0)
+            good, what = job(copy)
+            with self.lock:
+                print("refusals: " + what, flush=True)
+                self.refused += good is True
+                self.failed += good is False
+
+
+def warm(crate):
+    """Checks the crate as it is, and keeps what was checked for its edits."""
+
+    def job(copy):
+        began = time.time()
         status, said = dev(copy, crate)
         if status != 0:
-            with lock:
-                print("refusals: %s is not proved without an edit" % crate, flush=True)
-                tally["failed"] += len(todo)
-            continue
-        clean = os.path.join(copy, "target", "clean")
-        shutil.rmtree(clean, ignore_errors=True)
-        shutil.copytree(os.path.join(copy, "target", "inc", crate), clean)
-        for name, path in todo:
-            good, what = try_edit(copy, crate, path, clean)
-            with lock:
-                print("refusals: %s/%s: %s" % (crate, name, what), flush=True)
-                tally["refused" if good else "failed"] += 1
+            return False, "%s is not proved without an edit" % crate
+        shutil.copytree(os.path.join(copy, "target", "inc", crate), os.path.join(WORK, "clean", crate))
+        return None, "%s as it is (%d s)" % (crate, time.time() - began)
+
+    return job
+
+
+def trial(crate, name, path):
+    def job(copy):
+        began = time.time()
+        clean = os.path.join(WORK, "clean", crate)
+        good, what = try_edit(copy, crate, path, clean) if os.path.isdir(clean) else (False, "no crate to try it on")
+        return good, "%s/%s: %s (%d s)" % (crate, name, what, time.time() - began)
+
+    return job
 
 
 def main():
     wanted = sys.argv[1:]
+    todo = [(c, n, p) for c in crates() for n, p in edits(c) if not wanted or c in wanted or "%s/%s" % (c, n) in wanted]
     shutil.rmtree(WORK, ignore_errors=True)
-    # rings costs as much as all the others together
-    shares = [["rings"], [c for c in crates() if c != "rings"]]
-    tally, lock, threads = {"refused": 0, "failed": 0}, threading.Lock(), []
-    for i, share in enumerate(shares):
-        copy = os.path.join(WORK, str(i))
-        os.makedirs(copy)
-        shutil.copy(os.path.join(ROOT, "crates.txt"), copy)
-        shutil.copytree(os.path.join(ROOT, "crates"), os.path.join(copy, "crates"))
-        for part in ("rlib", "stamp", "log"):
-            if os.path.isdir(os.path.join(ROOT, "target", part)):
-                shutil.copytree(os.path.join(ROOT, "target", part), os.path.join(copy, "target", part))
-        threads.append(threading.Thread(target=worker, args=(copy, share, wanted, tally, lock)))
-    for t in threads:
-        t.start()
-    for t in threads:
-        t.join()
+    pool = Pool()
+    # rings costs as much as all the others together, so it goes first
+    pool.run(warm(c) for c in sorted({c for c, _, _ in todo}, key=lambda c: (c != "rings", crates().index(c))))
+    pool.run(trial(*one) for one in todo)
     shutil.rmtree(WORK, ignore_errors=True)
-    print("refusals: %d refused, %d failed" % (tally["refused"], tally["failed"]))
-    sys.exit(1 if tally["failed"] or not tally["refused"] else 0)
+    print("refusals: %d refused, %d failed" % (pool.refused, pool.failed))
+    sys.exit(1 if pool.failed or not pool.refused else 0)
 
 
 main()
