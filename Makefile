@@ -19,20 +19,14 @@ export RT_JOBS
 
 # rt ci removes target/, so its log lies beside it.
 LOG := host/target/rt-ci.log
-CRATES := $(shell sed -n 's/^\([a-z0-9_]*\):.*/\1/p' crates.txt)
 HOST := $(MAKE) --no-print-directory -C host
 
 list: kit
-ifneq ($(filter ringlist,$(CRATES)),)
 	@[ -r "$(IN)" ] || { echo "list: cannot read $(IN)"; exit 1; }
 	@echo "list: proving ringlist and what it rests on (minutes the first time, then nothing)"
 	@$(RT) check ringlist
 	@echo "list: the rings of $(IN)"
 	@target/bin/ringlist <"$(IN)"
-else
-	@echo "list: the program ringlist is not in crates.txt yet: there is nothing to run"
-	@exit 1
-endif
 
 test: kit layout proofs refusals hosts verdict
 
@@ -70,7 +64,6 @@ engine:
 	@echo "hosts: rt staticlib engine"
 	@$(RT) staticlib engine
 
-ifneq ($(filter engine,$(CRATES)),)
 hosts: engine
 	@echo "hosts: Rust tests against the archive"
 	@$(HOST) host-test
@@ -78,16 +71,6 @@ hosts: engine
 	@$(HOST) c-host
 	@echo "hosts: the listing program on inputs around every refusal"
 	@sh host/ringlist-runs.sh
-else
-# No archive yet: the tests run against the C engine of host/peer, so that they are known to pass where the library is right.
-STANDIN := LIB=target/standin/libengine.a
-hosts:
-	@echo "hosts: the crate engine is not in crates.txt yet; the tests run against the C engine of host/peer"
-	@$(HOST) standin
-	@$(HOST) host-test $(STANDIN)
-	@echo "hosts: C host on the examples"
-	@$(HOST) c-host $(STANDIN)
-endif
 
 # rt ci's own line, once more and last: everything before it passed.
 verdict:
