@@ -61,11 +61,11 @@ getD-any [] u a b l = absurd (not-suc-le-zero l)
 getD-any (y ∷ x) zero a b l = refl
 getD-any (y ∷ x) (suc u) a b l = getD-any x u a b (le-of-suc-le-suc l)
 
-guess-at : (x : List ℕ) (u : ℕ) → length x ≡ 4096 → u < 4096 → guess x u ≡ getD x u 0
+pub guess-at : (x : List ℕ) (u : ℕ) → length x ≡ 4096 → u < 4096 → guess x u ≡ getD x u 0
 unfolding guess
 guess-at x u n l = getD-any x u never 0 (omega arith)
 
-guess-far : (x : List ℕ) (u : ℕ) → length x ≡ 4096 → 4096 ≤ u → guess x u ≡ never
+pub guess-far : (x : List ℕ) (u : ℕ) → length x ≡ 4096 → 4096 ≤ u → guess x u ≡ never
 unfolding guess
 guess-far x u n l = List·getD-eq-default x never (omega arith)
 
@@ -85,7 +85,7 @@ second-named : (t : Table) (j : ℕ) → secondOf t j < names t
 unfolding secondOf names at
 second-named t j = let l : getD (t .second) j 0 ≤ greatest (t .second) = at-greatest (t .second) j in omega arith
 
-touch-named : (t : Table) (j u : ℕ) → touches t j u ≡ true → u < names t
+pub touch-named : (t : Table) (j u : ℕ) → touches t j u ≡ true → u < names t
 touch-named t j u h = ⊎-elim (λ e. subst (λ (a : ℕ). a < names t) e (first-named t j)) (λ e. subst (λ (a : ℕ). a < names t) e (second-named t j)) (touch-cases t j u h)
 
 supporters-mono : (t : Table) (x x′ : ℕ → ℕ) (s c u : ℕ) → ((w : ℕ) → x w ≤ c → x′ w ≤ c) → supporters t x s c u ≤ supporters t x′ s c u

@@ -20,5 +20,7 @@ pub mod TimeLaws
 pub mod RecallLaws
 pub mod PlaceLaws
 pub mod ClosingLaws
+pub mod AlongLaws
+pub mod SettleLaws
 pub mod ArchiveLaws
 pub mod Demand2

@@ -4,7 +4,6 @@
 -- Assumes nothing.
 use Prim.Native.Nat.{ℕ, zero, suc, _+_, _-_, _*_, _≤_, _<_}
 use native.Mathlib.Nat.{le-refl, le-trans, eq-or-lt-of-le}
-use native.Mathlib.Numerals.{add-one}
 use native.Mathlib.Omega.{arith}
 use mathlib.Core.Path.{_≡_, refl, sym, _∙_, ap, subst}
 use mathlib.Core.Logic.{_⊎_, ⊎-elim}
@@ -19,7 +18,7 @@ use Rattle.rings.specs.Ring.{touches}
 use Rattle.rings.specs.Inner.Links.{pickOther, otherOf, rank, placeOf, earlier, fresh}
 use Rattle.rings.specs.Inner.Peeling.{Lost, Season, Ready, query, Falling, Walking}
 use Rattle.rings.proofs.WordLaws.{look, clash}
-use Rattle.rings.proofs.LinkLaws.{rank-yes, rank-less, none-between, NthRow, nth-row, place-step, places-most, entry-below}
+use Rattle.rings.proofs.AlongLaws.{Along, along-last, along-start, along-out, along-place, along-few, along-row, along-touch, along-from, along-none, along-next, along-fresh, along-fresh-place, along-other}
 use Rattle.rings.proofs.FallLaws.{room, walk-small, next-small, walk-lose-one, walk-lost, walk-skip, walk-end}
 
 -- what `is_fresh` returns
@@ -38,7 +37,7 @@ fresh-first {lo} {j} {e} {e′} h y l = sym (ap (λ (b : Bool). b and leb e lo) 
 pub record At (d f s : List ℕ) (q : Season) (e r head u p last : ℕ) (x l w : List ℕ) : Type 0 where
   pub b : ℕ
   pub state : Walking d f s q b e r head last u x l w
-  pub place : p ≡ placeOf (tableOf d f s) u + rank (tableOf d f s) u b
+  pub along : Along (tableOf d f s) u b p
 
 module _ (d f s links : List ℕ) (q : Season) (R : Ready d f s links q) where
   abbrev t : Table
@@ -49,11 +48,10 @@ module _ (d f s links : List ℕ) (q : Season) (R : Ready d f s links q) where
     at-small W = walk-small t (query (q .k)) (q .start) (q .end) (q .lo) (R .setting) W
 
     pub at-end : Walking d f s q 0 e r head last u x l w → {end : ℕ} → end ≡ getD links u 0 → end ≡ placeOf t (suc u)
-    at-end W e = e ∙ (R .linked .cursors u (at-small W) ∙ sym (place-step t u))
+    at-end W e = along-last d f s links (R .sound) (R .linked) (at-small W) e
 
     pub at-start : {p : ℕ} → Walking d f s q 0 e r head last u x l w → p ≡ getD links (4096 + u) 0 → At d f s q e r head u p last x l w
-    unfolding rank Rattle.rings.specs.Words.count
-    at-start {p} W ep = record { b = 0; state = W; place = let y = R .linked .starts u (at-small W) in omega arith }
+    at-start {p} W ep = record { b = 0; state = W; along = along-start d f s links (R .sound) (R .linked) (at-small W) ep }
 
     module _ {p end : ℕ} (A : At d f s q e r head u p last x l w) (ee : end ≡ placeOf t (suc u)) where
       small : u < 4096
@@ -61,48 +59,34 @@ module _ (d f s links : List ℕ) (q : Season) (R : Ready d f s links q) where
 
       -- the loop ends: no row of u from b on
       pub at-out : end ≤ p → Falling d f s q 4096 e r (head + 1) last x l w
-      at-out h =
-          walk-end t (query (q .k)) (q .start) (q .end) (q .lo) (R .setting) (A .state)
-          (λ i a c k. ⊎-elim (λ y. let m : rank t u i < rank t u (length d) = rank-less t u i (length d) y k in let o = A .place in let g = place-step t u in let z : rank t u (A .b) ≤ rank t u i = Rattle.rings.proofs.LinkLaws.rank-mono t u (A .b) i a in absurd (omega arith)) (λ y. y) (look (touches t i u)))
+      at-out h = walk-end t (query (q .k)) (q .start) (q .end) (q .lo) (R .setting) (A .state) (λ i a c k. along-out d f s links (R .sound) (R .linked) small (A .along) ee h i a k)
 
       module _ (more : p < end) where
         pub at-place : 8192 + p < length links
-        at-place = let a = places-most t (suc u) in let b = R .linked .long in omega arith
+        at-place = along-place d f s links (R .sound) (R .linked) small (A .along) ee more
 
         pub at-few : p < 32768
-        at-few = let a = places-most t (suc u) in let b = R .sound .most in omega arith
-
-        -- the row at place p
-        nth : NthRow t u (length d) (rank t u (A .b))
-        nth = nth-row t u (length d) (rank t u (A .b)) (let a = A .place in let b = place-step t u in omega arith)
+        at-few = along-few d f s links (R .sound) (R .linked) small (A .along) ee more
 
         module _ {j : ℕ} (ej : j ≡ getD links (8192 + p) 0) where
-          row-is : j ≡ nth .row
-          row-is = ej ∙ (ap (λ (c : ℕ). getD links c 0) (let a = A .place in let b = nth .ranked in let g : 8192 + p ≡ 8192 + (placeOf t u + rank t u (nth .row)) = omega arith in g) ∙ R .linked .book u (nth .row) small (nth .below) (nth .touch))
-
           pub row-below : j < length d
-          row-below = let a = row-is in let b = nth .below in omega arith
+          row-below = along-row d f s links (R .sound) (R .linked) small (A .along) ee more ej
 
           row-touch : touches t j u ≡ true
-          row-touch = subst (λ (c : ℕ). touches t c u ≡ true) (sym row-is) (nth .touch)
-
-          row-rank : rank t u (A .b) ≡ rank t u j
-          row-rank = sym (nth .ranked) ∙ ap (rank t u) (sym row-is)
+          row-touch = along-touch d f s links (R .sound) (R .linked) small (A .along) ee more ej
 
           row-from : A .b ≤ j
-          row-from = ⊎-elim (λ y. leb-true (A .b) j y) (λ y. let m : rank t u j < rank t u (A .b) = rank-less t u j (A .b) row-touch (leb-false (A .b) j y) in let g = row-rank in absurd (omega arith)) (look (leb (A .b) j))
+          row-from = along-from d f s links (R .sound) (R .linked) small (A .along) ee more ej
 
           row-none : (i : ℕ) → A .b ≤ i → i < j → touches t i u ≡ false
-          row-none = none-between t u (A .b) j row-rank
+          row-none = along-none d f s links (R .sound) (R .linked) small (A .along) ee more ej
 
           -- rows rise: this one, and so every later one, has left
           pub at-stop : r ≤ j → Falling d f s q 4096 e r (head + 1) last x l w
           at-stop h = walk-end t (query (q .k)) (q .start) (q .end) (q .lo) (R .setting) (A .state) (λ i a c k. row-none i a (le-trans c h))
 
-          -- what `is_fresh` answers
           at-fresh : {b : Bool} → b ≡ (leb (q .lo) j and leb (getD links (8192 + 2 * length d + j) 0) (q .lo)) → b ≡ fresh t (q .lo) j
-          unfolding fresh
-          at-fresh h = h ∙ ap (λ (c : ℕ). leb (q .lo) j and leb c (q .lo)) (R .linked .pairs j row-below)
+          at-fresh h = along-fresh d f s links (R .sound) (R .linked) small (A .along) ee more ej (q .lo) h
 
           pub at-fresh-yes : {b : Bool} → b ≡ (leb (q .lo) j and leb (getD links (8192 + 2 * length d + j) 0) (q .lo)) → b ≡ true → fresh t (q .lo) j ≡ true
           at-fresh-yes h y = sym (at-fresh h) ∙ y
@@ -111,18 +95,17 @@ module _ (d f s links : List ℕ) (q : Season) (R : Ready d f s links q) where
           at-fresh-no h y = sym (at-fresh h) ∙ y
 
           pub at-fresh-place : (length d ≤ 16384) × (j < length d) × (8192 + 2 * length d + j < length links)
-          at-fresh-place = let a = R .linked .long in let b = row-below in (R .sound .most, b, omega arith)
+          at-fresh-place = along-fresh-place d f s links (R .sound) (R .linked) small (A .along) ee more ej
 
-          next-place : p + 1 ≡ placeOf t u + rank t u (j + 1)
-          next-place = let a = A .place in let b = row-rank in let c : rank t u (j + 1) ≡ suc (rank t u j) = ap (rank t u) (add-one j) ∙ rank-yes t u j row-touch in omega arith
+          next-along : Along t u (j + 1) (p + 1)
+          next-along = along-next d f s links (R .sound) (R .linked) small (A .along) ee more ej
 
           pub at-skip : fresh t (q .lo) j ≡ false → At d f s q e r head u (p + 1) last x l w
-          at-skip h = record { b = j + 1; state = walk-skip t (query (q .k)) (q .start) (q .end) (q .lo) (R .setting) (A .state) j row-from row-below row-touch row-none h; place = next-place }
+          at-skip h = record { b = j + 1; state = walk-skip t (query (q .k)) (q .start) (q .end) (q .lo) (R .setting) (A .state) j row-from row-below row-touch row-none h; along = next-along }
 
           module _ {a c v : ℕ} (ea : a ≡ getD f j 0) (ec : c ≡ getD s j 0) (ev : v ≡ pickOther (eqb a u) a c) (left : j < r) (h : fresh t (q .lo) j ≡ true) where
             v-is : v ≡ otherOf t j u
-            unfolding otherOf firstOf secondOf at
-            v-is = ev ∙ (ap (λ (y : ℕ). pickOther (eqb y u) y c) ea ∙ ap (λ (y : ℕ). pickOther (eqb (getD f j 0) u) (getD f j 0) y) ec)
+            v-is = along-other d f s links (R .sound) (R .linked) small (A .along) ee more ej ea ec ev
 
             v-small : v < 4096
             v-small = subst (λ (y : ℕ). y < 4096) (sym v-is) (next-small t (query (q .k)) (q .start) (q .end) (q .lo) (R .setting) (A .state) j row-from row-below row-touch row-none)
@@ -138,4 +121,4 @@ module _ (d f s links : List ℕ) (q : Season) (R : Ready d f s links q) where
 
             pub at-lose : {x′ l′ w′ : List ℕ} {last′ : ℕ} → Lost (q .k) e last v x l w x′ l′ w′ last′ → At d f s q e r head u (p + 1) last′ x′ l′ w′
             at-lose {x′} {l′} {w′} {last′} L =
-                record { b = j + 1; place = next-place; state = walk-lost t (query (q .k)) (q .start) (q .end) (q .lo) (R .setting) (A .state) j row-from row-below row-touch row-none left h (subst (λ (y : ℕ). Lost (q .k) e last y x l w x′ l′ w′ last′) v-is L) }
+                record { b = j + 1; along = next-along; state = walk-lost t (query (q .k)) (q .start) (q .end) (q .lo) (R .setting) (A .state) j row-from row-below row-touch row-none left h (subst (λ (y : ℕ). Lost (q .k) e last y x l w x′ l′ w′ last′) v-is L) }

@@ -5,3 +5,4 @@ pub mod Support
 pub mod Peeling
 pub mod Recalling
 pub mod Closing
+pub mod Settling

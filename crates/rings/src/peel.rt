@@ -15,7 +15,7 @@ use crate::links::other;
 use crate::links::put;
 
 // Row j is the first of its pair from row lo on: it brings a new neighbour.
-fn is_fresh(links: &[u16], n: usize, lo: usize, j: usize) -> bool
+pub fn is_fresh(links: &[u16], n: usize, lo: usize, j: usize) -> bool
     requires { ⌜ (n ≤ 16384) × (j < n) × (8192 + 2 * n + j < length (now links)) ⌝ }
     ensures { λ r. ⌜ r ≡ (leb lo j and leb (getD (now (links .entry)) (8192 + 2 * n + j) 0) lo) ⌝ }
 {

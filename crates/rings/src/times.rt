@@ -21,7 +21,7 @@ use crate::refusal::Verdict;
 use crate::table::rows_before;
 
 // The greater of two numbers.
-fn greater(a: u16, b: u16) -> u16
+pub fn greater(a: u16, b: u16) -> u16
     ensures { λ r. ⌜ r ≡ Prim.Native.Nat.max a b ⌝ }
 {
     if a < b { b } else { a }

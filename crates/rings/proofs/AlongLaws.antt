@@ -1,0 +1,92 @@
+-- A walk over the rows of an account, in the book that `link` made: p is a place in it, and the rows of u below b are passed.
+--     Along          p stands behind the rows of u below b
+--     along-start, along-last    the first place, and one past the last
+--     along-out      at the end no row of u is left
+--     along-place, along-few     a place before the end lies in the book
+--     along-row, along-touch, along-from, along-none    the row there is the next of u from b on
+--     along-next     and the walk goes on behind it
+--     along-fresh, along-fresh-place, along-other    what the code reads of that row
+-- Assumes nothing.
+use Prim.Native.Nat.{ℕ, suc, _+_, _*_, _≤_, _<_}
+use native.Mathlib.Omega.{arith}
+use mathlib.Core.Path.{_≡_, sym, _∙_, ap, subst}
+use mathlib.Core.Logic.{⊎-elim}
+use mathlib.Core.Bool.{Bool, true, false}
+use mathlib.Core.List.{List}
+use lib.ListN.{length, getD}
+use lib.Dec.{leb, eqb}
+use borrow.Author.Tests.{leb-true, leb-false}
+use Rattle.rings.specs.Words.{_and_, at, count}
+use Rattle.rings.specs.Table.{Table, tableOf, size, firstOf, secondOf}
+use Rattle.rings.specs.Ring.{touches}
+use Rattle.rings.specs.Inner.Sound.{Sound}
+use Rattle.rings.specs.Inner.Links.{pickOther, otherOf, rank, placeOf, fresh, Linked}
+use Rattle.rings.proofs.WordLaws.{look}
+use Rattle.rings.proofs.LinkLaws.{rank-yes, rank-mono, rank-less, none-between, NthRow, nth-row, places-most, place-step}
+
+pub record Along (t : Table) (u b p : ℕ) : Type 0 where
+  pub place : p ≡ placeOf t u + rank t u b
+
+add-one : (j : ℕ) → j + 1 ≡ suc j
+add-one j = omega arith
+
+module _ (d f s links : List ℕ) (S : Sound d f s) (L : Linked (tableOf d f s) links) {u : ℕ} (small : u < 4096) where
+  abbrev t : Table
+  t = tableOf d f s
+
+  pub along-last : {end : ℕ} → end ≡ getD links u 0 → end ≡ placeOf t (suc u)
+  along-last e = e ∙ (L .cursors u small ∙ sym (place-step t u))
+
+  pub along-start : {p : ℕ} → p ≡ getD links (4096 + u) 0 → Along t u 0 p
+  unfolding rank count
+  along-start e = record { place = let y = L .starts u small in omega arith }
+
+  module _ {b p end : ℕ} (A : Along t u b p) (ee : end ≡ placeOf t (suc u)) where
+    pub along-out : end ≤ p → (i : ℕ) → b ≤ i → i < length d → touches t i u ≡ false
+    along-out h i a k =
+        ⊎-elim (λ y. let m : rank t u i < rank t u (length d) = rank-less t u i (length d) y k in let o = A .place in let g = place-step t u in let z = rank-mono t u b i a in absurd (omega arith)) (λ y. y) (look (touches t i u))
+
+    module _ (more : p < end) where
+      pub along-place : 8192 + p < length links
+      along-place = let a = places-most t (suc u) in let c = L .long in omega arith
+
+      pub along-few : p < 32768
+      along-few = let a = places-most t (suc u) in let c = S .most in omega arith
+
+      nth : NthRow t u (length d) (rank t u b)
+      nth = nth-row t u (length d) (rank t u b) (let a = A .place in let c = place-step t u in omega arith)
+
+      module _ {j : ℕ} (ej : j ≡ getD links (8192 + p) 0) where
+        row-is : j ≡ nth .row
+        row-is = ej ∙ (ap (λ (c : ℕ). getD links c 0) (let a = A .place in let c = nth .ranked in let g : 8192 + p ≡ 8192 + (placeOf t u + rank t u (nth .row)) = omega arith in g) ∙ L .book u (nth .row) small (nth .below) (nth .touch))
+
+        pub along-row : j < length d
+        along-row = let a = row-is in let c = nth .below in omega arith
+
+        pub along-touch : touches t j u ≡ true
+        along-touch = subst (λ (c : ℕ). touches t c u ≡ true) (sym row-is) (nth .touch)
+
+        row-rank : rank t u b ≡ rank t u j
+        row-rank = sym (nth .ranked) ∙ ap (rank t u) (sym row-is)
+
+        pub along-from : b ≤ j
+        along-from = ⊎-elim (λ y. leb-true b j y) (λ y. let m : rank t u j < rank t u b = rank-less t u j b along-touch (leb-false b j y) in let g = row-rank in absurd (omega arith)) (look (leb b j))
+
+        pub along-none : (i : ℕ) → b ≤ i → i < j → touches t i u ≡ false
+        along-none = none-between t u b j row-rank
+
+        pub along-next : Along t u (j + 1) (p + 1)
+        along-next = record { place = let a = A .place in let c = row-rank in let g : rank t u (j + 1) ≡ suc (rank t u j) = ap (rank t u) (add-one j) ∙ rank-yes t u j along-touch in omega arith }
+
+        -- what `is_fresh` answers, and what it reads
+        pub along-fresh : (lo : ℕ) {y : Bool} → y ≡ (leb lo j and leb (getD links (8192 + 2 * length d + j) 0) lo) → y ≡ fresh t lo j
+        unfolding fresh
+        along-fresh lo h = h ∙ ap (λ (c : ℕ). leb lo j and leb c lo) (L .pairs j along-row)
+
+        pub along-fresh-place : (length d ≤ 16384) × (j < length d) × (8192 + 2 * length d + j < length links)
+        along-fresh-place = let a = L .long in let c = along-row in (S .most, c, omega arith)
+
+        -- the other account of the row
+        pub along-other : {a c v : ℕ} → a ≡ getD f j 0 → c ≡ getD s j 0 → v ≡ pickOther (eqb a u) a c → v ≡ otherOf t j u
+        unfolding otherOf firstOf secondOf at
+        along-other {a} {c} ea ec ev = ev ∙ (ap (λ (y : ℕ). pickOther (eqb y u) y c) ea ∙ ap (λ (y : ℕ). pickOther (eqb (getD f j 0) u) (getD f j 0) y) ec)
