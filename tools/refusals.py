@@ -84,10 +84,10 @@ def try_edit(copy, crate, path, clean):
 
 
 class Pool:
-    """Two copies of the crates, each worked in by one thread; jobs go to whoever is free."""
+    """Two copies of the crates, each worked in by one thread. Who is free takes the first job that waits for nothing."""
 
     def __init__(self):
-        self.lock, self.jobs, self.refused, self.failed = threading.Lock(), [], 0, 0
+        self.turn, self.refused, self.failed, self.warm = threading.Condition(), 0, 0, set()
         self.copies = [os.path.join(WORK, str(i)) for i in range(2)]
         for copy in self.copies:
             os.makedirs(copy)
@@ -98,6 +98,7 @@ class Pool:
                     shutil.copytree(os.path.join(ROOT, "target", part), os.path.join(copy, "target", part))
 
     def run(self, jobs):
+        """A job is the crate that must have been checked, or None; the crate that it checks, or None; what it does."""
         self.jobs = list(jobs)
         threads = [threading.Thread(target=self.work, args=(copy,)) for copy in self.copies]
         for t in threads:
@@ -105,17 +106,28 @@ class Pool:
         for t in threads:
             t.join()
 
+    def take(self):
+        with self.turn:
+            while self.jobs:
+                for i, (after, _, _) in enumerate(self.jobs):
+                    if after is None or after in self.warm:
+                        return self.jobs.pop(i)
+                self.turn.wait()
+            return None
+
     def work(self, copy):
         while True:
-            with self.lock:
-                if not self.jobs:
-                    return
-                job = self.jobs.pop(0)
+            taken = self.take()
+            if taken is None:
+                return
+            _, checks, job = taken
             good, what = job(copy)
-            with self.lock:
+            with self.turn:
                 print("refusals: " + what, flush=True)
                 self.refused += good is True
                 self.failed += good is False
+                self.warm.add(checks)
+                self.turn.notify_all()
 
 
 def warm(crate):
@@ -147,9 +159,14 @@ def main():
     todo = [(c, n, p) for c in crates() for n, p in edits(c) if not wanted or c in wanted or "%s/%s" % (c, n) in wanted]
     shutil.rmtree(WORK, ignore_errors=True)
     pool = Pool()
-    # rings costs as much as all the others together, so it goes first
-    pool.run(warm(c) for c in sorted({c for c, _, _ in todo}, key=lambda c: (c != "rings", crates().index(c))))
-    pool.run(trial(*one) for one in todo)
+    # rings takes longest to check as it is: it goes first, and its edits last
+    named = [c for c in crates() if any(c == one[0] for one in todo)]
+    jobs = [(None, "rings", warm("rings"))] if "rings" in named else []
+    for crate in [c for c in named if c != "rings"]:
+        jobs.append((None, crate, warm(crate)))
+        jobs += [(crate, None, trial(*one)) for one in todo if one[0] == crate]
+    jobs += [("rings", None, trial(*one)) for one in todo if one[0] == "rings"]
+    pool.run(jobs)
     shutil.rmtree(WORK, ignore_errors=True)
     print("refusals: %d refused, %d failed" % (pool.refused, pool.failed))
     sys.exit(1 if pool.failed or not pool.refused else 0)

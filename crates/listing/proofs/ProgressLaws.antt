@@ -1,6 +1,6 @@
 -- The loops over the ends of a start and over the starts of a range, and the call (src/list.rt).
 --     progress-start, progress-next, progress-end, enter-lengths     entries counted, summed up and written, one after the other
---     sum-next, ends-skip, ends-one, ends-end, start-as     the ends of a start
+--     sum-next, ends-none, ends-skip, ends-one, ends-end, start-as     the ends of a start
 --     rest-first, rest-next, rest-end                 the starts of a range
 --     room-most, room-counted                         what `has_room` returns
 --     find-refused, find-done                         what `find_rings` returns
@@ -9,6 +9,7 @@
 use Prim.Native.Nat.{ℕ, zero, suc, _+_, _-_, _≤_, _<_}
 use native.Mathlib.Omega.{arith}
 use mathlib.Core.Path.{_≡_, refl, sym, _∙_, ap, subst}
+use mathlib.Core.Logic.{⊎-elim}
 use mathlib.Core.Bool.{Bool, true, false}
 use mathlib.Core.List.{List, [], _∷_, _++_, append-assoc, append-nil, map}
 use lib.ListN.{length, getD, set, drop, replicate, length-append, length-map, length-drop, length-set}
@@ -27,12 +28,14 @@ use Rattle.rings.specs.declared.refusal.Refusal.{Refusal}
 use Rattle.rings.specs.declared.refusal.Refusal.the-variants.{BadWindow, BadLengths, NoRoom}
 use Rattle.rings.specs.declared.refusal.Verdict.{Verdict}
 use Rattle.rings.specs.declared.refusal.Verdict.the-variants.{Accepted, Refused}
+use Rattle.rings.proofs.WordLaws.{look, and-r}
 use Rattle.rings.proofs.CallLaws.{shared, scratch-kept}
 use Rattle.listing.specs.Tight.{tight}
 use Rattle.listing.specs.Listing.{ListedRing, entryOf, listing, rowSum}
 use Rattle.listing.specs.ListingCall.{listingChecks, summed, listingAnswer, ringColumn, listingStarts, listingEnds, listingRows, listingScratch}
 use Rattle.listing.specs.LongestList.{longest, daysOf}
-use Rattle.listing.specs.Inner.{startEntries, restFrom, Timed, Earliest, sumOf, countEntries, Entering, columnOf, Progress}
+use Rattle.listing.specs.Inner.{startEntries, restFrom, Earliest, sumOf, countEntries, Entering, columnOf, Progress}
+use Rattle.rings.specs.Inner.Turning.{Timed}
 use Rattle.listing.specs.declared.Listed.{Listed}
 use Rattle.listing.proofs.CountLaws.{listing-most}
 use Rattle.listing.proofs.StartLaws.{entries-are}
@@ -177,6 +180,17 @@ module _ (xs : List ℕ) (least s te e total : ℕ) (o : e ≤ te) where
     pub ends-one : b ≡ true → room ≤ length u → length v ≡ length u → length w ≡ length u → {u′ v′ w′ : List ℕ} → Entering room n s e (total + added) u v w u′ v′ w′ → Progress room goal (later ++ rest) (n + 1) (sum + (total + added)) x y z u′ v′ w′
     unfolding kept
     ends-one h r ev ew E = progress-next here r ev ew (progress-as (ap (λ (ls : List ListedRing). ls ++ rest) (entries-next ∙ ap (λ (c : Bool). kept c here later) (sym eb ∙ h))) P) E
+
+-- no end before the least time is listed
+none-listed : (xs : List ℕ) (least s e total m : ℕ) → e + m ≤ least → countEntries xs least s e total m ≡ []
+unfolding countEntries kept
+none-listed xs least s e total zero h = refl
+none-listed xs least s e total (suc m) h =
+    ap (λ (b : Bool). kept b (record { start = s; end = e; rows = total + at xs e }) (countEntries xs least s (suc e) (total + at xs e) m)) (⊎-elim (λ y. let k = leb-true least e (and-r (ltb 0 (at xs e)) (leb least e) y) in absurd (omega arith)) (λ y. y) (look (ltb 0 (at xs e) and leb least e)))
+    ∙ none-listed xs least s (suc e) (total + at xs e) m (omega arith)
+
+pub ends-none : (xs : List ℕ) (least s te : ℕ) → te < least → s ≤ te → {room n sum : ℕ} {goal : List ListedRing} (rest : List ListedRing) {x y z u v w : List ℕ} → Progress room goal (countEntries xs least s s 0 (te + 1 - s) ++ rest) n sum x y z u v w → Progress room goal rest n sum x y z u v w
+ends-none xs least s te h o rest P = progress-as (ap (λ (ls : List ListedRing). ls ++ rest) (none-listed xs least s s 0 (te + 1 - s) (omega arith))) P
 
 pub ends-end : (xs : List ℕ) (least s te e total : ℕ) → te < e → {room n sum : ℕ} {goal : List ListedRing} (rest : List ListedRing) {x y z u v w : List ℕ} → Progress room goal (countEntries xs least s e total (te + 1 - e) ++ rest) n sum x y z u v w → Progress room goal rest n sum x y z u v w
 unfolding countEntries

@@ -1,7 +1,5 @@
 -- The entries of one start, from its core times (src/list.rt).
---     timed-start, timed-room, timed-next, timed-end     rows counted by core time: `count_times`
---     Least, least-start, least-next, lo-next, least-end     the least core time of the rows dated s: `first_time`
---     scan-on                  `rows_through` begins where the rows before s end
+--     Least, least-start, least-next, least-end     the least core time of the rows dated s: `first_time`
 --     listed-no, listed-by, listed-is      the two tests of `is_listed`: they say that [s, e] is tight
 --     entries-are, sum-small   the counts give the entries of the start; they sum up to no more than the rows
 -- Assumes nothing.
@@ -12,27 +10,23 @@ use mathlib.Core.Path.{_≡_, refl, sym, _∙_, ap}
 use mathlib.Core.Logic.{_⊎_, ⊎-elim}
 use mathlib.Core.Bool.{Bool, true, false}
 use mathlib.Core.List.{List, map}
-use lib.ListN.{length, getD, set, replicate, length-set, length-replicate, getD-replicate}
-use lib.Seq.{getD-set-same, getD-set-other}
+use lib.ListN.{length, getD}
 use lib.Dec.{leb, ltb, eqb}
-use borrow.Author.Tests.{ltb-true, ltb-false, leb-true, leb-false, eqb-true, eqb-false, lt-ltb, le-ltb, le-leb, lt-leb, eq-eqb, ne-eqb}
-use Rattle.rings.specs.Words.{_and_, at, count, tally, run, kept, chosen}
+use borrow.Author.Tests.{ltb-true, ltb-false, leb-true, leb-false, eqb-true, lt-ltb, le-ltb, le-leb, lt-leb, eq-eqb, ne-eqb}
+use Rattle.rings.specs.Words.{_and_, at, count, run, kept, chosen}
 use Rattle.rings.specs.Table.{Table, tableOf, size, dayOf}
 use Rattle.rings.specs.Ring.{ring, members}
 use Rattle.rings.specs.CoreTimes.{never, rowTime}
 use Rattle.rings.specs.Windows.{Window, windowsFrom}
-use Rattle.rings.specs.Inner.Peeling.{Season, Ready, Span, Split, query}
+use Rattle.rings.specs.Inner.Peeling.{Season, Ready, Split, query}
+use Rattle.rings.specs.Inner.Turning.{Timed}
 use Rattle.rings.specs.declared.Query.{Query}
 use Rattle.rings.proofs.WordLaws.{look, and-i, and-l, and-r, same-truth, tally-yes, tally-no, count-le, count-same, count-none, count-pos, count-some}
-use Rattle.rings.proofs.CoreTimeLaws.{row-time, row-before, row-after, row-past, ring-size}
-use Rattle.rings.proofs.DayLaws.{Scan}
+use Rattle.rings.proofs.CoreTimeLaws.{row-time, row-past, ring-size}
 use Rattle.listing.specs.Tight.{tight}
 use Rattle.listing.specs.Listing.{ListedRing, entryOf}
-use Rattle.listing.specs.Inner.{startEntries, Timed, Adding, DatedTime, Earliest, sumOf, countEntries}
+use Rattle.listing.specs.Inner.{startEntries, DatedTime, Earliest, sumOf, countEntries}
 use Rattle.listing.proofs.TightLaws.{tight-times, times-tight}
-
-plus-one : (a : ℕ) → a + 1 ≡ suc a
-plus-one a = omega arith
 
 one-more : (p : ℕ → Bool) (n : ℕ) → p n ≡ true → count p (suc n) ≡ suc (count p n)
 unfolding count
@@ -41,68 +35,6 @@ one-more p n h = tally-yes (count p n) h
 no-more : (p : ℕ → Bool) (n : ℕ) → p n ≡ false → count p (suc n) ≡ count p n
 unfolding count
 no-more p n h = tally-no (count p n) h
-
--- where no number from n on passes, the count stays
-count-stays : (p : ℕ → Bool) (n m : ℕ) → n ≤ m → ((j : ℕ) → n ≤ j → j < m → p j ≡ false) → count p m ≡ count p n
-count-stays p n zero h f = let e : n ≡ 0 = omega arith in rw e refl
-count-stays p n (suc m) h f =
-    ⊎-elim (λ e. rw e refl) (λ l. no-more p m (f m (omega arith) (omega arith)) ∙ count-stays p n m (omega arith) (λ j a b. f j a (omega arith))) (eq-or-lt-of-le h)
-
--- ---- rows by core time
-
-module _ (t : Table) (q : Query) (hi s : ℕ) where
-  -- a row without a core time is in no count
-  never-no : (j e : ℕ) → e < 1025 → rowTime t q hi s j ≡ never → eqb (rowTime t q hi s j) e ≡ false
-  never-no j e l h = ne-eqb (rowTime t q hi s j) e (λ y. omega arith)
-
-  pub timed-next : {j time : ℕ} {xs xs′ : List ℕ} → Timed t q hi s j xs → time ≡ rowTime t q hi s j → Adding time xs xs′ → Timed t q hi s (j + 1) xs′
-  timed-next {j} {time} {xs} {xs′} T et (Adding.pass h e) =
-      record {
-        long = ap length e ∙ T .long;
-        each = λ d l. ap (λ (ys : List ℕ). getD ys d 0) e ∙ (T .each d l ∙ sym (ap (count (λ i. eqb (rowTime t q hi s i) d)) (plus-one j) ∙ no-more (λ i. eqb (rowTime t q hi s i) d) j (never-no j d l (sym et ∙ h))));
-      }
-  timed-next {j} {time} {xs} {xs′} T et (Adding.one h e) =
-      record { long = ap length e ∙ (length-set xs time (getD xs time 0 + 1) ∙ T .long); each = now }
-    where
-      now : (d : ℕ) → d < 1025 → getD xs′ d 0 ≡ count (λ i. eqb (rowTime t q hi s i) d) (j + 1)
-      now d l =
-          ⊎-elim
-          (λ y.
-          let d-is : time ≡ d = et ∙ eqb-true (rowTime t q hi s j) d y in
-          ap (λ (ys : List ℕ). getD ys d 0) e
-          ∙ (ap (λ (c : ℕ). getD (set xs time (getD xs time 0 + 1)) c 0) (sym d-is)
-          ∙ (getD-set-same xs time (getD xs time 0 + 1) 0 (let k = T .long in omega arith)
-          ∙ (ap (λ (c : ℕ). getD xs c 0 + 1) d-is
-          ∙ (ap (λ (c : ℕ). c + 1) (T .each d l) ∙ (plus-one (count (λ i. eqb (rowTime t q hi s i) d) j) ∙ sym (ap (count (λ i. eqb (rowTime t q hi s i) d)) (plus-one j) ∙ one-more (λ i. eqb (rowTime t q hi s i) d) j y)))))))
-          (λ y.
-          ap (λ (ys : List ℕ). getD ys d 0) e
-          ∙ (getD-set-other xs time d (getD xs time 0 + 1) 0 (λ i. eqb-false (rowTime t q hi s j) d y (sym (i ∙ et)))
-          ∙ (T .each d l ∙ sym (ap (count (λ i. eqb (rowTime t q hi s i) d)) (plus-one j) ∙ no-more (λ i. eqb (rowTime t q hi s i) d) j y)))) (look (eqb (rowTime t q hi s j) d))
-
-  pub timed-room : {j time : ℕ} {xs : List ℕ} → hi ≤ 1024 → j < 16384 → Timed t q hi s j xs → time ≡ rowTime t q hi s j → (time ≡ never → ⊥) → (time < 1025) × (getD xs time 0 < 16384)
-  timed-room {j} {time} {xs} top l T et h =
-      let small : time < 1025 = ⊎-elim (λ n. absurd (h (et ∙ n))) (λ d. let y = d .1 in omega arith) (row-time t q hi s j) in
-      let each = T .each time small in
-      let most = count-le (λ i. eqb (rowTime t q hi s i) time) j in
-      (small, omega arith)
-
-module _ {d f s links : List ℕ} {p : Season} (R : Ready d f s links p) where
-  pub timed-start : {xs : List ℕ} (n : ℕ) → n ≡ 1025 → xs ≡ replicate n 0 → Timed (tableOf d f s) (query (p .k)) (p .end) (p .start) (p .lo) xs
-  timed-start {xs} n en e =
-      record {
-        long = ap length e ∙ (length-replicate {A = ℕ} n 0 ∙ en);
-        each = λ c l. ap (λ (ys : List ℕ). getD ys c 0) e ∙ (getD-replicate n c 0 0 (omega arith) ∙ sym (count-none (λ i. eqb (rowTime (tableOf d f s) (query (p .k)) (p .end) (p .start) i) c) (p .lo)
-            (λ i b. never-no (tableOf d f s) (query (p .k)) (p .end) (p .start) i c l (row-before (tableOf d f s) (query (p .k)) (p .end) (p .start) i (R .setting .before-lo i b)))));
-      }
-
-  pub timed-end : {j end : ℕ} {xs : List ℕ} → Span d (p .end) (p .lo) end → j ≤ end → end ≤ j → Timed (tableOf d f s) (query (p .k)) (p .end) (p .start) j xs → Timed (tableOf d f s) (query (p .k)) (p .end) (p .start) (length d) xs
-  unfolding dayOf at
-  timed-end {j} {end} {xs} Sp a b T =
-      record {
-        long = T .long;
-        each = λ c l. T .each c l ∙ sym (count-stays (λ i. eqb (rowTime (tableOf d f s) (query (p .k)) (p .end) (p .start) i) c) j (length d) (let w = Sp .within in omega arith)
-            (λ i x y. never-no (tableOf d f s) (query (p .k)) (p .end) (p .start) i c l (row-after (tableOf d f s) (query (p .k)) (p .end) (p .start) i (Sp .later i (omega arith) y))));
-      }
 
 -- ---- the least core time of the rows dated s
 
@@ -126,13 +58,6 @@ least-next {f} {lo} {j} {r} {time} {r′} o L et er =
     which (_⊎_.inl y) = let a = leb-true r time y in old (omega arith) (L .reached)
     which (_⊎_.inr y) = let a = leb-false r time y in _⊎_.inr (j, o, omega arith, omega arith)
 
--- the rows dated s stand behind those before s
-pub lo-next : {d f s links : List ℕ} {p : Season} {end next : ℕ} → Ready d f s links p → Span d (p .end) (p .lo) end → Split d (p .start + 1) next → p .lo ≤ next
-unfolding dayOf at
-lo-next {p = p} {end = end} {next = next} R Sp N =
-    ⊎-elim (λ y. leb-true (p .lo) next y)
-    (λ y. let k = leb-false (p .lo) next y in let x = R .setting .before-lo next k in let o = Sp .ordered in let w = Sp .within in let z = N .after next (le-refl next) (omega arith) in absurd (omega arith)) (look (leb (p .lo) next))
-
 pub least-end : {d f s links : List ℕ} {p : Season} {j next r : ℕ} → Ready d f s links p → Split d (p .start + 1) next → j ≤ next → next ≤ j → Least (rowTime (tableOf d f s) (query (p .k)) (p .end) (p .start)) (p .lo) j r → Earliest (tableOf d f s) (query (p .k)) (p .end) (p .start) r
 unfolding dayOf at
 least-end {d} {f} {s} {links} {p} {j} {next} {r} R N a b L = record { lower = lower; reached = reach (L .reached) }
@@ -153,11 +78,6 @@ least-end {d} {f} {s} {links} {p} {j} {next} {r} R N a b L = record { lower = lo
         let v = R .setting .from-lo (w .0) (let g = N .within in omega arith) (w .1) in
         let e : getD d (w .0) 0 ≡ p .start = omega arith in
         _⊎_.inr (record { row = w .0; dated = e; time-is = w .3 })
-
--- ---- the rows through a day
-
-pub scan-on : {d : List ℕ} {s lo : ℕ} → Split d s lo → Scan d (s + 1) lo
-scan-on S = record { within = S .within; before = λ j h. let x = S .before j h in omega arith }
 
 -- ---- the ends of a start
 

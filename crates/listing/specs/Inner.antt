@@ -1,8 +1,6 @@
 -- What the steps of Listing promise (src/list.rt).
 --     startEntries t q hi s    the entries that start on s
 --     restFrom t q hi s        the entries that start on s or later
---     Timed t q hi s n xs      xs holds, for each day, how many of the first n rows have this core time at s
---     Adding time xs xs'       one row more with this core time
 --     Earliest t q hi s r      r is the least core time at s of the rows dated s, never if none has one
 --     sumOf xs e m             the sum of xs from e on, m numbers
 --     countEntries xs least s e total m    the entries of start s with an end from e on, m days, as the counts xs say; total rows have earlier core times
@@ -13,9 +11,9 @@ use Prim.Native.Nat.{ℕ, zero, suc, _+_, _-_, _≤_, _<_}
 use mathlib.Core.Path.{_≡_}
 use mathlib.Core.Logic.{_⊎_}
 use mathlib.Core.List.{List, [], _++_, map}
-use lib.ListN.{length, getD, set, take}
-use lib.Dec.{leb, ltb, eqb}
-use Rattle.rings.specs.Words.{_and_, at, count, run, joined, kept, chosen}
+use lib.ListN.{length, set, take}
+use lib.Dec.{leb, ltb}
+use Rattle.rings.specs.Words.{_and_, at, run, joined, kept, chosen}
 use Rattle.rings.specs.Table.{Table, dayOf}
 use Rattle.rings.specs.CoreTimes.{never, rowTime}
 use Rattle.rings.specs.Windows.{windowsFrom}
@@ -29,14 +27,6 @@ startEntries t q hi s = map (entryOf t q) (chosen (λ w. tight t q (w .start) (w
 
 unfoldable pub restFrom : Table → Query → ℕ → ℕ → List ListedRing
 restFrom t q hi s = joined (run (startEntries t q hi) s (suc hi - s))
-
-pub record Timed (t : Table) (q : Query) (hi s n : ℕ) (xs : List ℕ) : Type 0 where
-  pub long : length xs ≡ 1025
-  pub each : (e : ℕ) → e < 1025 → getD xs e 0 ≡ count (λ j. eqb (rowTime t q hi s j) e) n
-
-pub data Adding (time : ℕ) (xs xs′ : List ℕ) : Type 0 where
-  pass : time ≡ never → xs′ ≡ xs → Adding time xs xs′
-  one : (time ≡ never → ⊥) → xs′ ≡ set xs time (getD xs time 0 + 1) → Adding time xs xs′
 
 pub record DatedTime (t : Table) (q : Query) (hi s r : ℕ) : Type 0 where
   pub row : ℕ

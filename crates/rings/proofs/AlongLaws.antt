@@ -1,28 +1,33 @@
 -- A walk over the rows of an account, in the book that `link` made: p is a place in it, and the rows of u below b are passed.
 --     Along          p stands behind the rows of u below b
+--     other-sum      what `other` returns
 --     along-start, along-last    the first place, and one past the last
 --     along-out      at the end no row of u is left
 --     along-place, along-few     a place before the end lies in the book
 --     along-row, along-touch, along-from, along-none    the row there is the next of u from b on
 --     along-next     and the walk goes on behind it
---     along-fresh, along-fresh-place, along-other    what the code reads of that row
+--     ahead-start, ahead-place, ahead-next, places-few    a search by halving for the first row from lo on
+--     Begun, begun   a walk may begin there
+--     along-fresh, along-fresh-place, along-ends, along-other    what the code reads of that row
 -- Assumes nothing.
-use Prim.Native.Nat.{ℕ, suc, _+_, _*_, _≤_, _<_}
+use Prim.Native.Nat.{ℕ, suc, _+_, _-_, _*_, _≤_, _<_}
+use native.Mathlib.Nat.{le-refl}
 use native.Mathlib.Omega.{arith}
 use mathlib.Core.Path.{_≡_, sym, _∙_, ap, subst}
-use mathlib.Core.Logic.{⊎-elim}
+use mathlib.Core.Logic.{_⊎_, ⊎-elim}
 use mathlib.Core.Bool.{Bool, true, false}
 use mathlib.Core.List.{List}
 use lib.ListN.{length, getD}
 use lib.Dec.{leb, eqb}
-use borrow.Author.Tests.{leb-true, leb-false}
+use borrow.Author.Tests.{leb-true, leb-false, eqb-true, eqb-false}
 use Rattle.rings.specs.Words.{_and_, at, count}
 use Rattle.rings.specs.Table.{Table, tableOf, size, firstOf, secondOf}
 use Rattle.rings.specs.Ring.{touches}
 use Rattle.rings.specs.Inner.Sound.{Sound}
-use Rattle.rings.specs.Inner.Links.{pickOther, otherOf, rank, placeOf, fresh, Linked}
+use Rattle.rings.specs.Inner.Links.{pickOther, otherOf, rank, placeOf, fresh, Linked, Ahead}
 use Rattle.rings.proofs.WordLaws.{look}
-use Rattle.rings.proofs.LinkLaws.{rank-yes, rank-mono, rank-less, none-between, NthRow, nth-row, places-most, place-step}
+use Rattle.rings.proofs.RingLaws.{touch-cases}
+use Rattle.rings.proofs.LinkLaws.{rank-yes, rank-mono, rank-less, none-between, NthRow, nth-row, places-most, place-step, entry-below}
 
 pub record Along (t : Table) (u b p : ℕ) : Type 0 where
   pub place : p ≡ placeOf t u + rank t u b
@@ -86,7 +91,62 @@ module _ (d f s links : List ℕ) (S : Sound d f s) (L : Linked (tableOf d f s) 
         pub along-fresh-place : (length d ≤ 16384) × (j < length d) × (8192 + 2 * length d + j < length links)
         along-fresh-place = let a = L .long in let c = along-row in (S .most, c, omega arith)
 
-        -- the other account of the row
+        -- u is one of its accounts
+        pub along-ends : {a c : ℕ} → a ≡ getD f j 0 → c ≡ getD s j 0 → (a < 4096) × (c < 4096) × ((a ≡ u) ⊎ (c ≡ u))
+        unfolding firstOf secondOf at
+        along-ends ea ec = let x = S .rows j along-row .accounts in let y = S .rows j along-row .account-to in (omega arith, omega arith, ⊎-elim (λ e. _⊎_.inl (ea ∙ e)) (λ e. _⊎_.inr (ec ∙ e)) (touch-cases t j u along-touch))
+
+        -- the other
         pub along-other : {a c v : ℕ} → a ≡ getD f j 0 → c ≡ getD s j 0 → v ≡ pickOther (eqb a u) a c → v ≡ otherOf t j u
         unfolding otherOf firstOf secondOf at
         along-other {a} {c} ea ec ev = ev ∙ (ap (λ (y : ℕ). pickOther (eqb y u) y c) ea ∙ ap (λ (y : ℕ). pickOther (eqb (getD f j 0) u) (getD f j 0) y) ec)
+
+-- the rows of u below b are below lo, and p stands behind them
+pub record Begun (t : Table) (u lo p : ℕ) : Type 0 where
+  pub b : ℕ
+  pub within : b ≤ size t
+  pub along : Along t u b p
+  pub before : (i : ℕ) → i < b → touches t i u ≡ true → i < lo
+
+pub begun : {t : Table} {u lo p : ℕ} → Ahead t u lo p → Begun t u lo p
+begun {t} {u} {lo} {p} A =
+    ⊎-elim (λ y. let h = leb-true (placeOf t (suc u)) p y in let a = A .to in let g = place-step t u in
+    record { b = size t; within = le-refl (size t); along = record { place = omega arith }; before = λ i l k. A .before i l k (let m = entry-below t u i k l in omega arith) })
+    (λ y. let N = nth-row t u (size t) (p - placeOf t u) (let h = leb-false (placeOf t (suc u)) p y in let a = A .from in let g = place-step t u in omega arith) in
+    let a = A .from in let g = N .ranked in let w = N .below in
+    record { b = N .row; within = omega arith; along = record { place = omega arith }; before = λ i l k. A .before i (omega arith) k (let m = rank-less t u i (N .row) k l in omega arith) }) (look (leb (placeOf t (suc u)) p))
+
+module _ (d f s links : List ℕ) (S : Sound d f s) (L : Linked (tableOf d f s) links) {u : ℕ} (small : u < 4096) where
+  abbrev tb : Table
+  tb = tableOf d f s
+
+  pub ahead-start : {p : ℕ} (lo : ℕ) → p ≡ getD links (4096 + u) 0 → Ahead tb u lo p
+  ahead-start {p} lo e = let y = L .starts u small in let g = place-step tb u in record { from = omega arith; to = omega arith; before = λ i l k h. absurd (omega arith) }
+
+  pub places-few : placeOf tb (suc u) ≤ 32768
+  places-few = let y = places-most tb (suc u) in let c = S .most in omega arith
+
+  -- the row in the middle
+  module _ {lo low high middle : ℕ} (A : Ahead tb u lo low) (a : low ≤ middle) (b : middle < high) (top : high ≤ placeOf tb (suc u)) where
+    mid : NthRow tb u (length d) (middle - placeOf tb u)
+    mid = nth-row tb u (length d) (middle - placeOf tb u) (let c = A .from in let g = place-step tb u in omega arith)
+
+    pub ahead-place : 8192 + middle < length links
+    ahead-place = let y = places-most tb (suc u) in let c = L .long in omega arith
+
+    pub ahead-next : {j : ℕ} → j ≡ getD links (8192 + middle) 0 → j < lo → Ahead tb u lo (middle + 1)
+    ahead-next {j} ej h =
+        record {
+          from = let c = A .from in omega arith;
+          to = omega arith;
+          before = λ i l k o.
+              let is : j ≡ mid .row = ej ∙ (ap (λ (c : ℕ). getD links c 0) (let c = mid .ranked in let y = A .from in let g : 8192 + middle ≡ 8192 + (placeOf tb u + rank tb u (mid .row)) = omega arith in g) ∙ L .book u (mid .row) small (mid .below) (mid .touch)) in
+              ⊎-elim (λ y. let z = leb-true i (mid .row) y in omega arith) (λ y. let m = rank-less tb u (mid .row) i (mid .touch) (leb-false i (mid .row) y) in let c = mid .ranked in let z = A .from in absurd (omega arith)) (look (leb i (mid .row)));
+        }
+
+-- what `other` returns
+pub other-sum : {a b u r : ℕ} → (a ≡ u) ⊎ (b ≡ u) → r ≡ a + b - u → r ≡ pickOther (eqb a u) a b
+unfolding pickOther
+other-sum {a} {b} {u} {r} h e =
+    ⊎-elim (λ y. let g : r ≡ b = let z = eqb-true a u y in omega arith in g ∙ ap (λ (c : Bool). pickOther c a b) (sym y))
+    (λ y. let g : r ≡ a = ⊎-elim (λ z. absurd (eqb-false a u y z)) (λ z. omega arith) h in g ∙ ap (λ (c : Bool). pickOther c a b) (sym y)) (look (eqb a u))

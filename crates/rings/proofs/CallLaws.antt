@@ -109,10 +109,10 @@ module _ (t : Table) (q : Query) (lo hi : ℕ) (fits : hi < never) (rows starts 
   is-length : total ≡ length list
   is-length = et ∙ sym (list-length t q lo hi fits)
 
-  pub windows-full : {sc′ : List ℕ} → length rows < total → sc′ ≡ replicate (length sc) 0
-      → (Counted.Refused NoRoom ≡ counted (NoRoom when ltb (length rows) (length list)) (length list)) × ((rows ≡ minimalRows (Counted.Refused NoRoom) t q lo hi rows) × ((starts ≡ minimalStarts (Counted.Refused NoRoom) t q lo hi starts) × ((ends ≡ minimalEnds (Counted.Refused NoRoom) t q lo hi ends) × (sc′ ≡ countedScratch (Counted.Refused NoRoom) sc))))
+  pub windows-full : {sc′ rows′ starts′ ends′ : List ℕ} → length rows′ < total → (rows′ ≡ rows) × (starts′ ≡ starts) × (ends′ ≡ ends) → sc′ ≡ replicate (length sc) 0
+      → (Counted.Refused NoRoom ≡ counted (NoRoom when ltb (length rows) (length list)) (length list)) × ((rows′ ≡ minimalRows (Counted.Refused NoRoom) t q lo hi rows) × ((starts′ ≡ minimalStarts (Counted.Refused NoRoom) t q lo hi starts) × ((ends′ ≡ minimalEnds (Counted.Refused NoRoom) t q lo hi ends) × (sc′ ≡ countedScratch (Counted.Refused NoRoom) sc))))
   unfolding _when_ minimalRows minimalStarts minimalEnds entryColumn countedScratch scratchOn clearedIf cleared behindScratch
-  windows-full h es = (sym (counted-no (length list) (ap (λ (b : Bool). NoRoom when b) (lt-ltb (length rows) (length list) (subst (λ (n : ℕ). length rows < n) is-length h)))), (refl, (refl, (refl, es))))
+  windows-full h w es = (sym (counted-no (length list) (ap (λ (b : Bool). NoRoom when b) (lt-ltb (length rows) (length list) (subst (λ (n : ℕ). length rows < n) is-length (subst (λ (xs : List ℕ). length xs < total) (w .0) h))))), (w .0, (w .1, (w .2, es))))
 
   pub windows-found : {sc′ rows′ starts′ ends′ : List ℕ} → total ≤ length rows → (rows′ ≡ over (map (λ (x : Entry). x .row) list) rows) × (starts′ ≡ over (map (λ (x : Entry). x .start) list) starts) × (ends′ ≡ over (map (λ (x : Entry). x .end) list) ends) → sc′ ≡ replicate (length sc) 0
       → (Counted.Count total ≡ counted (NoRoom when ltb (length rows) (length list)) (length list)) × ((rows′ ≡ minimalRows (Counted.Count total) t q lo hi rows) × ((starts′ ≡ minimalStarts (Counted.Count total) t q lo hi starts) × ((ends′ ≡ minimalEnds (Counted.Count total) t q lo hi ends) × (sc′ ≡ countedScratch (Counted.Count total) sc))))

@@ -1,5 +1,5 @@
 -- Rows by day, in a table whose days never fall.
---     Scan, scan-next, scan-found, scan-end     the loop of `rows_before`
+--     Scan, scan-start, scan-on, scan-next, scan-found, scan-end     the loops of `rows_before` and `rows_through`
 --     span-after, span-of      the rows of a window
 --     setting-of     what peeling works on
 -- Assumes nothing.
@@ -27,6 +27,9 @@ pub record Scan (d : List ℕ) (day r : ℕ) : Type 0 where
 
 pub scan-start : (d : List ℕ) (day : ℕ) → Scan d day 0
 scan-start d day = record { within = omega arith; before = λ j h. absurd (not-suc-le-zero h) }
+
+pub scan-on : {d : List ℕ} {s lo : ℕ} → Split d s lo → Scan d (s + 1) lo
+scan-on S = record { within = S .within; before = λ j h. let k = S .before j h in omega arith }
 
 pub scan-next : {d : List ℕ} {day r : ℕ} → Scan d day r → r < length d → getD d r 0 < day → Scan d day (r + 1)
 scan-next {d} {day} {r} S l h = record { within = omega arith; before = λ j k. ⊎-elim (λ e. subst (λ (c : ℕ). getD d c 0 < day) (sym e) h) (λ o. S .before j o) (eq-or-lt-of-le (omega arith)) }

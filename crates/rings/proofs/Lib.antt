@@ -21,6 +21,12 @@ pub mod RecallLaws
 pub mod PlaceLaws
 pub mod ClosingLaws
 pub mod AlongLaws
+pub mod LookLaws
+pub mod LossLaws
 pub mod SettleLaws
+pub mod TurnLaws
+pub mod TallyLaws
+pub mod TreadLaws
+pub mod PassLaws
 pub mod ArchiveLaws
 pub mod Demand2

@@ -18,7 +18,7 @@ use Rattle.rings.specs.Ring.{touches}
 use Rattle.rings.specs.Inner.Links.{pickOther, otherOf, rank, placeOf, earlier, fresh}
 use Rattle.rings.specs.Inner.Peeling.{Lost, Season, Ready, query, Falling, Walking}
 use Rattle.rings.proofs.WordLaws.{look, clash}
-use Rattle.rings.proofs.AlongLaws.{Along, along-last, along-start, along-out, along-place, along-few, along-row, along-touch, along-from, along-none, along-next, along-fresh, along-fresh-place, along-other}
+use Rattle.rings.proofs.AlongLaws.{Along, along-last, along-start, along-out, along-place, along-few, along-row, along-touch, along-from, along-none, along-next, along-fresh, along-fresh-place, along-ends, along-other}
 use Rattle.rings.proofs.FallLaws.{room, walk-small, next-small, walk-lose-one, walk-lost, walk-skip, walk-end}
 
 -- what `is_fresh` returns
@@ -93,6 +93,9 @@ module _ (d f s links : List ℕ) (q : Season) (R : Ready d f s links q) where
 
           pub at-fresh-no : {b : Bool} → b ≡ (leb (q .lo) j and leb (getD links (8192 + 2 * length d + j) 0) (q .lo)) → b ≡ false → fresh t (q .lo) j ≡ false
           at-fresh-no h y = sym (at-fresh h) ∙ y
+
+          pub at-ends : {a c : ℕ} → a ≡ getD f j 0 → c ≡ getD s j 0 → (a < 4096) × (c < 4096) × ((a ≡ u) ⊎ (c ≡ u))
+          at-ends ea ec = along-ends d f s links (R .sound) (R .linked) small (A .along) ee more ej ea ec
 
           pub at-fresh-place : (length d ≤ 16384) × (j < length d) × (8192 + 2 * length d + j < length links)
           at-fresh-place = along-fresh-place d f s links (R .sound) (R .linked) small (A .along) ee more ej

@@ -6,3 +6,4 @@ pub mod Peeling
 pub mod Recalling
 pub mod Closing
 pub mod Settling
+pub mod Turning

@@ -6,6 +6,7 @@ pub mod peel;
 pub mod recalling;
 pub mod refusal;
 pub mod ring;
+pub mod rows;
 pub mod settle;
 pub mod table;
 pub mod times;

@@ -1,45 +1,100 @@
 // Settling: how the core times of one start become those of the day after it. Times only rise. A look at an account finds the first day, from its time on, on which it has k supporters.
+// spare: of each account one more than the supporters that it can lose before it must be looked at, at least; 0 while it waits for a look. What a look counts beyond k is to spare, so most losses cost no look.
+// queue: who rose, then who waits. An account leaves the front of those who wait when it is looked at, and if it rises takes a place behind those who rose.
 ghost use mathlib.Core.Path.{_≡_};
-ghost use Prim.Native.Nat.{_+_, _≤_, _<_};
+ghost use Prim.Native.Nat.{ℕ, _+_, _≤_, _<_};
+ghost use mathlib.Core.List.{List};
 ghost use lib.ListN.{length, getD};
-ghost use mathlib.Core.Bool.{true};
 ghost use Rattle.rings.specs.Table.{tableOf};
-ghost use Rattle.rings.specs.Inner.Sound.{Sound};
-ghost use Rattle.rings.specs.Inner.Peeling.{query, guess, season, Ready, Split, CoreTimesAre};
-ghost use Rattle.rings.specs.Inner.Settling.{Days, Settling, Seen, Noting, Least, Opening, Opened, Leaving, Quiet};
-use crate::links::clear;
+ghost use Rattle.rings.specs.Inner.Peeling.{query, guess, season, Ready, Span, Split, CoreTimesAre};
+ghost use Rattle.rings.specs.Inner.Links.{Ahead};
+ghost use Rattle.rings.specs.Inner.Settling.{Days, Over, Noting, Glanced, Looked, Losing, Gated, Lessened, Leaving, Queued, Rising, Spare, Risen};
 use crate::links::entry;
+use crate::links::first_place;
 use crate::links::other;
+use crate::links::put;
 use crate::peel::is_fresh;
 use crate::peel::peel;
 use crate::times::greater;
 
-// What a walk over the rows of an account finds: how many support it on a day, and the least later day on which one more may.
+// How many support an account on a day, the least later day on which one more may, and how many more then.
+struct Noted {
+    count: u16,
+    above: u16,
+    more: u16,
+}
+
+// The same with the number of rows that a walk passed.
 struct Found {
     count: u16,
     above: u16,
+    more: u16,
+    walked: usize,
+}
+
+// What a look finds: the account's time, 0 where it gave up; its spare supporters, counted from 1; the rows that it passed.
+struct View {
+    time: u16,
+    spare: u16,
+    walked: usize,
+}
+
+// How many rose, where the queue ends, and the rows that a look passed.
+struct Standing {
+    risen: usize,
+    tail: usize,
+    walked: usize,
+}
+
+// A row dated on this day, and all later ones, can change nothing: they support on no day up to c, and either enough do already, or they lie behind the range or behind the day above.
+fn is_over(day: u16, c: u16, stop: u16, above: u16, k: u16, count: u16) -> bool
+    ensures { λ r. ⌜ Over day c stop above k count r ⌝ }
+{
+    if day <= c {
+        return false;
+    }
+    if k <= count {
+        return true;
+    }
+    if stop < day {
+        return true;
+    }
+    if above < day {
+        return true;
+    }
+    false
 }
 
 // One row more, which supports from day z on.
-fn note(z: u16, c: u16, count: u16, above: u16) -> Found
-    requires { ⌜ count < 16384 ⌝ }
-    ensures { λ r. ⌜ Noting z c count above (r .count) (r .above) ⌝ }
+fn note(z: u16, c: u16, count: u16, above: u16, more: u16) -> Noted
+    requires { ⌜ (count < 16384) × (more < 16384) ⌝ }
+    ensures { λ r. ⌜ Noting z c count above more (r .count) (r .above) (r .more) ⌝ }
 {
     if z <= c {
-        return Found {
+        return Noted {
             count: count + 1,
             above: above,
+            more: more,
         };
     }
     if z < above {
-        return Found {
+        return Noted {
             count: count,
             above: z,
+            more: 1,
         };
     }
-    Found {
+    if z == above {
+        return Noted {
+            count: count,
+            above: above,
+            more: more + 1,
+        };
+    }
+    Noted {
         count: count,
         above: above,
+        more: more,
     }
 }
 
@@ -55,30 +110,28 @@ fn look_at(
     lo: usize,
     times: &[u16],
     u: usize,
+    from: usize,
     c: u16,
 ) -> Found
     requires { ⌜ Ready (now days) (now first) (now second) (now links) (season k start stop lo) ⌝ }
-    requires { ⌜ (u < 4096) × (length (now times) ≡ 4096) × Days stop (now times) × (c ≤ stop) ⌝ }
-    ensures { λ r. ⌜ Seen (tableOf (now (days .entry)) (now (first .entry)) (now (second .entry))) (guess (now (times .entry))) lo stop c u (length (now (days .entry))) (r .count) (r .above) ⌝ }
+    requires { ⌜ (u < 4096) × (length (now times) ≡ 4096) × Days stop (now times) × (c ≤ stop) × Ahead (tableOf (now days) (now first) (now second)) u lo from ⌝ }
+    ensures { λ r. ⌜ Glanced (tableOf (now (days .entry)) (now (first .entry)) (now (second .entry))) (guess (now (times .entry))) lo stop c u (length (now (days .entry))) k (r .count) (r .above) (r .more) × (r .walked ≤ 32768) × (r .count + r .more ≤ 16384) ⌝ }
 {
     let n = days.len();
     let last = entry(links, u);
-    let mut p = entry(links, 4096 + u);
+    let mut p = from;
     let mut count = 0;
     let mut above = 65535;
+    let mut more = 0;
     while p < last {
         let j = entry(links, 8192 + p);
         let day = days[j];
-        if stop < day {
+        if is_over(day, c, stop, above, k, count) {
             return Found {
                 count: count,
                 above: above,
-            };
-        }
-        if above <= day {
-            return Found {
-                count: count,
-                above: above,
+                more: more,
+                walked: p - from,
             };
         }
         p += 1;
@@ -86,18 +139,21 @@ fn look_at(
             let a = entry(first, j);
             let b = entry(second, j);
             let v = other(a, b, u);
-            let seen = note(greater(times[v], day), c, count, above);
+            let seen = note(greater(times[v], day), c, count, above, more);
             count = seen.count;
             above = seen.above;
+            more = seen.more;
         }
     }
     Found {
         count: count,
         above: above,
+        more: more,
+        walked: p - from,
     }
 }
 
-// The first day from the time of u on with k supporters, or never; 0 where it lies more than eight steps away, so that a look costs at most a constant times the rows of u.
+// The first day from the time of u on with k supporters, or never. It gives up when it has passed more rows than the budget allows.
 fn look(
     days: &[u16],
     first: &[u16],
@@ -109,46 +165,117 @@ fn look(
     lo: usize,
     times: &[u16],
     u: usize,
-) -> u16
+    from: usize,
+    budget: usize,
+) -> View
     requires { ⌜ Ready (now days) (now first) (now second) (now links) (season k start stop lo) ⌝ }
-    requires { ⌜ (u < 4096) × (length (now times) ≡ 4096) × Days stop (now times) ⌝ }
-    ensures { λ r. ⌜ ((r ≡ 0 → ⊥) → Least (tableOf (now (days .entry)) (now (first .entry)) (now (second .entry))) (guess (now (times .entry))) start k stop (getD (now (times .entry)) u 0) u r) ⌝ }
+    requires { ⌜ (u < 4096) × (length (now times) ≡ 4096) × Days stop (now times) × (budget ≤ 65536) × Ahead (tableOf (now days) (now first) (now second)) u lo from ⌝ }
+    ensures { λ r. ⌜ ((r .time ≡ 0 → ⊥) → Looked (tableOf (now (days .entry)) (now (first .entry)) (now (second .entry))) (guess (now (times .entry))) start k stop (getD (now (times .entry)) u 0) u (r .time) (r .spare)) × (r .walked ≤ 98304) ⌝ }
 {
-    let mut steps: usize = 0;
+    let mut walked: usize = 0;
     let mut c = times[u];
     while c < 65535 {
-        if steps == 8 {
-            return 0;
+        if budget < walked {
+            return View {
+                time: 0,
+                spare: 0,
+                walked: walked,
+            };
         }
-        steps += 1;
-        let seen = look_at(days, first, second, links, k, start, stop, lo, times, u, c);
+        let seen = look_at(
+            days,
+            first,
+            second,
+            links,
+            k,
+            start,
+            stop,
+            lo,
+            times,
+            u,
+            from,
+            c,
+        );
+        walked = walked + seen.walked;
         if k <= seen.count {
-            return c;
+            return View {
+                time: c,
+                spare: seen.count + 1 - k,
+                walked: walked,
+            };
         }
         c = seen.above;
+        if c == 65535 {
+            return View {
+                time: c,
+                spare: 1,
+                walked: walked,
+            };
+        }
+        let both = seen.count + seen.more;
+        if k <= both {
+            return View {
+                time: c,
+                spare: both + 1 - k,
+                walked: walked,
+            };
+        }
     }
-    c
+    View {
+        time: c,
+        spare: 1,
+        walked: walked,
+    }
 }
 
-// v, whose time is z, is flagged if the rise of a supporter from old to new takes it away: it stood by the day of their row.
-fn flag(flags: &mut [u16], v: usize, z: u16, day: u16, old: u16, new: u16)
-    requires { ⌜ (length (now flags) ≡ 4096) × (v < 4096) ⌝ }
-    ensures { λ _. ⌜ Opening v z day old new (now (flags .entry)) (now (flags .exit)) ⌝ }
+// v loses a supporter. With none to spare it goes to the end of the queue; 4,097 says that there was no place.
+fn lose(spare: &mut [u16], queue: &mut [u16], tail: usize, v: usize) -> usize
+    requires { ⌜ (length (now spare) ≡ 4096) × (length (now queue) ≡ 4096) × (v < 4096) ⌝ }
+    ensures { λ r. ⌜ Losing v tail (now (spare .entry)) (now (queue .entry)) (now (spare .exit)) (now (queue .exit)) r ⌝ }
+{
+    let n = spare[v];
+    if n == 0 {
+        return tail;
+    }
+    spare[v] = n - 1;
+    if 1 < n {
+        return tail;
+    }
+    if 4096 <= tail {
+        return 4097;
+    }
+    queue[tail] = v as u16;
+    tail + 1
+}
+
+// v, whose time is z, loses a supporter that had the time old and has the time new, if by the day of their row it was one.
+fn lose_by(
+    spare: &mut [u16],
+    queue: &mut [u16],
+    tail: usize,
+    v: usize,
+    z: u16,
+    day: u16,
+    old: u16,
+    new: u16,
+) -> usize
+    requires { ⌜ (length (now spare) ≡ 4096) × (length (now queue) ≡ 4096) × (v < 4096) ⌝ }
+    ensures { λ r. ⌜ Gated v z day old new tail (now (spare .entry)) (now (queue .entry)) (now (spare .exit)) (now (queue .exit)) r ⌝ }
 {
     if z < old {
-        return;
+        return tail;
     }
     if z < day {
-        return;
+        return tail;
     }
     if new <= z {
-        return;
+        return tail;
     }
-    flags[v] = 1;
+    lose(spare, queue, tail, v)
 }
 
-// The rise of u flags who loses a supporter by it. A row dated on the new time or later takes none.
-fn flag_others(
+// The rise of u takes a supporter from each that it supported till now. A row dated on the new time or later takes none.
+fn lose_others(
     days: &[u16],
     first: &[u16],
     second: &[u16],
@@ -159,33 +286,39 @@ fn flag_others(
     lo: usize,
     times: &[u16],
     u: usize,
+    from: usize,
     old: u16,
     new: u16,
-    flags: &mut [u16],
-)
+    tail: usize,
+    spare: &mut [u16],
+    queue: &mut [u16],
+) -> usize
     requires { ⌜ Ready (now days) (now first) (now second) (now links) (season k start stop lo) ⌝ }
-    requires { ⌜ (u < 4096) × (length (now times) ≡ 4096) × (length (now flags) ≡ 4096) ⌝ }
-    ensures { λ _. ⌜ Opened (tableOf (now (days .entry)) (now (first .entry)) (now (second .entry))) (guess (now (times .entry))) lo u (length (now (days .entry))) old new (now (flags .entry)) (now (flags .exit)) ⌝ }
+    requires { ⌜ (u < 4096) × (length (now times) ≡ 4096) × (length (now spare) ≡ 4096) × (length (now queue) ≡ 4096) × Ahead (tableOf (now days) (now first) (now second)) u lo from ⌝ }
+    ensures { λ r. ⌜ Lessened (tableOf (now (days .entry)) (now (first .entry)) (now (second .entry))) (guess (now (times .entry))) lo u (length (now (days .entry))) old new (now (spare .entry)) (now (spare .exit)) × Queued tail (now (spare .entry)) (now (queue .entry)) r (now (spare .exit)) (now (queue .exit)) ⌝ }
 {
+    let n = days.len();
     let last = entry(links, u);
-    let mut p = entry(links, 4096 + u);
+    let mut p = from;
+    let mut end = tail;
     while p < last {
         let j = entry(links, 8192 + p);
         let day = days[j];
         if new <= day {
-            return;
+            return end;
         }
         p += 1;
-        if lo <= j {
+        if is_fresh(links, n, lo, j) {
             let a = entry(first, j);
             let b = entry(second, j);
             let v = other(a, b, u);
-            flag(flags, v, times[v], day, old, new);
+            end = lose_by(spare, queue, end, v, times[v], day, old, new);
         }
     }
+    end
 }
 
-// A look at u: its time rises to the first day with k supporters, and who loses one by that is flagged. Where the look gives up, u stays flagged.
+// A look at the account at the head of the queue. If its time rises, it is listed as risen, and who loses it waits. 4,097 for the queue's end says that the look gave up, or that the queue had no place.
 fn settle_account(
     days: &[u16],
     first: &[u16],
@@ -195,25 +328,22 @@ fn settle_account(
     start: u16,
     stop: u16,
     lo: usize,
+    budget: usize,
+    head: usize,
+    tail: usize,
+    risen: usize,
     times: &mut [u16],
-    flags: &mut [u16],
-    u: usize,
-)
+    spare: &mut [u16],
+    queue: &mut [u16],
+) -> Standing
     requires { ⌜ Ready (now days) (now first) (now second) (now links) (season k start stop lo) ⌝ }
-    requires { ⌜ (u < 4096) × Settling (tableOf (now days) (now first) (now second)) (query k) stop start (now times) (now flags) ⌝ }
-    ensures { λ _. ⌜ Settling (tableOf (now (days .entry)) (now (first .entry)) (now (second .entry))) (query k) stop start (now (times .exit)) (now (flags .exit)) ⌝ }
+    requires { ⌜ (budget ≤ 65536) × (head < tail) × (tail ≤ 4096) × (risen ≤ head) × (length (now times) ≡ 4096) × (length (now spare) ≡ 4096) × (length (now queue) ≡ 4096) × (getD (now queue) head 0 < 4096) × Days stop (now times) ⌝ }
+    ensures { λ r. ⌜ (r .walked ≤ 98304) × (r .tail ≤ 4096 → (xs : List ℕ) → Rising (tableOf (now (days .entry)) (now (first .entry)) (now (second .entry))) (query k) stop start xs (now (times .entry)) (now (spare .entry)) (now (queue .entry)) head tail risen → Rising (tableOf (now (days .entry)) (now (first .entry)) (now (second .entry))) (query k) stop start xs (now (times .exit)) (now (spare .exit)) (now (queue .exit)) (head + 1) (r .tail) (r .risen)) ⌝ }
 {
+    let u = entry(queue, head);
+    let from = first_place(days, first, second, links, u, lo);
     let old = times[u];
-    let new = look(days, first, second, links, k, start, stop, lo, times, u);
-    if new == 0 {
-        return;
-    }
-    flags[u] = 0;
-    times[u] = new;
-    if new == old {
-        return;
-    }
-    flag_others(
+    let seen = look(
         days,
         first,
         second,
@@ -224,56 +354,53 @@ fn settle_account(
         lo,
         times,
         u,
+        from,
+        budget,
+    );
+    let new = seen.time;
+    if new == 0 {
+        return Standing {
+            risen: risen,
+            tail: 4097,
+            walked: seen.walked,
+        };
+    }
+    spare[u] = seen.spare;
+    if new == old {
+        return Standing {
+            risen: risen,
+            tail: tail,
+            walked: seen.walked,
+        };
+    }
+    times[u] = new;
+    put(queue, risen, u);
+    let end = lose_others(
+        days,
+        first,
+        second,
+        links,
+        k,
+        start,
+        stop,
+        lo,
+        times,
+        u,
+        from,
         old,
         new,
-        flags,
+        tail,
+        spare,
+        queue,
     );
-}
-
-// One round over the accounts; true if none was flagged.
-fn sweep(
-    days: &[u16],
-    first: &[u16],
-    second: &[u16],
-    links: &[u16],
-    k: u16,
-    start: u16,
-    stop: u16,
-    lo: usize,
-    times: &mut [u16],
-    flags: &mut [u16],
-) -> bool
-    requires { ⌜ Ready (now days) (now first) (now second) (now links) (season k start stop lo) ⌝ }
-    requires { ⌜ Settling (tableOf (now days) (now first) (now second)) (query k) stop start (now times) (now flags) ⌝ }
-    ensures { λ r. ⌜ Settling (tableOf (now (days .entry)) (now (first .entry)) (now (second .entry))) (query k) stop start (now (times .exit)) (now (flags .exit)) × (r ≡ true → Quiet 4096 (now (flags .exit))) ⌝ }
-{
-    let mut quiet = true;
-    let mut u = 0;
-    while u < 4096 {
-        if flags[u] == 0 {
-            u += 1;
-            continue;
-        }
-        settle_account(
-            days,
-            first,
-            second,
-            links,
-            k,
-            start,
-            stop,
-            lo,
-            times,
-            flags,
-            u,
-        );
-        quiet = false;
-        u += 1;
+    Standing {
+        risen: risen + 1,
+        tail: end,
+        walked: seen.walked,
     }
-    quiet
 }
 
-// Rounds until none is flagged. Where that takes too many the answer is false: the start is then peeled afresh, so no start costs more than a constant times the rows.
+// Who waits is looked at, until nobody does: how many rose. 4,097 where that takes more rows than the budget allows, or more places than the queue has.
 fn settle(
     days: &[u16],
     first: &[u16],
@@ -283,41 +410,189 @@ fn settle(
     start: u16,
     stop: u16,
     lo: usize,
+    budget: usize,
+    waiting: usize,
     times: &mut [u16],
-    flags: &mut [u16],
-) -> bool
+    spare: &mut [u16],
+    queue: &mut [u16],
+) -> usize
     requires { ⌜ Ready (now days) (now first) (now second) (now links) (season k start stop lo) ⌝ }
-    requires { ⌜ Settling (tableOf (now days) (now first) (now second)) (query k) stop start (now times) (now flags) ⌝ }
-    ensures { λ r. ⌜ (length (now (times .exit)) ≡ 4096) × (length (now (flags .exit)) ≡ 4096) × (r ≡ true → CoreTimesAre (now (days .entry)) (now (first .entry)) (now (second .entry)) (season k start stop lo) (now (times .exit))) ⌝ }
+    requires { ⌜ (budget ≤ 65536) × (length (now times) ≡ 4096) × (length (now spare) ≡ 4096) × (length (now queue) ≡ 4096) × (waiting ≤ 4096 → Rising (tableOf (now days) (now first) (now second)) (query k) stop start (now times) (now times) (now spare) (now queue) 0 waiting 0) ⌝ }
+    ensures { λ r. ⌜ (r ≤ 4096 → CoreTimesAre (now (days .entry)) (now (first .entry)) (now (second .entry)) (season k start stop lo) (now (times .exit)) × Spare (tableOf (now (days .entry)) (now (first .entry)) (now (second .entry))) (query k) start (now (times .exit)) (now (spare .exit)) × Risen (now (times .entry)) (now (times .exit)) (now (queue .exit)) r) ⌝ }
 {
-    let mut rounds: usize = 0;
-    while rounds < 16 {
-        let quiet = sweep(days, first, second, links, k, start, stop, lo, times, flags);
-        if quiet {
-            return true;
+    let mut head = 0;
+    let mut tail = waiting;
+    let mut risen = 0;
+    let mut work: usize = 0;
+    while head < tail {
+        if 4096 < tail {
+            return 4097;
         }
-        rounds += 1;
+        if budget < work {
+            return 4097;
+        }
+        let now = settle_account(
+            days,
+            first,
+            second,
+            links,
+            k,
+            start,
+            stop,
+            lo,
+            budget,
+            head,
+            tail,
+            risen,
+            times,
+            spare,
+            queue,
+        );
+        head += 1;
+        tail = now.tail;
+        risen = now.risen;
+        work = work + now.walked;
     }
-    false
+    risen
 }
 
-// The accounts of the rows that leave are flagged.
-fn flag_rows(days: &[u16], first: &[u16], second: &[u16], lo: usize, next: usize, flags: &mut [u16])
-    requires { ⌜ Sound (now days) (now first) (now second) ⌝ }
-    requires { ⌜ (lo ≤ next) × (next ≤ length (now days)) × (length (now flags) ≡ 4096) ⌝ }
-    ensures { λ _. ⌜ Leaving (tableOf (now (days .entry)) (now (first .entry)) (now (second .entry))) lo next (now (flags .exit)) ⌝ }
+// Row j leaves: by it each of its accounts has lost the other, if it was a supporter by the row's day.
+fn leave_row(
+    days: &[u16],
+    first: &[u16],
+    second: &[u16],
+    links: &[u16],
+    k: u16,
+    s: u16,
+    te: u16,
+    lo: usize,
+    times: &[u16],
+    tail: usize,
+    j: usize,
+    spare: &mut [u16],
+    queue: &mut [u16],
+) -> usize
+    requires { ⌜ Ready (now days) (now first) (now second) (now links) (season k s te lo) ⌝ }
+    requires { ⌜ (j < length (now days)) × (length (now times) ≡ 4096) × Days te (now times) × (length (now spare) ≡ 4096) × (length (now queue) ≡ 4096) ⌝ }
+    ensures { λ r. ⌜ Queued tail (now (spare .entry)) (now (queue .entry)) r (now (spare .exit)) (now (queue .exit)) × ((sp : List ℕ) → Leaving (tableOf (now (days .entry)) (now (first .entry)) (now (second .entry))) (guess (now (times .entry))) lo j sp (now (spare .entry)) → Leaving (tableOf (now (days .entry)) (now (first .entry)) (now (second .entry))) (guess (now (times .entry))) lo (j + 1) sp (now (spare .exit))) ⌝ }
 {
-    let mut j = lo;
-    while j < next {
+    let n = days.len();
+    if is_fresh(links, n, lo, j) {
         let a = entry(first, j);
         let b = entry(second, j);
-        flags[a] = 1;
-        flags[b] = 1;
+        let x = times[a];
+        let y = times[b];
+        let day = days[j];
+        let one = lose_by(spare, queue, tail, a, x, day, y, 65535);
+        return lose_by(spare, queue, one, b, y, day, x, 65535);
+    }
+    tail
+}
+
+// The rows of the first day leave: the end of the queue of those who lost a supporter and had none to spare.
+fn leave_rows(
+    days: &[u16],
+    first: &[u16],
+    second: &[u16],
+    links: &[u16],
+    k: u16,
+    s: u16,
+    te: u16,
+    lo: usize,
+    next: usize,
+    times: &[u16],
+    spare: &mut [u16],
+    queue: &mut [u16],
+) -> usize
+    requires { ⌜ Ready (now days) (now first) (now second) (now links) (season k s te lo) ⌝ }
+    requires { ⌜ (lo ≤ next) × (next ≤ length (now days)) × (length (now times) ≡ 4096) × Days te (now times) × (length (now spare) ≡ 4096) × (length (now queue) ≡ 4096) ⌝ }
+    ensures { λ r. ⌜ Queued 0 (now (spare .entry)) (now (queue .entry)) r (now (spare .exit)) (now (queue .exit)) × Leaving (tableOf (now (days .entry)) (now (first .entry)) (now (second .entry))) (guess (now (times .entry))) lo next (now (spare .entry)) (now (spare .exit)) ⌝ }
+{
+    let mut tail = 0;
+    let mut j = lo;
+    while j < next {
+        tail = leave_row(
+            days,
+            first,
+            second,
+            links,
+            k,
+            s,
+            te,
+            lo,
+            times,
+            tail,
+            j,
+            spare,
+            queue,
+        );
         j += 1;
+    }
+    tail
+}
+
+// Nobody is known to have a supporter to spare.
+fn spare_none(spare: &mut [u16])
+    requires { ⌜ length (now spare) ≡ 4096 ⌝ }
+    ensures { λ _. ⌜ (length (now (spare .exit)) ≡ 4096) × ((u : ℕ) → u < 4096 → getD (now (spare .exit)) u 0 ≡ 1) ⌝ }
+{
+    let mut u = 0;
+    while u < 4096 {
+        put(spare, u, 1);
+        u += 1;
     }
 }
 
-// From the core times at s to those at the day after it.
+// Every account is listed.
+fn list_all(list: &mut [u16])
+    requires { ⌜ length (now list) ≡ 4096 ⌝ }
+    ensures { λ _. ⌜ (length (now (list .exit)) ≡ 4096) × ((u : ℕ) → u < 4096 → getD (now (list .exit)) u 0 ≡ u) ⌝ }
+{
+    let mut u = 0;
+    while u < 4096 {
+        put(list, u, u);
+        u += 1;
+    }
+}
+
+// The core times of the first start, from nothing.
+pub fn begin(
+    days: &[u16],
+    first: &[u16],
+    second: &[u16],
+    links: &[u16],
+    k: u16,
+    s: u16,
+    te: u16,
+    lo: usize,
+    end: usize,
+    times: &mut [u16],
+    spare: &mut [u16],
+    queue: &mut [u16],
+)
+    requires { ⌜ Ready (now days) (now first) (now second) (now links) (season k s te lo) ⌝ }
+    requires { ⌜ Span (now days) te lo end ⌝ }
+    requires { ⌜ (length (now times) ≡ 4096) × (length (now spare) ≡ 4096) × (length (now queue) ≡ 4096) ⌝ }
+    ensures { λ _. ⌜ CoreTimesAre (now (days .entry)) (now (first .entry)) (now (second .entry)) (season k s te lo) (now (times .exit)) × Spare (tableOf (now (days .entry)) (now (first .entry)) (now (second .entry))) (query k) s (now (times .exit)) (now (spare .exit)) ⌝ }
+{
+    peel(
+        days,
+        first,
+        second,
+        links,
+        k,
+        s,
+        te,
+        lo,
+        end,
+        times,
+        spare,
+        queue,
+    );
+    spare_none(spare);
+}
+
+// From the core times at s to those at the day after it, with a list of the accounts whose times are others; the number of its entries. Where settling grows dear the start is peeled afresh, so that none costs more than a constant times its rows.
 pub fn advance(
     days: &[u16],
     first: &[u16],
@@ -330,21 +605,48 @@ pub fn advance(
     next: usize,
     end: usize,
     times: &mut [u16],
-    flags: &mut [u16],
+    spare: &mut [u16],
     queue: &mut [u16],
-)
+) -> usize
     requires { ⌜ Ready (now days) (now first) (now second) (now links) (season k s te lo) ⌝ }
     requires { ⌜ (s ≤ te) × (te ≤ 1024) × Split (now days) s lo × Split (now days) (s + 1) next × Split (now days) (te + 1) end ⌝ }
-    requires { ⌜ CoreTimesAre (now days) (now first) (now second) (season k s te lo) (now times) × (length (now flags) ≡ 4096) × (length (now queue) ≡ 4096) ⌝ }
-    ensures { λ _. ⌜ CoreTimesAre (now (days .entry)) (now (first .entry)) (now (second .entry)) (season k (s + 1) te next) (now (times .exit)) ⌝ }
+    requires { ⌜ CoreTimesAre (now days) (now first) (now second) (season k s te lo) (now times) × Spare (tableOf (now days) (now first) (now second)) (query k) s (now times) (now spare) × (length (now queue) ≡ 4096) ⌝ }
+    ensures { λ r. ⌜ CoreTimesAre (now (days .entry)) (now (first .entry)) (now (second .entry)) (season k (s + 1) te next) (now (times .exit)) × Spare (tableOf (now (days .entry)) (now (first .entry)) (now (second .entry))) (query k) (s + 1) (now (times .exit)) (now (spare .exit)) × Risen (now (times .entry)) (now (times .exit)) (now (queue .exit)) r ⌝ }
 {
-    clear(flags);
-    flag_rows(days, first, second, lo, next, flags);
-    let settled = settle(days, first, second, links, k, s + 1, te, next, times, flags);
-    if settled {
-        return;
+    let waiting = leave_rows(
+        days,
+        first,
+        second,
+        links,
+        k,
+        s,
+        te,
+        lo,
+        next,
+        times,
+        spare,
+        queue,
+    );
+    let budget = 4 * (end - next);
+    let risen = settle(
+        days,
+        first,
+        second,
+        links,
+        k,
+        s + 1,
+        te,
+        next,
+        budget,
+        waiting,
+        times,
+        spare,
+        queue,
+    );
+    if risen <= 4096 {
+        return risen;
     }
-    peel(
+    begin(
         days,
         first,
         second,
@@ -355,7 +657,9 @@ pub fn advance(
         next,
         end,
         times,
-        flags,
+        spare,
         queue,
     );
+    list_all(queue);
+    4096
 }

@@ -1,6 +1,6 @@
 // Table check: the first check of every call that takes a table.
 ghost use mathlib.Core.Path.{_≡_};
-ghost use Prim.Native.Nat.{ℕ, suc, _<_, _≤_};
+ghost use Prim.Native.Nat.{ℕ, suc, _+_, _<_, _≤_};
 ghost use lib.ListN.{length, getD};
 ghost use Rattle.rings.specs.Words.{run};
 ghost use Rattle.rings.specs.Table.{tableOf};
@@ -78,6 +78,22 @@ pub fn rows_before(days: &[u16], day: u16) -> usize
     let mut r = 0;
     while r < days.len() {
         if day <= days[r] {
+            return r;
+        }
+        r += 1;
+    }
+    r
+}
+
+// The rows before the day after s, from the rows before s on.
+pub fn rows_through(days: &[u16], s: u16, lo: usize) -> usize
+    requires { ⌜ ((j : ℕ) → suc j < length (now days) → getD (now days) j 0 ≤ getD (now days) (suc j) 0) ⌝ }
+    requires { ⌜ Split (now days) s lo ⌝ }
+    ensures { λ r. ⌜ Split (now (days .entry)) (s + 1) r ⌝ }
+{
+    let mut r = lo;
+    while r < days.len() {
+        if s < days[r] {
             return r;
         }
         r += 1;

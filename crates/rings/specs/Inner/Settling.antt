@@ -1,28 +1,36 @@
--- Settling: from the core times at one start to those at the next. x gives each account a day or never. It never passes the core times, and only flagged accounts may lack supporters.
+-- Settling: from the core times at one start to those at the next. x gives each account a day or never. It never passes the core times, and only accounts that wait may lack supporters.
+-- spare holds, for each account, one more than the supporters that it can lose before it lacks one, at least; 0 says that it waits. Counting from below makes every loss a step down, and no gain matters.
 --     value t x j u         the first day on which row j supports u: the later of its own day and its other account's time
 --     backing t x lo c u j  row j is the first of its pair from lo on, has the account u, and supports it at c
 --     backers t x lo c u n  how many of the first n rows do
---     Settling              x as a list of times, with the flags
---     Seen, Noting          what a walk over the rows of u has found: how many support it at c, and the least day above c on which one more may; one row more
---     Least                 y is the least day from c on with k supporters, or never
 --     Days                  each time is a day of the range or never
---     Opened, Opening       a rise of u flags who loses a supporter by it; one row more
---     Leaving               the accounts of the rows that leave are flagged
---     Quiet                 none is
-use Prim.Native.Nat.{ℕ, max, _+_, _≤_, _<_}
+--     Settling              x as a list of times, with the spare supporters
+--     Over                  no later row can change what a walk has found
+--     Seen, Noting          what a walk over the rows of u has found: how many support it at c, the least day above c on which one more may, and how many more then; one row more
+--     Glanced               a walk has counted enough, or has seen all rows
+--     Least, Looked         y is the least day from c on with k supporters, or never; what a look at u answers
+--     Losing, Gated         v loses a supporter; it does if it has it by the day of their row
+--     Lessened              a rise of u takes a supporter from each that it supported till now
+--     Leaving               so does each row that leaves
+--     Queued                who lost the last spare supporter by that waits at the end of the queue
+--     Waiting               who waits stands in the queue
+--     Risen                 the accounts whose times are others are among the first r of a list
+--     Rising                all of it, between two looks
+--     Spare                 what a start hands on with its times
+use Prim.Native.Nat.{ℕ, max, _+_, _-_, _≤_, _<_}
 use mathlib.Core.Path.{_≡_}
 use mathlib.Core.Logic.{_⊎_}
-use mathlib.Core.Bool.{Bool, true}
+use mathlib.Core.Bool.{Bool, true, false}
 use mathlib.Core.List.{List}
 use lib.ListN.{length, getD, set}
 use lib.Dec.{leb}
 use Rattle.rings.specs.Words.{_and_, count}
-use Rattle.rings.specs.Table.{Table, size, dayOf, firstOf, secondOf}
+use Rattle.rings.specs.Table.{Table, size, dayOf}
 use Rattle.rings.specs.Ring.{touches, met, ring}
 use Rattle.rings.specs.CoreTimes.{never}
 use Rattle.rings.specs.Inner.Links.{otherOf, fresh}
 use Rattle.rings.specs.Inner.Support.{supporters}
-use Rattle.rings.specs.Inner.Peeling.{guess}
+use Rattle.rings.specs.Inner.Peeling.{guess, Place}
 use Rattle.rings.specs.declared.Query.{Query}
 
 unfoldable pub value : Table → (ℕ → ℕ) → ℕ → ℕ → ℕ
@@ -38,48 +46,105 @@ backers t x lo c u n = count (backing t x lo c u) n
 abbrev pub Days : ℕ → List ℕ → Type 0
 Days hi xs = (v : ℕ) → v < 4096 → (getD xs v 0 ≤ hi) ⊎ (getD xs v 0 ≡ never)
 
--- no time passes the core time, and an account that is not flagged has k supporters at its own
-pub record Settling (t : Table) (q : Query) (hi s : ℕ) (xs flags : List ℕ) : Type 0 where
+-- no time passes the core time, and an account that does not wait has, at its own, k supporters and those to spare
+pub record Settling (t : Table) (q : Query) (hi s : ℕ) (xs spare : List ℕ) : Type 0 where
   pub long : length xs ≡ 4096
-  pub long-flags : length flags ≡ 4096
+  pub long-spare : length spare ≡ 4096
   pub days : Days hi xs
   pub lower : (u c : ℕ) → s ≤ c → c ≤ hi → met t (ring t q s c) u ≡ true → guess xs u ≤ c
-  pub closed : (u : ℕ) → u < 4096 → getD flags u 0 ≡ 0 → (getD xs u 0 ≡ never) ⊎ (q .k ≤ supporters t (guess xs) s (getD xs u 0) u)
+  pub enough : (u : ℕ) → u < 4096 → 1 ≤ getD spare u 0 → (getD xs u 0 ≡ never) ⊎ (q .k + getD spare u 0 ≤ supporters t (guess xs) s (getD xs u 0) u + 1)
 
--- the rows of u below b, as they stand on day c: n support it, and of the others that the range has none comes in before the day above
-pub record Seen (t : Table) (x : ℕ → ℕ) (lo hi c u b n above : ℕ) : Type 0 where
+-- ---- a look
+
+-- of a row dated on this day, and of all later ones
+pub record Over (day c stop above k count : ℕ) (r : Bool) : Type 0 where
+  pub yes : r ≡ true → (c < day) × ((k ≤ count) ⊎ ((stop < day) ⊎ (above < day)))
+  pub not : r ≡ false → (day ≤ c) ⊎ (day ≤ stop)
+
+-- the rows of u below b, as they stand on day c: n support it, of the others that the range has none comes in before the day above, and on that day at least `more` do
+pub record Seen (t : Table) (x : ℕ → ℕ) (lo hi c u b n above more : ℕ) : Type 0 where
   pub counted : n ≡ backers t x lo c u b
   pub rises : c < above
   pub none-between : (j : ℕ) → j < b → fresh t lo j ≡ true → touches t j u ≡ true → dayOf t j ≤ hi → (value t x j u ≤ c) ⊎ (above ≤ value t x j u)
   pub day : (above ≤ hi) ⊎ (above ≡ never)
+  pub then : n + more ≤ backers t x lo above u b
 
 -- one row more, of value z
-pub data Noting (z c n above n′ above′ : ℕ) : Type 0 where
-  back : z ≤ c → n′ ≡ n + 1 → above′ ≡ above → Noting z c n above n′ above′
-  nearer : c < z → z < above → n′ ≡ n → above′ ≡ z → Noting z c n above n′ above′
-  farther : c < z → above ≤ z → n′ ≡ n → above′ ≡ above → Noting z c n above n′ above′
+pub data Noting (z c n above more n′ above′ more′ : ℕ) : Type 0 where
+  back : z ≤ c → n′ ≡ n + 1 → above′ ≡ above → more′ ≡ more → Noting z c n above more n′ above′ more′
+  nearer : c < z → z < above → n′ ≡ n → above′ ≡ z → more′ ≡ 1 → Noting z c n above more n′ above′ more′
+  level : c < z → z ≡ above → n′ ≡ n → above′ ≡ above → more′ ≡ more + 1 → Noting z c n above more n′ above′ more′
+  farther : c < z → above ≤ z → n′ ≡ n → above′ ≡ above → more′ ≡ more → Noting z c n above more n′ above′ more′
+
+pub data Glanced (t : Table) (x : ℕ → ℕ) (lo hi c u m k n above more : ℕ) : Type 0 where
+  full : k ≤ n → n ≤ backers t x lo c u m → Glanced t x lo hi c u m k n above more
+  seen : Seen t x lo hi c u m n above more → Glanced t x lo hi c u m k n above more
 
 pub record Least (t : Table) (x : ℕ → ℕ) (s k hi c u y : ℕ) : Type 0 where
   pub from : c ≤ y
   pub fewer : (a : ℕ) → c ≤ a → a < y → a ≤ hi → supporters t x s a u < k
   pub enough : (y ≡ never) ⊎ ((y ≤ hi) × (k ≤ supporters t x s y u))
 
--- v, whose time is z, loses a supporter that rises from old to new, if it has one by the day of their row
-pub data Opening (v z day old new : ℕ) (flags flags′ : List ℕ) : Type 0 where
-  shut : (old ≤ z → day ≤ z → z < new → ⊥) → flags′ ≡ flags → Opening v z day old new flags flags′
-  one : flags′ ≡ set flags v 1 → Opening v z day old new flags flags′
+pub record Looked (t : Table) (x : ℕ → ℕ) (s k hi c u y spare : ℕ) : Type 0 where
+  pub least : Least t x s k hi c u y
+  pub known : 1 ≤ spare
+  pub enough : (y ≡ never) ⊎ (k + spare ≤ supporters t x s y u + 1)
 
--- of the rows of u from lo on and below b, each that takes a supporter from its other account has flagged it
-pub record Opened (t : Table) (x : ℕ → ℕ) (lo u b old new : ℕ) (flags₀ flags : List ℕ) : Type 0 where
-  pub long : length flags ≡ 4096
-  pub stay : (w : ℕ) → getD flags w 0 ≡ 0 → getD flags₀ w 0 ≡ 0
-  pub opened : (j : ℕ) → lo ≤ j → j < b → touches t j u ≡ true → old ≤ x (otherOf t j u) → dayOf t j ≤ x (otherOf t j u) → x (otherOf t j u) < new → getD flags (otherOf t j u) 0 ≡ 0 → ⊥
+-- ---- losses
 
--- the accounts of the rows from lo on and below j are flagged
-pub record Leaving (t : Table) (lo j : ℕ) (flags : List ℕ) : Type 0 where
-  pub long : length flags ≡ 4096
-  pub flagged : (i : ℕ) → lo ≤ i → i < j → (getD flags (firstOf t i) 0 ≡ 0 → ⊥) × (getD flags (secondOf t i) 0 ≡ 0 → ⊥)
+-- v loses a supporter: the queue has tail entries, then r; 4,097 says that it had no place left
+pub data Losing (v tail : ℕ) (sp ws sp′ ws′ : List ℕ) (r : ℕ) : Type 0 where
+  waits : getD sp v 0 ≡ 0 → sp′ ≡ sp → ws′ ≡ ws → r ≡ tail → Losing v tail sp ws sp′ ws′ r
+  spares : 1 < getD sp v 0 → sp′ ≡ set sp v (getD sp v 0 - 1) → ws′ ≡ ws → r ≡ tail → Losing v tail sp ws sp′ ws′ r
+  opens : getD sp v 0 ≡ 1 → sp′ ≡ set sp v (getD sp v 0 - 1) → tail < 4096 → ws′ ≡ set ws tail v → r ≡ tail + 1 → Losing v tail sp ws sp′ ws′ r
+  full : sp′ ≡ set sp v (getD sp v 0 - 1) → 4096 ≤ tail → ws′ ≡ ws → r ≡ 4097 → Losing v tail sp ws sp′ ws′ r
 
--- none is open
-abbrev pub Quiet : ℕ → List ℕ → Type 0
-Quiet n flags = (u : ℕ) → u < n → getD flags u 0 ≡ 0
+-- v, whose time is z, had a supporter from old on by a row of this day, and has it from new on
+pub data Gated (v z day old new tail : ℕ) (sp ws sp′ ws′ : List ℕ) (r : ℕ) : Type 0 where
+  shut : (old ≤ z → day ≤ z → z < new → ⊥) → sp′ ≡ sp → ws′ ≡ ws → r ≡ tail → Gated v z day old new tail sp ws sp′ ws′ r
+  lost : Losing v tail sp ws sp′ ws′ r → Gated v z day old new tail sp ws sp′ ws′ r
+
+-- u rose from old to new: each other account of a first row of a pair, of those below b, has one to spare less if it lost u by that
+pub record Lessened (t : Table) (x : ℕ → ℕ) (lo u b old new : ℕ) (sp₀ sp : List ℕ) : Type 0 where
+  pub long : length sp ≡ 4096
+  pub less : (w : ℕ) → getD sp w 0 ≤ getD sp₀ w 0
+  pub lost : (j : ℕ) → j < b → fresh t lo j ≡ true → touches t j u ≡ true → old ≤ x (otherOf t j u) → dayOf t j ≤ x (otherOf t j u) → x (otherOf t j u) < new → getD sp (otherOf t j u) 0 ≤ getD sp₀ (otherOf t j u) 0 - 1
+
+-- the rows below j leave: each account with a time has as many to spare less as rows of it that backed it
+pub record Leaving (t : Table) (x : ℕ → ℕ) (lo j : ℕ) (sp₀ sp : List ℕ) : Type 0 where
+  pub long : length sp ≡ 4096
+  pub less : (u : ℕ) → u < 4096 → (x u ≡ never) ⊎ (getD sp u 0 ≤ getD sp₀ u 0 - backers t x lo (x u) u j)
+
+-- the queue had tail entries, and has r: who waits now did before, or is one of the new ones
+pub record Queued (tail : ℕ) (sp ws : List ℕ) (r : ℕ) (sp′ ws′ : List ℕ) : Type 0 where
+  pub long : length ws′ ≡ 4096
+  pub grows : r ≤ 4096 → tail ≤ r
+  pub front : (i : ℕ) → i < tail → i < 4096 → getD ws′ i 0 ≡ getD ws i 0
+  pub waits : r ≤ 4096 → (u : ℕ) → u < 4096 → getD sp′ u 0 ≡ 0 → (getD sp u 0 ≡ 0) ⊎ Place ws′ tail r u
+  pub small : (i : ℕ) → tail ≤ i → i < r → i < 4096 → getD ws′ i 0 < 4096
+
+pub record Waiting (head tail : ℕ) (sp ws : List ℕ) : Type 0 where
+  pub long : length ws ≡ 4096
+  pub ordered : head ≤ tail
+  pub waits : (u : ℕ) → u < 4096 → getD sp u 0 ≡ 0 → Place ws head tail u
+  pub small : (i : ℕ) → head ≤ i → i < tail → getD ws i 0 < 4096
+
+-- from the times xs to ys: whose time is another is one of the first r of the list
+pub record Risen (xs ys ws : List ℕ) (r : ℕ) : Type 0 where
+  pub long : length ws ≡ 4096
+  pub within : r ≤ 4096
+  pub small : (i : ℕ) → i < r → getD ws i 0 < 4096
+  pub listed : (u : ℕ) → u < 4096 → (getD xs u 0 ≡ getD ys u 0 → ⊥) → Place ws 0 r u
+
+-- from the times xs₀ on, m accounts have risen, and those from head to tail wait
+pub record Rising (t : Table) (q : Query) (hi s : ℕ) (xs₀ xs sp ws : List ℕ) (head tail m : ℕ) : Type 0 where
+  pub settling : Settling t q hi s xs sp
+  pub waiting : Waiting head tail sp ws
+  pub behind : m ≤ head
+  pub risen : Risen xs₀ xs ws m
+
+-- an account with a time has k supporters at it, and one fewer than the number that it has here to spare
+pub record Spare (t : Table) (q : Query) (s : ℕ) (xs spare : List ℕ) : Type 0 where
+  pub long : length spare ≡ 4096
+  pub known : (u : ℕ) → u < 4096 → 1 ≤ getD spare u 0
+  pub enough : (u : ℕ) → u < 4096 → (getD xs u 0 ≡ never) ⊎ (q .k + getD spare u 0 ≤ supporters t (guess xs) s (getD xs u 0) u + 1)

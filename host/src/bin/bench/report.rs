@@ -31,7 +31,7 @@ const fn ratio(
     }
 }
 
-const SAME: &str = "the engine in C (host/peer), which settles";
+const SAME: &str = "the same algorithm in C (host/peer)";
 const C_AIM: Option<[f64; 3]> = Some([1.2, 1.6, 1.6]);
 
 #[rustfmt::skip]
@@ -276,7 +276,7 @@ pub fn page(all: &[(usize, Measured)]) -> String {
          Every figure is a ratio of processor times: the archive's by the peer's, in one run, on \
          one input, medians of runs that took turns. Below 1 the archive is faster. Before timing, every \
          peer gave the archive's answer on every table. The peers are unverified Rust (release \
-         build) but for the engine in C (host/peer), which settles (-O3); 001's Algorithm 2 takes its core times by \
+         build) but for the same algorithm in C (host/peer, -O3); 001's Algorithm 2 takes its core times by \
          the method that 001 cites. Ranges are all days of a table; a window ring is timed over \
          three windows, core times over two starts. `room` is n(n+1)/2 places.\n\n\
          ## 16,384 rows\n",

@@ -1,13 +1,13 @@
-use borrow.Author.Needs.{needs}
-use Rattle.listing.proofs.ProgressLaws.{enter-lengths, sum-next, ends-skip, ends-one, ends-end}
-use Rattle.listing.specs.Inner.{sumOf, countEntries, Progress}
-use Rattle.listing.specs.Listing.{ListedRing}
-use borrow.Author.Tests.{not-true, not-false}
-use Prim.Native.Nat.{ℕ, _+_, _-_, _*_, _≤_}
-use lib.ListN.{length}
-use mathlib.Core.List.{List, _++_}
-use mathlib.Core.Path.{refl, sym, _∙_, _≡_}
 use native.Mathlib.Omega.{arith}
+use mathlib.Core.Path.{refl, sym, _∙_, _≡_}
+use mathlib.Core.List.{List, _++_}
+use lib.ListN.{length}
+use Prim.Native.Nat.{ℕ, _+_, _-_, _*_, _≤_}
+use borrow.Author.Tests.{not-true, not-false}
+use Rattle.listing.specs.Listing.{ListedRing}
+use Rattle.listing.specs.Inner.{sumOf, countEntries, Progress}
+use Rattle.listing.proofs.ProgressLaws.{enter-lengths, sum-next, ends-none, ends-skip, ends-one, ends-end}
+use borrow.Author.Needs.{needs}
 use Rattle.listing.proofs.list.list_ends.Statement.{statement}
 use Rattle.listing.proofs.list.list_ends.Tie as tie
 use Rattle.listing.proofs.list.list_ends.Reads as reads
@@ -21,85 +21,89 @@ Inv-loop s te least room n sum counts starts₀ ends₀ rows₀ count₀ whole�
 abbrev μ-loop : tie.MeasureT-loop
 μ-loop s te least room n sum counts starts₀ ends₀ rows₀ count₀ whole₀ total₀ e₀ starts ends rows count whole total e = te + 1 - e
 
--- src/list.rt:170:5
-loop-holds : tie.Need-loop-holds Inv-loop μ-loop
-loop-holds c = (omega arith, omega (arith, c .before .before .before .before .pre .0 .0), omega arith, omega arith, omega (arith, c .before .before .before .before .pre .0 .3), refl, refl, refl, λ goal rest x y z P. P)
+-- src/list.rt:125:9
+returns : tie.Need-returns Inv-loop μ-loop
+returns c = (omega arith, omega arith, λ goal rest x y z P. ends-none (c .before .before .before .before .before .args .counts .now) _ _ _ (c .if1 .taken) (c .before .before .before .before .before .pre .0 .0) rest P)
 
--- src/list.rt:171:28
+-- src/list.rt:134:5
+loop-holds : tie.Need-loop-holds Inv-loop μ-loop
+loop-holds c = (omega arith, omega (arith, c .before .before .before .before .before .pre .0 .0), omega arith, omega arith, omega (arith, c .before .before .before .before .before .pre .0 .3), refl, refl, refl, λ goal rest x y z P. P)
+
+-- src/list.rt:135:28
 cast-added : tie.Need-cast-added Inv-loop μ-loop
 cast-added c = search needs
 
--- src/list.rt:171:21
+-- src/list.rt:135:21
 mul-added : tie.Need-mul-added Inv-loop μ-loop
-mul-added c = omega (arith, c .loop-test .taken, c .before .before .before .before .before .before .pre .0 .1)
+mul-added c = omega (arith, c .loop-test .taken, c .before .before .before .before .before .before .before .pre .0 .1)
 
--- src/list.rt:171:21
+-- src/list.rt:135:21
 shared-slice-read-added : tie.Need-shared-slice-read-added Inv-loop μ-loop
-shared-slice-read-added c = omega (arith, c .before .loop-test .taken, c .before .before .before .before .before .before .before .pre .0 .1, c .before .before .before .before .before .before .before .pre .0 .2)
+shared-slice-read-added c = omega (arith, c .before .loop-test .taken, c .before .before .before .before .before .before .before .before .pre .0 .1, c .before .before .before .before .before .before .before .before .pre .0 .2)
 
--- src/list.rt:172:17
+-- src/list.rt:136:17
 add-total : tie.Need-add-total Inv-loop μ-loop
-add-total c = omega (arith, c .before .before .loop .inv .4, sum-next (c .before .before .before .before .before .before .before .args .counts .now) (c .before .before .before .before .before .before .before .args .te) (c .before .before .loop .e) (c .before .loop-test .taken))
+add-total c = omega (arith, c .before .before .loop .inv .4, sum-next (c .before .before .before .before .before .before .before .before .args .counts .now) (c .before .before .before .before .before .before .before .before .args .te) (c .before .before .loop .e) (c .before .loop-test .taken))
 
--- src/list.rt:173:13
+-- src/list.rt:137:13
 is-listed-requires : tie.Need-is-listed-requires Inv-loop μ-loop
 is-listed-requires c κs = search needs
 
--- src/list.rt:175:17
+-- src/list.rt:139:17
 add-e : tie.Need-add-e Inv-loop μ-loop
-add-e c = omega (arith, c .before .before .before .loop-test .taken, c .before .before .before .before .before .before .before .before .before .pre .0 .1)
+add-e c = omega (arith, c .before .before .before .loop-test .taken, c .before .before .before .before .before .before .before .before .before .before .pre .0 .1)
 
--- src/list.rt:170:5
+-- src/list.rt:134:5
 loop-less : tie.Need-loop-less Inv-loop μ-loop
 loop-less c = omega (arith, c .before .before .before .loop-test .taken)
 
--- src/list.rt:170:5
+-- src/list.rt:134:5
 loop-again : tie.Need-loop-again Inv-loop μ-loop
-loop-again c = (omega (arith, c .before .before .before .before .loop .inv .0), omega (arith, c .before .before .before .loop-test .taken), omega (arith, c .before .before .before .before .loop .inv .0, c .before .before .before .before .loop .inv .2), omega (arith, c .before .before .before .before .loop .inv .0, c .before .before .before .before .loop .inv .3), omega (arith, c .before .before .before .before .loop .inv .4, sum-next (c .before .before .before .before .before .before .before .before .before .args .counts .now) (c .before .before .before .before .before .before .before .before .before .args .te) (c .before .before .before .before .loop .e) (c .before .before .before .loop-test .taken)), c .before .before .before .before .loop .inv .5, c .before .before .before .before .loop .inv .6, c .before .before .before .before .loop .inv .7, λ goal rest x y z P. ends-skip (c .before .before .before .before .before .before .before .before .before .args .counts .now) _ _ _ _ _ (c .before .before .before .loop-test .taken) (c .before .is-listed .ensures) rest (c .before .before .before .before .loop .inv .8 goal rest x y z P) (not-true _ (c .if1 .taken)))
+loop-again c = (omega (arith, c .before .before .before .before .loop .inv .0), omega (arith, c .before .before .before .loop-test .taken), omega (arith, c .before .before .before .before .loop .inv .0, c .before .before .before .before .loop .inv .2), omega (arith, c .before .before .before .before .loop .inv .0, c .before .before .before .before .loop .inv .3), omega (arith, c .before .before .before .before .loop .inv .4, sum-next (c .before .before .before .before .before .before .before .before .before .before .args .counts .now) (c .before .before .before .before .before .before .before .before .before .before .args .te) (c .before .before .before .before .loop .e) (c .before .before .before .loop-test .taken)), c .before .before .before .before .loop .inv .5, c .before .before .before .before .loop .inv .6, c .before .before .before .before .loop .inv .7, λ goal rest x y z P. ends-skip (c .before .before .before .before .before .before .before .before .before .before .args .counts .now) _ _ _ _ _ (c .before .before .before .loop-test .taken) (c .before .is-listed .ensures) rest (c .before .before .before .before .loop .inv .8 goal rest x y z P) (not-true _ (c .if2 .taken)))
 
--- src/list.rt:178:9
+-- src/list.rt:142:9
 enter-requires : tie.Need-enter-requires Inv-loop μ-loop
-enter-requires c κs = (omega (arith, c .before .before .before .before .before .before .before .before .before .before .before .before .pre .1 .0, c .before .before .before .before .before .before .before .loop .inv .5), c .before .before .before .before .before .before .before .loop .inv .6 ∙ (c .before .before .before .before .before .before .before .before .before .before .before .before .pre .1 .1 ∙ sym (c .before .before .before .before .before .before .before .loop .inv .5)), c .before .before .before .before .before .before .before .loop .inv .7 ∙ (c .before .before .before .before .before .before .before .before .before .before .before .before .pre .1 .2 ∙ sym (c .before .before .before .before .before .before .before .loop .inv .5)))
+enter-requires c κs = (omega (arith, c .before .before .before .before .before .before .before .before .before .before .before .before .before .pre .1 .0, c .before .before .before .before .before .before .before .loop .inv .5), c .before .before .before .before .before .before .before .loop .inv .6 ∙ (c .before .before .before .before .before .before .before .before .before .before .before .before .before .pre .1 .1 ∙ sym (c .before .before .before .before .before .before .before .loop .inv .5)), c .before .before .before .before .before .before .before .loop .inv .7 ∙ (c .before .before .before .before .before .before .before .before .before .before .before .before .before .pre .1 .2 ∙ sym (c .before .before .before .before .before .before .before .loop .inv .5)))
 
--- src/list.rt:179:17
+-- src/list.rt:143:17
 add-count : tie.Need-add-count Inv-loop μ-loop
-add-count c = omega (arith, c .before .before .before .before .before .before .before .before .before .before .before .before .before .before .loop .inv .2, c .before .before .before .before .before .before .before .before .before .before .before .before .before .before .before .before .before .before .before .pre .1 .3, c .before .before .before .before .before .before .before .before .before .before .before .before .before .loop-test .taken, c .before .before .before .before .before .before .before .before .before .before .before .before .before .before .before .before .before .before .before .pre .0 .1)
+add-count c = omega (arith, c .before .before .before .before .before .before .before .before .before .before .before .before .before .before .loop .inv .2, c .before .before .before .before .before .before .before .before .before .before .before .before .before .before .before .before .before .before .before .before .pre .1 .3, c .before .before .before .before .before .before .before .before .before .before .before .before .before .loop-test .taken, c .before .before .before .before .before .before .before .before .before .before .before .before .before .before .before .before .before .before .before .before .pre .0 .1)
 
--- src/list.rt:180:25
+-- src/list.rt:144:25
 cast-whole : tie.Need-cast-whole Inv-loop μ-loop
-cast-whole c = omega (arith, c .before .before .before .before .before .before .before .before .before .before .before .before .before .before .loop .inv .4, sum-next (c .before .before .before .before .before .before .before .before .before .before .before .before .before .before .before .before .before .before .before .args .counts .now) (c .before .before .before .before .before .before .before .before .before .before .before .before .before .before .before .before .before .before .before .args .te) (c .before .before .before .before .before .before .before .before .before .before .before .before .before .before .loop .e) (c .before .before .before .before .before .before .before .before .before .before .before .before .before .loop-test .taken))
+cast-whole c = omega (arith, c .before .before .before .before .before .before .before .before .before .before .before .before .before .before .loop .inv .4, sum-next (c .before .before .before .before .before .before .before .before .before .before .before .before .before .before .before .before .before .before .before .before .args .counts .now) (c .before .before .before .before .before .before .before .before .before .before .before .before .before .before .before .before .before .before .before .before .args .te) (c .before .before .before .before .before .before .before .before .before .before .before .before .before .before .loop .e) (c .before .before .before .before .before .before .before .before .before .before .before .before .before .loop-test .taken))
 
--- src/list.rt:180:17
+-- src/list.rt:144:17
 add-whole : tie.Need-add-whole Inv-loop μ-loop
-add-whole c = omega (arith, c .before .before .before .before .before .before .before .before .before .before .before .before .before .before .loop .inv .3, c .before .before .before .before .before .before .before .before .before .before .before .before .before .before .loop .inv .4, sum-next (c .before .before .before .before .before .before .before .before .before .before .before .before .before .before .before .before .before .before .before .args .counts .now) (c .before .before .before .before .before .before .before .before .before .before .before .before .before .before .before .before .before .before .before .args .te) (c .before .before .before .before .before .before .before .before .before .before .before .before .before .before .loop .e) (c .before .before .before .before .before .before .before .before .before .before .before .before .before .loop-test .taken), c .before .before .before .before .before .before .before .before .before .before .before .before .before .before .before .before .before .before .before .pre .1 .4, c .before .before .before .before .before .before .before .before .before .before .before .before .before .loop-test .taken, c .before .before .before .before .before .before .before .before .before .before .before .before .before .before .before .before .before .before .before .pre .0 .1)
+add-whole c = omega (arith, c .before .before .before .before .before .before .before .before .before .before .before .before .before .before .loop .inv .3, c .before .before .before .before .before .before .before .before .before .before .before .before .before .before .loop .inv .4, sum-next (c .before .before .before .before .before .before .before .before .before .before .before .before .before .before .before .before .before .before .before .before .args .counts .now) (c .before .before .before .before .before .before .before .before .before .before .before .before .before .before .before .before .before .before .before .before .args .te) (c .before .before .before .before .before .before .before .before .before .before .before .before .before .before .loop .e) (c .before .before .before .before .before .before .before .before .before .before .before .before .before .loop-test .taken), c .before .before .before .before .before .before .before .before .before .before .before .before .before .before .before .before .before .before .before .before .pre .1 .4, c .before .before .before .before .before .before .before .before .before .before .before .before .before .loop-test .taken, c .before .before .before .before .before .before .before .before .before .before .before .before .before .before .before .before .before .before .before .before .pre .0 .1)
 
--- src/list.rt:181:13
+-- src/list.rt:145:13
 add-e-2 : tie.Need-add-e-2 Inv-loop μ-loop
-add-e-2 c = omega (arith, c .before .before .before .before .before .before .before .before .before .before .before .before .before .loop-test .taken, c .before .before .before .before .before .before .before .before .before .before .before .before .before .before .before .before .before .before .before .pre .0 .1)
+add-e-2 c = omega (arith, c .before .before .before .before .before .before .before .before .before .before .before .before .before .loop-test .taken, c .before .before .before .before .before .before .before .before .before .before .before .before .before .before .before .before .before .before .before .before .pre .0 .1)
 
--- src/list.rt:170:5
+-- src/list.rt:134:5
 loop-less-2 : tie.Need-loop-less-2 Inv-loop μ-loop
 loop-less-2 c = omega (arith, c .before .before .before .before .before .before .before .before .before .before .before .before .before .loop-test .taken)
 
--- src/list.rt:170:5
+-- src/list.rt:134:5
 loop-again-2 : tie.Need-loop-again-2 Inv-loop μ-loop
-loop-again-2 c = (omega (arith, c .before .before .before .before .before .before .before .before .before .before .before .before .before .before .loop .inv .0), omega (arith, c .before .before .before .before .before .before .before .before .before .before .before .before .before .loop-test .taken), omega (arith, c .before .before .before .before .before .before .before .before .before .before .before .before .before .before .loop .inv .0, c .before .before .before .before .before .before .before .before .before .before .before .before .before .before .loop .inv .2), omega (arith, c .before .before .before .before .before .before .before .before .before .before .before .before .before .before .loop .inv .0, c .before .before .before .before .before .before .before .before .before .before .before .before .before .before .loop .inv .3, c .before .before .before .before .before .before .before .before .before .before .before .before .before .before .loop .inv .4, sum-next (c .before .before .before .before .before .before .before .before .before .before .before .before .before .before .before .before .before .before .before .args .counts .now) (c .before .before .before .before .before .before .before .before .before .before .before .before .before .before .before .before .before .before .before .args .te) (c .before .before .before .before .before .before .before .before .before .before .before .before .before .before .loop .e) (c .before .before .before .before .before .before .before .before .before .before .before .before .before .loop-test .taken)), omega (arith, c .before .before .before .before .before .before .before .before .before .before .before .before .before .before .loop .inv .4, sum-next (c .before .before .before .before .before .before .before .before .before .before .before .before .before .before .before .before .before .before .before .args .counts .now) (c .before .before .before .before .before .before .before .before .before .before .before .before .before .before .before .before .before .before .before .args .te) (c .before .before .before .before .before .before .before .before .before .before .before .before .before .before .loop .e) (c .before .before .before .before .before .before .before .before .before .before .before .before .before .loop-test .taken)), enter-lengths (c .before .before .before .before .before .before .enter .ensures) .0 ∙ c .before .before .before .before .before .before .before .before .before .before .before .before .before .before .loop .inv .5, enter-lengths (c .before .before .before .before .before .before .enter .ensures) .1 ∙ c .before .before .before .before .before .before .before .before .before .before .before .before .before .before .loop .inv .6, enter-lengths (c .before .before .before .before .before .before .enter .ensures) .2 ∙ c .before .before .before .before .before .before .before .before .before .before .before .before .before .before .loop .inv .7, λ goal rest x y z P. ends-one (c .before .before .before .before .before .before .before .before .before .before .before .before .before .before .before .before .before .before .before .args .counts .now) _ _ _ _ _ (c .before .before .before .before .before .before .before .before .before .before .before .before .before .loop-test .taken) (c .before .before .before .before .before .before .before .before .before .before .before .is-listed .ensures) rest (c .before .before .before .before .before .before .before .before .before .before .before .before .before .before .loop .inv .8 goal rest x y z P) (not-false _ (c .before .before .before .before .before .before .before .before .before .before .if1 .left)) (omega (arith, c .before .before .before .before .before .before .before .before .before .before .before .before .before .before .before .before .before .before .before .pre .1 .0, c .before .before .before .before .before .before .before .before .before .before .before .before .before .before .loop .inv .5)) (c .before .before .before .before .before .before .before .before .before .before .before .before .before .before .loop .inv .6 ∙ (c .before .before .before .before .before .before .before .before .before .before .before .before .before .before .before .before .before .before .before .pre .1 .1 ∙ sym (c .before .before .before .before .before .before .before .before .before .before .before .before .before .before .loop .inv .5))) (c .before .before .before .before .before .before .before .before .before .before .before .before .before .before .loop .inv .7 ∙ (c .before .before .before .before .before .before .before .before .before .before .before .before .before .before .before .before .before .before .before .pre .1 .2 ∙ sym (c .before .before .before .before .before .before .before .before .before .before .before .before .before .before .loop .inv .5))) (c .before .before .before .before .before .before .enter .ensures))
+loop-again-2 c = (omega (arith, c .before .before .before .before .before .before .before .before .before .before .before .before .before .before .loop .inv .0), omega (arith, c .before .before .before .before .before .before .before .before .before .before .before .before .before .loop-test .taken), omega (arith, c .before .before .before .before .before .before .before .before .before .before .before .before .before .before .loop .inv .0, c .before .before .before .before .before .before .before .before .before .before .before .before .before .before .loop .inv .2), omega (arith, c .before .before .before .before .before .before .before .before .before .before .before .before .before .before .loop .inv .0, c .before .before .before .before .before .before .before .before .before .before .before .before .before .before .loop .inv .3, c .before .before .before .before .before .before .before .before .before .before .before .before .before .before .loop .inv .4, sum-next (c .before .before .before .before .before .before .before .before .before .before .before .before .before .before .before .before .before .before .before .before .args .counts .now) (c .before .before .before .before .before .before .before .before .before .before .before .before .before .before .before .before .before .before .before .before .args .te) (c .before .before .before .before .before .before .before .before .before .before .before .before .before .before .loop .e) (c .before .before .before .before .before .before .before .before .before .before .before .before .before .loop-test .taken)), omega (arith, c .before .before .before .before .before .before .before .before .before .before .before .before .before .before .loop .inv .4, sum-next (c .before .before .before .before .before .before .before .before .before .before .before .before .before .before .before .before .before .before .before .before .args .counts .now) (c .before .before .before .before .before .before .before .before .before .before .before .before .before .before .before .before .before .before .before .before .args .te) (c .before .before .before .before .before .before .before .before .before .before .before .before .before .before .loop .e) (c .before .before .before .before .before .before .before .before .before .before .before .before .before .loop-test .taken)), enter-lengths (c .before .before .before .before .before .before .enter .ensures) .0 ∙ c .before .before .before .before .before .before .before .before .before .before .before .before .before .before .loop .inv .5, enter-lengths (c .before .before .before .before .before .before .enter .ensures) .1 ∙ c .before .before .before .before .before .before .before .before .before .before .before .before .before .before .loop .inv .6, enter-lengths (c .before .before .before .before .before .before .enter .ensures) .2 ∙ c .before .before .before .before .before .before .before .before .before .before .before .before .before .before .loop .inv .7, λ goal rest x y z P. ends-one (c .before .before .before .before .before .before .before .before .before .before .before .before .before .before .before .before .before .before .before .before .args .counts .now) _ _ _ _ _ (c .before .before .before .before .before .before .before .before .before .before .before .before .before .loop-test .taken) (c .before .before .before .before .before .before .before .before .before .before .before .is-listed .ensures) rest (c .before .before .before .before .before .before .before .before .before .before .before .before .before .before .loop .inv .8 goal rest x y z P) (not-false _ (c .before .before .before .before .before .before .before .before .before .before .if2 .left)) (omega (arith, c .before .before .before .before .before .before .before .before .before .before .before .before .before .before .before .before .before .before .before .before .pre .1 .0, c .before .before .before .before .before .before .before .before .before .before .before .before .before .before .loop .inv .5)) (c .before .before .before .before .before .before .before .before .before .before .before .before .before .before .loop .inv .6 ∙ (c .before .before .before .before .before .before .before .before .before .before .before .before .before .before .before .before .before .before .before .before .pre .1 .1 ∙ sym (c .before .before .before .before .before .before .before .before .before .before .before .before .before .before .loop .inv .5))) (c .before .before .before .before .before .before .before .before .before .before .before .before .before .before .loop .inv .7 ∙ (c .before .before .before .before .before .before .before .before .before .before .before .before .before .before .before .before .before .before .before .before .pre .1 .2 ∙ sym (c .before .before .before .before .before .before .before .before .before .before .before .before .before .before .loop .inv .5))) (c .before .before .before .before .before .before .enter .ensures))
 
--- src/list.rt:150:1
+-- src/list.rt:108:1
 same-length : tie.Need-same-length Inv-loop μ-loop
 same-length c = c .before .loop .inv .5
 
--- src/list.rt:150:1
+-- src/list.rt:108:1
 same-length-2 : tie.Need-same-length-2 Inv-loop μ-loop
 same-length-2 c = c .before .loop .inv .6
 
--- src/list.rt:150:1
+-- src/list.rt:108:1
 same-length-3 : tie.Need-same-length-3 Inv-loop μ-loop
 same-length-3 c = c .before .loop .inv .7
 
--- src/list.rt:150:1
-returns : tie.Need-returns Inv-loop μ-loop
-returns c = (omega (arith, c .before .loop .inv .1, c .before .loop .inv .2, c .before .before .before .before .before .before .pre .0 .1), omega (arith, c .before .loop .inv .1, c .before .loop .inv .3, c .before .before .before .before .before .before .pre .0 .1), λ goal rest x y z P. ends-end (c .before .before .before .before .before .before .args .counts .now) _ _ _ _ _ (c .loop-test .left) rest (c .before .loop .inv .8 goal rest x y z P))
+-- src/list.rt:108:1
+returns-2 : tie.Need-returns-2 Inv-loop μ-loop
+returns-2 c = (omega (arith, c .before .loop .inv .1, c .before .loop .inv .2, c .before .before .before .before .before .before .before .pre .0 .1), omega (arith, c .before .loop .inv .1, c .before .loop .inv .3, c .before .before .before .before .before .before .before .pre .0 .1), λ goal rest x y z P. ends-end (c .before .before .before .before .before .before .before .args .counts .now) _ _ _ _ _ (c .loop-test .left) rest (c .before .loop .inv .8 goal rest x y z P))
 
 pub list-ends-spec : {M : Type 1} → statement M
 list-ends-spec =
@@ -107,6 +111,7 @@ list-ends-spec =
     (tie.spec
     Inv-loop
     μ-loop
+    returns
     loop-holds
     cast-added
     mul-added
@@ -126,4 +131,4 @@ list-ends-spec =
     same-length
     same-length-2
     same-length-3
-    returns)
+    returns-2)

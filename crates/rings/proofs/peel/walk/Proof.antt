@@ -1,4 +1,4 @@
-use Rattle.rings.proofs.WalkLaws.{At, at-small, at-end, at-start, at-out, at-place, at-few, row-below, at-stop, at-fresh-yes, at-fresh-no, at-fresh-place, at-skip, at-room, at-lose}
+use Rattle.rings.proofs.WalkLaws.{at-ends, At, at-small, at-end, at-start, at-out, at-place, at-few, row-below, at-stop, at-fresh-yes, at-fresh-no, at-fresh-place, at-skip, at-room, at-lose}
 use Rattle.rings.specs.Inner.Peeling.{season}
 use Rattle.rings.specs.Inner.Links.{placeOf}
 use Rattle.rings.specs.Table.{tableOf}
@@ -80,7 +80,7 @@ entry-requires-5 c κs = omega (arith, row-below _ _ _ _ _ (c .before .before .b
 
 -- src/peel.rt:69:17
 other-requires : tie.Need-other-requires Inv-loop μ-loop
-other-requires c κs = search needs
+other-requires c κs = at-ends _ _ _ _ _ (c .before .before .before .before .before .before .before .before .before .before .before .before .before .before .before .before .before .pre .0) (c .before .before .before .before .before .before .before .loop .inv .3) (c .before .before .before .before .before .before .before .loop .inv .2) (c .before .before .before .before .before .before .loop-test .taken) (c .before .before .before .before .before .entry3 .ensures) (c .before .entry4 .ensures) (c .entry5 .ensures)
 
 -- src/peel.rt:70:13
 lose-requires : tie.Need-lose-requires Inv-loop μ-loop

@@ -1,85 +1,98 @@
-use Rattle.rings.proofs.SettleLaws.{settle-start, split-rises}
 use Rattle.rings.proofs.DayLaws.{ready-of, span-after}
+use Rattle.rings.proofs.SettleLaws.{core-days, split-rises, settle-start, all-risen}
+use mathlib.Core.Path.{_∙_}
 use native.Mathlib.Omega.{arith}
-use Prim.Native.Nat.{ℕ}
-use lib.ListN.{length, length-replicate}
-use mathlib.Core.Path.{_≡_, _∙_, ap}
 use borrow.Author.Needs.{needs}
 use Rattle.rings.proofs.settle.advance.Statement.{statement}
 use Rattle.rings.proofs.settle.advance.Tie as tie
 use Rattle.rings.proofs.settle.advance.Reads as reads
 use Rattle.rings.proofs.settle.advance.Lts as lts
-use Rattle.rings.proofs.links.clear.Reads as clear-reads
-use Rattle.rings.proofs.peel.peel.Reads as peel-reads
-use Rattle.rings.proofs.settle.flag_rows.Reads as flag-rows-reads
+use Rattle.rings.proofs.settle.begin.Reads as begin-reads
+use Rattle.rings.proofs.settle.leave_rows.Reads as leave-rows-reads
+use Rattle.rings.proofs.settle.list_all.Reads as list-all-reads
 use Rattle.rings.proofs.settle.settle.Reads as settle-reads
 
--- src/settle.rt:328:5
-clear-requires : tie.Need-clear-requires
-clear-requires c κs = search needs
+-- src/settle.rt:566:9
+leave-rows-requires : tie.Need-leave-rows-requires
+leave-rows-requires c κs = (c .before .before .before .before .before .before .before .before .before .before .pre .0, (split-rises (c .before .before .before .before .before .before .before .before .before .before .pre .1 .0 .2) (c .before .before .before .before .before .before .before .before .before .before .pre .1 .0 .3), c .before .before .before .before .before .before .before .before .before .before .pre .1 .0 .3 .within, c .before .before .before .before .before .before .before .before .before .before .pre .1 .1 .0 .long, core-days _ _ _ _ _ _ _ (c .before .before .before .before .before .before .before .before .before .before .pre .0 .setting) (c .before .before .before .before .before .before .before .before .before .before .pre .1 .1 .0), c .before .before .before .before .before .before .before .before .before .before .pre .1 .1 .1 .long, c .before .before .before .before .before .before .before .before .before .before .pre .1 .1 .2))
 
--- src/settle.rt:329:5
-flag-rows-requires : tie.Need-flag-rows-requires
-flag-rows-requires c κs = (c .before .before .before .before .before .before .before .before .before .before .before .before .pre .0 .sound, (split-rises (c .before .before .before .before .before .before .before .before .before .before .before .before .pre .1 .0 .2) (c .before .before .before .before .before .before .before .before .before .before .before .before .pre .1 .0 .3), c .before .before .before .before .before .before .before .before .before .before .before .before .pre .1 .0 .3 .within, ap length (c .before .before .before .clear .ensures) ∙ (length-replicate {A = ℕ} _ 0 ∙ c .before .before .before .before .before .before .before .before .before .before .before .before .pre .1 .1 .1)))
+-- src/settle.rt:580:23
+sub-budget : tie.Need-sub-budget
+sub-budget c = (span-after (omega (arith, c .before .before .before .before .before .before .before .before .before .before .before .before .before .before .before .pre .1 .0 .0)) (c .before .before .before .before .before .before .before .before .before .before .before .before .before .before .before .pre .1 .0 .3) (c .before .before .before .before .before .before .before .before .before .before .before .before .before .before .before .pre .1 .0 .4)) .ordered
 
--- src/settle.rt:330:57
+-- src/settle.rt:580:18
+mul-budget : tie.Need-mul-budget
+mul-budget c = search needs
+
+-- src/settle.rt:587:9
 add-settle : tie.Need-add-settle
 add-settle c = search needs
 
--- src/settle.rt:330:9
+-- src/settle.rt:581:9
 settle-requires : tie.Need-settle-requires
-settle-requires c κs = (ready-of (c .before .before .before .before .before .before .before .before .before .before .before .before .before .before .before .before .before .pre .0 .sound) (c .before .before .before .before .before .before .before .before .before .before .before .before .before .before .before .before .before .pre .0 .linked) (c .before .before .before .before .before .before .before .before .before .before .before .before .before .before .before .before .before .pre .0 .setting .some-k) (c .before .before .before .before .before .before .before .before .before .before .before .before .before .before .before .before .before .pre .1 .0 .1) (c .before .before .before .before .before .before .before .before .before .before .before .before .before .before .before .before .before .pre .1 .0 .3), settle-start _ _ _ _ _ _ _ _ (c .before .before .before .before .before .before .before .before .before .before .before .before .before .before .before .before .before .pre .0 .setting) (c .before .before .before .before .before .before .before .before .before .before .before .before .before .before .before .before .before .pre .1 .1 .0) (c .before .before .before .before .before .before .before .before .before .before .before .before .before .before .before .before .before .pre .1 .0 .3) (c .before .before .before .before .flag-rows .ensures))
+settle-requires c κs = ((ready-of (c .before .before .before .before .before .before .before .before .before .before .before .before .before .before .before .before .before .before .pre .0 .sound) (c .before .before .before .before .before .before .before .before .before .before .before .before .before .before .before .before .before .before .pre .0 .linked) (c .before .before .before .before .before .before .before .before .before .before .before .before .before .before .before .before .before .before .pre .0 .setting .some-k) (c .before .before .before .before .before .before .before .before .before .before .before .before .before .before .before .before .before .before .pre .1 .0 .1) (c .before .before .before .before .before .before .before .before .before .before .before .before .before .before .before .before .before .before .pre .1 .0 .3)), (omega (arith, c .before .before .before .before .before .before .before .before .before .before .before .before .before .before .before .before .before .before .pre .1 .0 .4 .within, c .before .before .before .before .before .before .before .before .before .before .before .before .before .before .before .before .before .before .pre .0 .sound .most), c .before .before .before .before .before .before .before .before .before .before .before .before .before .before .before .before .before .before .pre .1 .1 .0 .long, c .before .before .before .before .before .before .before .leave-rows .ensures .1 .long, c .before .before .before .before .before .before .before .leave-rows .ensures .0 .long, λ top. settle-start _ _ _ _ _ _ _ (c .before .before .before .before .before .before .before .before .before .before .before .before .before .before .before .before .before .before .pre .0 .setting) ((ready-of (c .before .before .before .before .before .before .before .before .before .before .before .before .before .before .before .before .before .before .pre .0 .sound) (c .before .before .before .before .before .before .before .before .before .before .before .before .before .before .before .before .before .before .pre .0 .linked) (c .before .before .before .before .before .before .before .before .before .before .before .before .before .before .before .before .before .before .pre .0 .setting .some-k) (c .before .before .before .before .before .before .before .before .before .before .before .before .before .before .before .before .before .before .pre .1 .0 .1) (c .before .before .before .before .before .before .before .before .before .before .before .before .before .before .before .before .before .before .pre .1 .0 .3)) .setting) (split-rises (c .before .before .before .before .before .before .before .before .before .before .before .before .before .before .before .before .before .before .pre .1 .0 .2) (c .before .before .before .before .before .before .before .before .before .before .before .before .before .before .before .before .before .before .pre .1 .0 .3)) (c .before .before .before .before .before .before .before .before .before .before .before .before .before .before .before .before .before .before .pre .1 .0 .3 .within) (c .before .before .before .before .before .before .before .before .before .before .before .before .before .before .before .before .before .before .pre .1 .1 .0) (c .before .before .before .before .before .before .before .before .before .before .before .before .before .before .before .before .before .before .pre .1 .1 .1) (c .before .before .before .before .before .before .before .leave-rows .ensures .1) (c .before .before .before .before .before .before .before .leave-rows .ensures .0) top))
 
--- src/settle.rt:332:9
+-- src/settle.rt:597:9
 same-length : tie.Need-same-length
 same-length c = search needs
 
--- src/settle.rt:332:9
+-- src/settle.rt:597:9
 same-length-2 : tie.Need-same-length-2
 same-length-2 c = search needs
 
--- src/settle.rt:332:9
-returns : tie.Need-returns
-returns c = c .before .before .before .before .before .settle .ensures .2 (c .if1 .taken)
-
--- src/settle.rt:340:9
-add-peel : tie.Need-add-peel
-add-peel c = omega (arith, c .before .before .before .before .before .before .before .before .before .before .before .before .before .before .before .before .before .before .before .before .before .before .before .pre .1 .0 .0, c .before .before .before .before .before .before .before .before .before .before .before .before .before .before .before .before .before .before .before .before .before .before .before .pre .1 .0 .1)
-
--- src/settle.rt:334:5
-peel-requires : tie.Need-peel-requires
-peel-requires c κs = (ready-of (c .before .before .before .before .before .before .before .before .before .before .before .before .before .before .before .before .before .before .before .before .before .before .before .before .before .before .pre .0 .sound) (c .before .before .before .before .before .before .before .before .before .before .before .before .before .before .before .before .before .before .before .before .before .before .before .before .before .before .pre .0 .linked) (c .before .before .before .before .before .before .before .before .before .before .before .before .before .before .before .before .before .before .before .before .before .before .before .before .before .before .pre .0 .setting .some-k) (c .before .before .before .before .before .before .before .before .before .before .before .before .before .before .before .before .before .before .before .before .before .before .before .before .before .before .pre .1 .0 .1) (c .before .before .before .before .before .before .before .before .before .before .before .before .before .before .before .before .before .before .before .before .before .before .before .before .before .before .pre .1 .0 .3), (span-after (omega (arith, c .before .before .before .before .before .before .before .before .before .before .before .before .before .before .before .before .before .before .before .before .before .before .before .before .before .before .pre .1 .0 .0)) (c .before .before .before .before .before .before .before .before .before .before .before .before .before .before .before .before .before .before .before .before .before .before .before .before .before .before .pre .1 .0 .3) (c .before .before .before .before .before .before .before .before .before .before .before .before .before .before .before .before .before .before .before .before .before .before .before .before .before .before .pre .1 .0 .4), (c .before .before .before .before .before .before .before .before .settle .ensures .0, c .before .before .before .before .before .before .before .before .settle .ensures .1, c .before .before .before .before .before .before .before .before .before .before .before .before .before .before .before .before .before .before .before .before .before .before .before .before .before .before .pre .1 .1 .2)))
-
--- src/settle.rt:308:1
+-- src/settle.rt:597:9
 same-length-3 : tie.Need-same-length-3
 same-length-3 c = search needs
 
--- src/settle.rt:308:1
+-- src/settle.rt:597:9
+returns : tie.Need-returns
+returns c = c .before .before .before .before .before .before .before .settle .ensures (c .if1 .taken)
+
+-- src/settle.rt:605:9
+add-begin : tie.Need-add-begin
+add-begin c = omega (arith, c .before .before .before .before .before .before .before .before .before .before .before .before .before .before .before .before .before .before .before .before .before .before .before .before .before .before .pre .1 .0 .0, c .before .before .before .before .before .before .before .before .before .before .before .before .before .before .before .before .before .before .before .before .before .before .before .before .before .before .pre .1 .0 .1)
+
+-- src/settle.rt:599:5
+begin-requires : tie.Need-begin-requires
+begin-requires c κs = ((ready-of (c .before .before .before .before .before .before .before .before .before .before .before .before .before .before .before .before .before .before .before .before .before .before .before .before .before .before .before .before .before .pre .0 .sound) (c .before .before .before .before .before .before .before .before .before .before .before .before .before .before .before .before .before .before .before .before .before .before .before .before .before .before .before .before .before .pre .0 .linked) (c .before .before .before .before .before .before .before .before .before .before .before .before .before .before .before .before .before .before .before .before .before .before .before .before .before .before .before .before .before .pre .0 .setting .some-k) (c .before .before .before .before .before .before .before .before .before .before .before .before .before .before .before .before .before .before .before .before .before .before .before .before .before .before .before .before .before .pre .1 .0 .1) (c .before .before .before .before .before .before .before .before .before .before .before .before .before .before .before .before .before .before .before .before .before .before .before .before .before .before .before .before .before .pre .1 .0 .3)), ((span-after (omega (arith, c .before .before .before .before .before .before .before .before .before .before .before .before .before .before .before .before .before .before .before .before .before .before .before .before .before .before .before .before .before .pre .1 .0 .0)) (c .before .before .before .before .before .before .before .before .before .before .before .before .before .before .before .before .before .before .before .before .before .before .before .before .before .before .before .before .before .pre .1 .0 .3) (c .before .before .before .before .before .before .before .before .before .before .before .before .before .before .before .before .before .before .before .before .before .before .before .before .before .before .before .before .before .pre .1 .0 .4)), (c .before .before .before .before .before .before .before .before .before .before .settle .kept .1 .1 .1 .1 .1 .1 .1 .1 .1 .1 .0 ∙ c .before .before .before .before .before .before .before .before .before .before .before .before .before .before .before .before .before .before .before .before .before .before .before .before .before .before .before .before .before .pre .1 .1 .0 .long, c .before .before .before .before .before .before .before .before .before .before .settle .kept .1 .1 .1 .1 .1 .1 .1 .1 .1 .1 .1 .0 ∙ c .before .before .before .before .before .before .before .before .before .before .before .before .before .before .before .before .before .before .leave-rows .ensures .1 .long, c .before .before .before .before .before .before .before .before .before .before .settle .kept .1 .1 .1 .1 .1 .1 .1 .1 .1 .1 .1 .1 .0 ∙ c .before .before .before .before .before .before .before .before .before .before .before .before .before .before .before .before .before .before .leave-rows .ensures .0 .long)))
+
+-- src/settle.rt:613:5
+list-all-requires : tie.Need-list-all-requires
+list-all-requires c κs = search needs
+
+-- src/settle.rt:546:1
 same-length-4 : tie.Need-same-length-4
 same-length-4 c = search needs
 
--- src/settle.rt:308:1
+-- src/settle.rt:546:1
 same-length-5 : tie.Need-same-length-5
 same-length-5 c = search needs
 
--- src/settle.rt:308:1
+-- src/settle.rt:546:1
+same-length-6 : tie.Need-same-length-6
+same-length-6 c = search needs
+
+-- src/settle.rt:546:1
 returns-2 : tie.Need-returns-2
-returns-2 c = search needs
+returns-2 c = (c .before .before .before .before .before .before .before .before .before .before .begin .ensures .0, c .before .before .before .before .before .before .before .before .before .before .begin .ensures .1, all-risen (c .before .before .list-all .ensures .0) (c .before .before .list-all .ensures .1))
 
 pub advance-spec : {M : Type 1} → statement M
 advance-spec =
     tie.close
     (tie.spec
-    clear-requires
-    flag-rows-requires
+    leave-rows-requires
+    sub-budget
+    mul-budget
     add-settle
     settle-requires
     same-length
     same-length-2
-    returns
-    add-peel
-    peel-requires
     same-length-3
+    returns
+    add-begin
+    begin-requires
+    list-all-requires
     same-length-4
     same-length-5
+    same-length-6
     returns-2)

@@ -1,70 +1,95 @@
 use Rattle.rings.proofs.SettleLaws.{settle-end}
-use Rattle.rings.specs.Inner.Settling.{Settling}
-use Rattle.rings.proofs.WordLaws.{clash}
+use Rattle.rings.specs.Inner.Settling.{Rising}
 use Rattle.rings.specs.Inner.Peeling.{query}
 use Rattle.rings.specs.Table.{tableOf}
-use borrow.Author.Needs.{needs}
-use native.Mathlib.Omega.{arith}
-use native.Mathlib.Nat.{not-suc-le-zero}
-use Prim.Native.Nat.{ℕ, suc, _+_, _-_, _≤_, _<_}
+use mathlib.Core.Path.{_≡_, sym, _∙_}
 use lib.ListN.{length}
-use mathlib.Core.Bool.{true}
-use mathlib.Core.Path.{_≡_, refl, _∙_, sym}
+use Prim.Native.Nat.{ℕ, _+_, _-_, _≤_, _<_}
+use native.Mathlib.Nat.{le-refl}
+use native.Mathlib.Omega.{arith}
 use Rattle.rings.proofs.settle.settle.Statement.{statement}
 use Rattle.rings.proofs.settle.settle.Tie as tie
 use Rattle.rings.proofs.settle.settle.Reads as reads
 use Rattle.rings.proofs.settle.settle.Lts as lts
-use Rattle.rings.proofs.settle.sweep.Reads as sweep-reads
+use Rattle.rings.proofs.settle.settle_account.Reads as settle-account-reads
 
 abbrev Inv-loop : tie.InvT-loop
-Inv-loop days first second links k start stop lo times₀ flags₀ rounds₀ times flags rounds = Settling (tableOf days first second) (query k) stop start times flags
+Inv-loop days first second links k start stop lo budget waiting times₀ spare₀ queue₀ head₀ tail₀ risen₀ work₀ times spare queue head tail risen work = (head ≤ 4096) × (length times ≡ 4096) × (length spare ≡ 4096) × (length queue ≡ 4096) × (tail ≤ 4096 → Rising (tableOf days first second) (query k) stop start times₀ times spare queue head tail risen) × (work ≤ budget + 98304)
 
 abbrev μ-loop : tie.MeasureT-loop
-μ-loop days first second links k start stop lo times₀ flags₀ rounds₀ times flags rounds = 16 - rounds
+μ-loop days first second links k start stop lo budget waiting times₀ spare₀ queue₀ head₀ tail₀ risen₀ work₀ times spare queue head tail risen work = 4097 - head
 
--- src/settle.rt:274:5
+-- src/settle.rt:377:5
 loop-holds : tie.Need-loop-holds Inv-loop μ-loop
-loop-holds c = c .before .before .before .before .before .before .pre .1
+loop-holds c = (omega arith, c .before .before .before .before .before .before .before .pre .1 .1, c .before .before .before .before .before .before .before .pre .1 .2, c .before .before .before .before .before .before .before .pre .1 .3, c .before .before .before .before .before .before .before .pre .1 .4, omega arith)
 
--- src/settle.rt:275:13
-sweep-requires : tie.Need-sweep-requires Inv-loop μ-loop
-sweep-requires c κs = (c .before .before .before .before .before .before .before .before .before .before .pre .0, c .before .before .before .loop .inv)
-
--- src/settle.rt:277:13
+-- src/settle.rt:379:13
 same-length : tie.Need-same-length Inv-loop μ-loop
-same-length c = c .before .before .before .before .before .sweep .ensures .0 .long ∙ sym (c .before .before .before .before .before .before .before .before .before .before .before .before .before .before .before .before .pre .1 .long)
+same-length c = c .before .before .loop .inv .1 ∙ sym (c .before .before .before .before .before .before .before .before .before .before .pre .1 .1)
 
--- src/settle.rt:277:13
+-- src/settle.rt:379:13
 same-length-2 : tie.Need-same-length-2 Inv-loop μ-loop
-same-length-2 c = c .before .before .before .before .before .sweep .ensures .0 .long-flags ∙ sym (c .before .before .before .before .before .before .before .before .before .before .before .before .before .before .before .before .pre .1 .long-flags)
+same-length-2 c = c .before .before .loop .inv .2 ∙ sym (c .before .before .before .before .before .before .before .before .before .before .pre .1 .2)
 
--- src/settle.rt:277:13
-returns : tie.Need-returns Inv-loop μ-loop
-returns c = (c .before .before .before .before .before .sweep .ensures .0 .long, c .before .before .before .before .before .sweep .ensures .0 .long-flags, λ e. settle-end _ _ _ _ _ _ _ 0 (c .before .before .before .before .before .before .before .before .before .before .before .before .before .before .before .before .pre .0 .setting) (c .before .before .before .before .before .sweep .ensures .0) (c .before .before .before .before .before .sweep .ensures .1 (c .if1 .taken)))
-
--- src/settle.rt:279:9
-add-rounds : tie.Need-add-rounds Inv-loop μ-loop
-add-rounds c = omega (arith, c .before .before .before .before .before .before .before .before .loop-test .taken)
-
--- src/settle.rt:274:5
-loop-less : tie.Need-loop-less Inv-loop μ-loop
-loop-less c = omega (arith, c .before .before .before .before .before .before .before .before .loop-test .taken)
-
--- src/settle.rt:274:5
-loop-again : tie.Need-loop-again Inv-loop μ-loop
-loop-again c = c .before .before .before .before .before .sweep .ensures .0
-
--- src/settle.rt:257:1
+-- src/settle.rt:379:13
 same-length-3 : tie.Need-same-length-3 Inv-loop μ-loop
-same-length-3 c = c .before .loop .inv .long ∙ sym (c .before .before .before .before .before .before .before .before .pre .1 .long)
+same-length-3 c = c .before .before .loop .inv .3 ∙ sym (c .before .before .before .before .before .before .before .before .before .before .pre .1 .3)
 
--- src/settle.rt:257:1
+-- src/settle.rt:379:13
+returns : tie.Need-returns Inv-loop μ-loop
+returns c = λ h. absurd (omega (arith, h))
+
+-- src/settle.rt:382:13
 same-length-4 : tie.Need-same-length-4 Inv-loop μ-loop
-same-length-4 c = c .before .loop .inv .long-flags ∙ sym (c .before .before .before .before .before .before .before .before .pre .1 .long-flags)
+same-length-4 c = c .before .before .before .loop .inv .1 ∙ sym (c .before .before .before .before .before .before .before .before .before .before .before .pre .1 .1)
 
--- src/settle.rt:257:1
+-- src/settle.rt:382:13
+same-length-5 : tie.Need-same-length-5 Inv-loop μ-loop
+same-length-5 c = c .before .before .before .loop .inv .2 ∙ sym (c .before .before .before .before .before .before .before .before .before .before .before .pre .1 .2)
+
+-- src/settle.rt:382:13
+same-length-6 : tie.Need-same-length-6 Inv-loop μ-loop
+same-length-6 c = c .before .before .before .loop .inv .3 ∙ sym (c .before .before .before .before .before .before .before .before .before .before .before .pre .1 .3)
+
+-- src/settle.rt:382:13
 returns-2 : tie.Need-returns-2 Inv-loop μ-loop
-returns-2 c = (c .before .loop .inv .long, c .before .loop .inv .long-flags, λ e. clash e refl)
+returns-2 c = λ h. absurd (omega (arith, h))
+
+-- src/settle.rt:384:13
+settle-account-requires : tie.Need-settle-account-requires Inv-loop μ-loop
+settle-account-requires c κs = (c .before .before .before .before .before .before .before .before .before .before .before .before .before .before .pre .0, (c .before .before .before .before .before .before .before .before .before .before .before .before .before .before .pre .1 .0, c .before .before .before .before .before .loop-test .taken, c .before .before .before .before .if1 .left, (c .before .before .before .before .before .before .loop .inv .4 (c .before .before .before .before .if1 .left)) .behind, c .before .before .before .before .before .before .loop .inv .1, c .before .before .before .before .before .before .loop .inv .2, c .before .before .before .before .before .before .loop .inv .3, (c .before .before .before .before .before .before .loop .inv .4 (c .before .before .before .before .if1 .left)) .waiting .small _ (le-refl _) (c .before .before .before .before .before .loop-test .taken), (c .before .before .before .before .before .before .loop .inv .4 (c .before .before .before .before .if1 .left)) .settling .days))
+
+-- src/settle.rt:401:9
+add-head : tie.Need-add-head Inv-loop μ-loop
+add-head c = omega (arith, c .before .before .before .before .before .before .before .before .before .before .before .before .before .loop .inv .0)
+
+-- src/settle.rt:404:16
+add-work : tie.Need-add-work Inv-loop μ-loop
+add-work c = omega (arith, c .before .before .before .before .before .before .before .before .before .before .before .before .before .before .loop .inv .5, c .before .before .before .before .before .before .before .settle-account .ensures .0, c .before .before .before .before .before .before .before .before .before .before .before .before .before .before .before .before .before .before .before .before .before .before .pre .1 .0)
+
+-- src/settle.rt:377:5
+loop-less : tie.Need-loop-less Inv-loop μ-loop
+loop-less c = omega (arith, c .before .before .before .before .before .before .before .before .before .before .before .before .before .loop-test .taken, c .before .before .before .before .before .before .before .before .before .before .before .before .if1 .left)
+
+-- src/settle.rt:377:5
+loop-again : tie.Need-loop-again Inv-loop μ-loop
+loop-again c = (omega (arith, c .before .before .before .before .before .before .before .before .before .before .before .before .before .loop-test .taken, c .before .before .before .before .before .before .before .before .before .before .before .before .if1 .left), c .before .before .before .before .before .before .before .settle-account .kept .1 .1 .1 .1 .1 .1 .1 .1 .1 .1 .1 .1 .0 ∙ c .before .before .before .before .before .before .before .before .before .before .before .before .before .before .loop .inv .1, c .before .before .before .before .before .before .before .settle-account .kept .1 .1 .1 .1 .1 .1 .1 .1 .1 .1 .1 .1 .1 .0 ∙ c .before .before .before .before .before .before .before .before .before .before .before .before .before .before .loop .inv .2, c .before .before .before .before .before .before .before .settle-account .kept .1 .1 .1 .1 .1 .1 .1 .1 .1 .1 .1 .1 .1 .1 .0 ∙ c .before .before .before .before .before .before .before .before .before .before .before .before .before .before .loop .inv .3, λ h. c .before .before .before .before .before .before .before .settle-account .ensures .1 h _ (c .before .before .before .before .before .before .before .before .before .before .before .before .before .before .loop .inv .4 (c .before .before .before .before .before .before .before .before .before .before .before .before .if1 .left)), omega (arith, c .before .before .before .before .before .before .before .before .before .before .before .if2 .left, c .before .before .before .before .before .before .before .settle-account .ensures .0))
+
+-- src/settle.rt:354:1
+same-length-7 : tie.Need-same-length-7 Inv-loop μ-loop
+same-length-7 c = c .before .loop .inv .1 ∙ sym (c .before .before .before .before .before .before .before .before .before .pre .1 .1)
+
+-- src/settle.rt:354:1
+same-length-8 : tie.Need-same-length-8 Inv-loop μ-loop
+same-length-8 c = c .before .loop .inv .2 ∙ sym (c .before .before .before .before .before .before .before .before .before .pre .1 .2)
+
+-- src/settle.rt:354:1
+same-length-9 : tie.Need-same-length-9 Inv-loop μ-loop
+same-length-9 c = c .before .loop .inv .3 ∙ sym (c .before .before .before .before .before .before .before .before .before .pre .1 .3)
+
+-- src/settle.rt:354:1
+returns-3 : tie.Need-returns-3 Inv-loop μ-loop
+returns-3 c = λ h. settle-end _ _ _ _ _ _ _ (c .before .before .before .before .before .before .before .before .before .pre .0 .setting) (c .before .loop .inv .4 (omega (arith, c .before .loop .inv .0, c .loop-test .left))) (c .loop-test .left)
 
 pub settle-spec : {M : Type 1} → statement M
 settle-spec =
@@ -73,13 +98,20 @@ settle-spec =
     Inv-loop
     μ-loop
     loop-holds
-    sweep-requires
     same-length
     same-length-2
+    same-length-3
     returns
-    add-rounds
+    same-length-4
+    same-length-5
+    same-length-6
+    returns-2
+    settle-account-requires
+    add-head
+    add-work
     loop-less
     loop-again
-    same-length-3
-    same-length-4
-    returns-2)
+    same-length-7
+    same-length-8
+    same-length-9
+    returns-3)

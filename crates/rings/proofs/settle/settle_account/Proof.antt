@@ -1,94 +1,133 @@
-use Rattle.rings.proofs.SettleLaws.{settle-same, settle-rise}
+use Rattle.rings.proofs.SettleLaws.{account-same, account-rise}
+use mathlib.Core.Path.{sym, _∙_}
 use native.Mathlib.Omega.{arith}
 use borrow.Author.Needs.{needs}
 use Rattle.rings.proofs.settle.settle_account.Statement.{statement}
 use Rattle.rings.proofs.settle.settle_account.Tie as tie
 use Rattle.rings.proofs.settle.settle_account.Reads as reads
 use Rattle.rings.proofs.settle.settle_account.Lts as lts
-use Rattle.rings.proofs.settle.flag_others.Reads as flag-others-reads
+use Rattle.rings.proofs.links.entry.Reads as entry-reads
+use Rattle.rings.proofs.links.first_place.Reads as first-place-reads
+use Rattle.rings.proofs.links.put.Reads as put-reads
 use Rattle.rings.proofs.settle.look.Reads as look-reads
+use Rattle.rings.proofs.settle.lose_others.Reads as lose-others-reads
 
--- src/settle.rt:206:15
+-- src/settle.rt:343:9
+entry-requires : tie.Need-entry-requires
+entry-requires c κs = search needs
+
+-- src/settle.rt:344:9
+first-place-requires : tie.Need-first-place-requires
+first-place-requires c κs = (c .before .before .before .before .before .before .before .before .before .pre .0 .sound, (c .before .before .before .before .before .before .before .before .before .pre .0 .linked, (omega (arith, c .entry .ensures, c .before .before .before .before .before .before .before .before .before .pre .1 .7))))
+
+-- src/settle.rt:345:15
 mul-old : tie.Need-mul-old
-mul-old c = omega (arith, c .before .before .before .before .before .before .pre .1 .0)
+mul-old c = search needs
 
--- src/settle.rt:206:15
+-- src/settle.rt:345:15
 slice-read-old : tie.Need-slice-read-old
-slice-read-old c = omega (arith, c .before .before .before .before .before .before .before .pre .1 .0, c .before .before .before .before .before .before .before .pre .1 .1 .long)
+slice-read-old c = search needs
 
--- src/settle.rt:207:9
+-- src/settle.rt:346:9
 look-requires : tie.Need-look-requires
-look-requires c κs = (c .before .before .before .before .before .before .before .before .pre .0, (c .before .before .before .before .before .before .before .before .pre .1 .0, c .before .before .before .before .before .before .before .before .pre .1 .1 .long, c .before .before .before .before .before .before .before .before .pre .1 .1 .days))
+look-requires c κs = (c .before .before .before .before .before .before .before .before .before .before .before .before .pre .0, ((omega (arith, c .before .before .before .entry .ensures, c .before .before .before .before .before .before .before .before .before .before .before .before .pre .1 .7)), c .before .before .before .before .before .before .before .before .before .before .before .before .pre .1 .4, c .before .before .before .before .before .before .before .before .before .before .before .before .pre .1 .8, c .before .before .before .before .before .before .before .before .before .before .before .before .pre .1 .0, c .before .before .first-place .ensures))
 
--- src/settle.rt:209:9
+-- src/settle.rt:362:9
 same-length : tie.Need-same-length
 same-length c = search needs
 
--- src/settle.rt:209:9
-returns : tie.Need-returns
-returns c = c .before .before .before .before .before .before .before .before .before .before .pre .1 .1
-
--- src/settle.rt:211:5
-mul-flags : tie.Need-mul-flags
-mul-flags c = search needs
-
--- src/settle.rt:211:5
-slice-write-flags : tie.Need-slice-write-flags
-slice-write-flags c = search needs
-
--- src/settle.rt:212:5
-mul-times : tie.Need-mul-times
-mul-times c = search needs
-
--- src/settle.rt:212:5
-slice-write-times : tie.Need-slice-write-times
-slice-write-times c = search needs
-
--- src/settle.rt:214:9
+-- src/settle.rt:362:9
 same-length-2 : tie.Need-same-length-2
 same-length-2 c = search needs
 
--- src/settle.rt:214:9
+-- src/settle.rt:362:9
+returns : tie.Need-returns
+returns c = (c .before .look .ensures .1, λ h. absurd (omega (arith, h)))
+
+-- src/settle.rt:368:5
+mul-spare : tie.Need-mul-spare
+mul-spare c = search needs
+
+-- src/settle.rt:368:5
+slice-write-spare : tie.Need-slice-write-spare
+slice-write-spare c = search needs
+
+-- src/settle.rt:370:9
 same-length-3 : tie.Need-same-length-3
 same-length-3 c = search needs
 
--- src/settle.rt:214:9
-returns-2 : tie.Need-returns-2
-returns-2 c = settle-same _ _ _ _ _ (c .before .before .before .before .before .before .before .before .before .before .before .pre .0 .setting) (c .before .before .before .before .before .before .before .before .before .before .before .pre .1 .1) (c .before .before .before .before .before .before .before .before .before .before .before .pre .1 .0) (c .before .before .look .ensures (c .before .if1 .left)) (c .if2 .taken)
-
--- src/settle.rt:216:5
-flag-others-requires : tie.Need-flag-others-requires
-flag-others-requires c κs = search needs
-
--- src/settle.rt:189:1
+-- src/settle.rt:370:9
 same-length-4 : tie.Need-same-length-4
 same-length-4 c = search needs
 
--- src/settle.rt:189:1
+-- src/settle.rt:370:9
 same-length-5 : tie.Need-same-length-5
 same-length-5 c = search needs
 
--- src/settle.rt:189:1
+-- src/settle.rt:370:9
+returns-2 : tie.Need-returns-2
+returns-2 c = (c .before .before .look .ensures .1, λ h xs Z. account-same _ _ _ _ _ (c .before .before .before .before .before .before .before .before .before .before .before .before .before .before .before .pre .0 .setting) (Z .settling) (omega (arith, c .before .before .before .before .before .before .entry .ensures, c .before .before .before .before .before .before .before .before .before .before .before .before .before .before .before .pre .1 .7)) (c .before .before .look .ensures .0 (c .before .if1 .left)) (Z .waiting) (sym (c .before .before .before .before .before .before .entry .ensures)) (Z .behind) (Z .risen) (c .before .before .before .before .before .before .before .before .before .before .before .before .before .before .before .pre .1 .1) (c .before .before .before .before .before .before .before .before .before .before .before .before .before .before .before .pre .1 .2) (c .if2 .taken))
+
+-- src/settle.rt:376:5
+mul-times : tie.Need-mul-times
+mul-times c = search needs
+
+-- src/settle.rt:376:5
+slice-write-times : tie.Need-slice-write-times
+slice-write-times c = search needs
+
+-- src/settle.rt:377:5
+put-requires : tie.Need-put-requires
+put-requires c κs = search needs
+
+-- src/settle.rt:378:9
+lose-others-requires : tie.Need-lose-others-requires
+lose-others-requires c κs = (c .before .before .before .before .before .before .before .before .before .before .before .before .before .before .before .before .before .before .before .before .before .before .pre .0, ((omega (arith, c .before .before .before .before .before .before .before .before .before .before .before .before .before .entry .ensures, c .before .before .before .before .before .before .before .before .before .before .before .before .before .before .before .before .before .before .before .before .before .before .pre .1 .7)), search (needs, c .before .before .before .before .before .before .before .before .before .before .before .before .before .before .before .before .before .before .before .before .before .before .pre .1 .4), search (needs, c .before .before .before .before .before .before .before .before .before .before .before .before .before .before .before .before .before .before .before .before .before .before .pre .1 .5), c .before .before .before .before .before .put .kept .0 ∙ c .before .before .before .before .before .before .before .before .before .before .before .before .before .before .before .before .before .before .before .before .before .before .pre .1 .6, c .before .before .before .before .before .before .before .before .before .before .before .before .first-place .ensures))
+
+-- src/settle.rt:397:16
+add-t24 : tie.Need-add-t24
+add-t24 c = omega (arith, c .before .before .before .before .before .before .before .before .before .before .before .before .before .before .before .before .before .before .before .before .before .before .before .before .before .before .before .pre .1 .1, c .before .before .before .before .before .before .before .before .before .before .before .before .before .before .before .before .before .before .before .before .before .before .before .before .before .before .before .pre .1 .2, c .before .before .before .before .before .before .before .before .before .before .before .before .before .before .before .before .before .before .before .before .before .before .before .before .before .before .before .pre .1 .3)
+
+-- src/settle.rt:322:1
+same-length-6 : tie.Need-same-length-6
+same-length-6 c = search needs
+
+-- src/settle.rt:322:1
+same-length-7 : tie.Need-same-length-7
+same-length-7 c = c .before .before .before .before .lose-others .ensures .0 .long ∙ sym (c .before .before .before .before .before .before .before .before .before .before .before .before .before .before .before .before .before .before .before .before .before .before .before .before .before .before .before .pre .1 .5)
+
+-- src/settle.rt:322:1
+same-length-8 : tie.Need-same-length-8
+same-length-8 c = search needs
+
+-- src/settle.rt:322:1
 returns-3 : tie.Need-returns-3
-returns-3 c = settle-rise _ _ _ _ _ (c .before .before .before .before .before .before .before .before .before .before .before .before .before .before .before .before .pre .0 .setting) (c .before .before .before .before .before .before .before .before .before .before .before .before .before .before .before .before .pre .1 .1) (c .before .before .before .before .before .before .before .before .before .before .before .before .before .before .before .before .pre .1 .0) (c .before .before .before .before .before .before .before .look .ensures (c .before .before .before .before .before .before .if1 .left)) (c .before .before .flag-others .ensures)
+returns-3 c = (c .before .before .before .before .before .before .before .before .before .before .before .before .before .before .look .ensures .1, λ h xs Z. account-rise _ _ _ _ _ (c .before .before .before .before .before .before .before .before .before .before .before .before .before .before .before .before .before .before .before .before .before .before .before .before .before .before .before .pre .0 .setting) (Z .settling) (omega (arith, c .before .before .before .before .before .before .before .before .before .before .before .before .before .before .before .before .before .before .entry .ensures, c .before .before .before .before .before .before .before .before .before .before .before .before .before .before .before .before .before .before .before .before .before .before .before .before .before .before .before .pre .1 .7)) (c .before .before .before .before .before .before .before .before .before .before .before .before .before .before .look .ensures .0 (c .before .before .before .before .before .before .before .before .before .before .before .before .before .if1 .left)) (Z .waiting) (sym (c .before .before .before .before .before .before .before .before .before .before .before .before .before .before .before .before .before .before .entry .ensures)) (Z .behind) (Z .risen) (c .before .before .before .before .before .before .before .before .before .before .before .before .before .before .before .before .before .before .before .before .before .before .before .before .before .before .before .pre .1 .1) (c .before .before .before .before .before .before .before .before .before .before .before .before .before .before .before .before .before .before .before .before .before .before .before .before .before .before .before .pre .1 .2) (c .before .before .before .before .before .before .before .before .before .before .put .ensures) (c .before .before .before .before .lose-others .ensures .0) (c .before .before .before .before .lose-others .ensures .1) h)
 
 pub settle-account-spec : {M : Type 1} → statement M
 settle-account-spec =
     tie.close
     (tie.spec
+    entry-requires
+    first-place-requires
     mul-old
     slice-read-old
     look-requires
     same-length
-    returns
-    mul-flags
-    slice-write-flags
-    mul-times
-    slice-write-times
     same-length-2
+    returns
+    mul-spare
+    slice-write-spare
     same-length-3
-    returns-2
-    flag-others-requires
     same-length-4
     same-length-5
+    returns-2
+    mul-times
+    slice-write-times
+    put-requires
+    lose-others-requires
+    add-t24
+    same-length-6
+    same-length-7
+    same-length-8
     returns-3)

@@ -1,0 +1,375 @@
+-- A look at an account (src/settle.rt): why the day that it finds is the least with k supporters.
+--     backing-e, backing-i, backers-are     the rows that back u, each the first of its pair, are as many as its supporters
+--     seen-start, seen-skip, seen-note, seen-count, seen-stop, seen-out     the rows of u as they stand on a day
+--     few-start, look-next, look-found, look-never     a look rises from day to day, and stops at the first with k supporters
+--     Glance, glance-start, glance-out, glance-over, glance-skip, glance-note, glance-few, glance-most, glance-small     the walk of `look_at` in the book
+-- Assumes nothing.
+use Prim.Native.Nat.{ℕ, zero, suc, max, _+_, _-_, _*_, _≤_, _<_}
+use native.Mathlib.Nat.{le-refl, le-trans, le-antisymm, eq-or-lt-of-le}
+use native.Mathlib.Omega.{arith}
+use mathlib.Core.Path.{_≡_, refl, sym, _∙_, ap, subst}
+use mathlib.Core.Logic.{_⊎_, ⊎-elim}
+use mathlib.Core.Bool.{Bool, true, false}
+use mathlib.Core.List.{List}
+use lib.ListN.{length, getD}
+use lib.Dec.{leb, eqb}
+use borrow.Author.Tests.{leb-true, leb-false, le-leb}
+use Rattle.rings.specs.Words.{_and_, at, count}
+use Rattle.rings.specs.Table.{Table, tableOf, size, dayOf}
+use Rattle.rings.specs.Ring.{joins, names, touches}
+use Rattle.rings.specs.CoreTimes.{never}
+use Rattle.rings.specs.Inner.Links.{pickOther, otherOf, placeOf, fresh, Ahead}
+use Rattle.rings.specs.Inner.Support.{supports, supporters}
+use Rattle.rings.specs.Inner.Peeling.{Setting, Season, Ready, query, guess}
+use Rattle.rings.specs.Inner.Settling.{value, backing, backers, Days, Seen, Noting, Glanced, Looked}
+use Rattle.rings.specs.declared.Query.{Query}
+use Rattle.rings.proofs.WordLaws.{look, clash, and-i, and-l, and-r, count-le, count-mono, count-none, tally-yes, tally-no}
+use Rattle.rings.proofs.RingLaws.{joins-touch}
+use Rattle.rings.proofs.PairLaws.{count-inject, joins-other, joins-same, fresh-e, fresh-one, first-fresh}
+use Rattle.rings.proofs.FixpointLaws.{supports-e, supports-i, enough}
+use Rattle.rings.proofs.FallLaws.{touch-named, guess-at, other-small}
+use Rattle.rings.proofs.AlongLaws.{Along, begun, along-out, along-row, along-touch, along-from, along-none, along-next, along-fresh, along-other}
+
+plus-one : (a : ℕ) → a + 1 ≡ suc a
+plus-one a = omega arith
+
+-- ---- rows and supporters
+
+module _ (t : Table) (q : Query) (s hi lo : ℕ) (S : Setting t q s hi lo) (x : ℕ → ℕ) where
+  pub record Backed (c u j : ℕ) : Type 0 where
+    pub is-fresh : fresh t lo j ≡ true
+    pub touch : touches t j u ≡ true
+    pub by : value t x j u ≤ c
+
+  pub backing-e : (c u j : ℕ) → backing t x lo c u j ≡ true → Backed c u j
+  unfolding backing
+  backing-e c u j h =
+      let b = and-r (fresh t lo j) (touches t j u and leb (value t x j u) c) h in
+      record { is-fresh = and-l (fresh t lo j) (touches t j u and leb (value t x j u) c) h; touch = and-l (touches t j u) (leb (value t x j u) c) b; by = leb-true (value t x j u) c (and-r (touches t j u) (leb (value t x j u) c) b) }
+
+  pub backing-i : (c u j : ℕ) → Backed c u j → backing t x lo c u j ≡ true
+  unfolding backing
+  backing-i c u j b = and-i (b .is-fresh) (and-i (b .touch) (le-leb (value t x j u) c (b .by)))
+
+  value-le : (c u v j : ℕ) → j < size t → joins t j u v ≡ true → x v ≤ c → dayOf t j ≤ c → value t x j u ≤ c
+  unfolding value
+  value-le c u v j l h a b =
+      let e : otherOf t j u ≡ v = joins-same t j u (otherOf t j u) v (joins-other t j u (S .accounts j l) (joins-touch t j u v h .0)) h in
+      let f : x (otherOf t j u) ≡ x v = ap x e in omega arith
+
+  pub backers-are : (c u : ℕ) → backers t x lo c u (size t) ≡ supporters t x s c u
+  unfolding backers supporters value
+  backers-are c u =
+      le-antisymm
+      (count-inject (backing t x lo c u) (size t) (supports t x s c u) (names t) (λ j v. (fresh t lo j ≡ true) × (joins t j u v ≡ true))
+      (λ j l h.
+      let b = backing-e c u j h in
+      let jn = joins-other t j u (S .accounts j l) (b .touch) in
+      let y = b .by in
+      record {
+        it = otherOf t j u;
+        below = touch-named t j (otherOf t j u) (joins-touch t j u (otherOf t j u) jn .1);
+        has = supports-i t x s c u (otherOf t j u) (record { row = j; below = l; join = jn; from = S .from-lo j l (fresh-e t lo j (b .is-fresh) .from); to = omega arith; other = omega arith });
+        to = (b .is-fresh, jn);
+      })
+      (λ i i′ v p p′. fresh-one t lo i i′ u v (p .0) (p′ .0) (p .1) (p′ .1)))
+      (count-inject (supports t x s c u) (names t) (backing t x lo c u) (size t) (λ v j. joins t j u v ≡ true)
+      (λ v l h.
+      let b = supports-e t x s c u v h in
+      let f = first-fresh t lo (b .row) u v (from-row (b .row) (b .from)) (b .join) in
+      let m = f .at-most in
+      let below : f .row < size t = let k = b .below in omega arith in
+      record {
+        it = f .row;
+        below = below;
+        has = backing-i c u (f .row) (record { is-fresh = f .is-fresh; touch = joins-touch t (f .row) u v (f .join) .0; by = value-le c u v (f .row) below (f .join) (b .other) (le-trans (S .rising (f .row) (b .row) m (b .below)) (b .to)) });
+        to = f .join;
+      })
+      (λ v v′ j p p′. joins-same t j u v v′ p p′))
+    where
+      from-row : (j : ℕ) → s ≤ dayOf t j → lo ≤ j
+      from-row j h = ⊎-elim (λ y. leb-true lo j y) (λ y. let k = S .before-lo j (leb-false lo j y) in absurd (omega arith)) (look (leb lo j))
+
+  -- ---- a look at u
+
+  pub backers-yes : (c u b : ℕ) → backing t x lo c u b ≡ true → backers t x lo c u (suc b) ≡ suc (backers t x lo c u b)
+  unfolding backers count
+  backers-yes c u b h = tally-yes (count (backing t x lo c u) b) h
+
+  pub backers-no : (c u b : ℕ) → backing t x lo c u b ≡ false → backers t x lo c u (suc b) ≡ backers t x lo c u b
+  unfolding backers count
+  backers-no c u b h = tally-no (count (backing t x lo c u) b) h
+
+  backers-grow : (c u j : ℕ) → backers t x lo c u j ≤ backers t x lo c u (j + 1)
+  backers-grow c u j =
+      let e = ap (backers t x lo c u) (plus-one j) in
+      ⊎-elim (λ y. let m = backers-yes c u j y in omega arith) (λ y. let m = backers-no c u j y in omega arith) (look (backing t x lo c u j))
+
+  backers-mono : (c u i j : ℕ) → i ≤ j → backers t x lo c u i ≤ backers t x lo c u j
+  backers-mono c u i zero h = let e : i ≡ 0 = omega arith in subst (λ (a : ℕ). backers t x lo c u a ≤ backers t x lo c u 0) (sym e) (le-refl (backers t x lo c u 0))
+  backers-mono c u i (suc j) h =
+      ⊎-elim (λ e. subst (λ (a : ℕ). backers t x lo c u a ≤ backers t x lo c u (suc j)) (sym e) (le-refl (backers t x lo c u (suc j))))
+      (λ l. le-trans (backers-mono c u i j (omega arith)) (subst (λ (a : ℕ). backers t x lo c u j ≤ backers t x lo c u a) (plus-one j) (backers-grow c u j))) (eq-or-lt-of-le h)
+
+  -- rows that are none of u's change nothing
+  backers-flat : (c u b j : ℕ) → b ≤ j → ((i : ℕ) → b ≤ i → i < j → touches t i u ≡ false) → backers t x lo c u j ≡ backers t x lo c u b
+  backers-flat c u b zero h none = let e : b ≡ 0 = omega arith in ap (backers t x lo c u) (sym e)
+  backers-flat c u b (suc j) h none =
+      ⊎-elim (λ e. ap (backers t x lo c u) (sym e))
+      (λ o. backers-no c u j (⊎-elim (λ y. clash (backing-e c u j y .touch) (none j (omega arith) (omega arith))) (λ y. y) (look (backing t x lo c u j))) ∙ backers-flat c u b j (omega arith) (λ i a k. none i a (omega arith))) (eq-or-lt-of-le h)
+
+  not-backing : (c u j : ℕ) {z : ℕ} → c < z → z ≡ value t x j u → backing t x lo c u j ≡ false
+  not-backing c u j h e = ⊎-elim (λ y. let v = backing-e c u j y .by in absurd (omega arith)) (λ y. y) (look (backing t x lo c u j))
+
+  module _ {c u b n above more : ℕ} (W : Seen t x lo hi c u b n above more) where
+    -- the next row of u is j
+    module _ (j : ℕ) (from : b ≤ j) (none : (i : ℕ) → b ≤ i → i < j → touches t i u ≡ false) where
+      flat : n ≡ backers t x lo c u j
+      flat = W .counted ∙ sym (backers-flat c u b j from none)
+
+      earlier-rows : {above′ : ℕ} → above′ ≤ above → (i : ℕ) → i < j → fresh t lo i ≡ true → touches t i u ≡ true → dayOf t i ≤ hi → (value t x i u ≤ c) ⊎ (above′ ≤ value t x i u)
+      earlier-rows {above′} le i l f h o =
+          ⊎-elim (λ y. clash h (none i (leb-true b i y) l)) (λ y. ⊎-elim _⊎_.inl (λ z. _⊎_.inr (le-trans le z)) (W .none-between i (leb-false b i y) f h o)) (look (leb b i))
+
+      -- of those that come in by the day above too
+      then-flat : n + more ≤ backers t x lo above u j
+      then-flat = let e = backers-flat above u b j from none in let m = W .then in omega arith
+
+      pub seen-skip : fresh t lo j ≡ false → Seen t x lo hi c u (j + 1) n above more
+      seen-skip f =
+          record {
+            counted = flat ∙ (sym (backers-no c u j (stale c)) ∙ ap (backers t x lo c u) (sym (plus-one j)));
+            rises = W .rises;
+            none-between = λ i l g h o. ⊎-elim (λ e. clash (subst (λ (a : ℕ). fresh t lo a ≡ true) e g) f) (λ k. earlier-rows (le-refl above) i k g h o) (eq-or-lt-of-le (omega arith));
+            day = W .day;
+            then = let m = then-flat in let e = backers-no above u j (stale above) in let y = ap (backers t x lo above u) (plus-one j) in omega arith;
+          }
+        where
+          stale : (a : ℕ) → backing t x lo a u j ≡ false
+          stale a = ⊎-elim (λ y. clash (backing-e a u j y .is-fresh) f) (λ y. y) (look (backing t x lo a u j))
+
+      module _ {z : ℕ} (f : fresh t lo j ≡ true) (g : touches t j u ≡ true) (ez : z ≡ value t x j u) where
+        -- from z on the row backs u
+        backs-from : (a : ℕ) → z ≤ a → backers t x lo a u (j + 1) ≡ suc (backers t x lo a u j)
+        backs-from a h = ap (backers t x lo a u) (plus-one j) ∙ backers-yes a u j (backing-i a u j (record { is-fresh = f; touch = g; by = subst (λ (w : ℕ). w ≤ a) ez h }))
+
+        backs-not : (a : ℕ) → a < z → backers t x lo a u (j + 1) ≡ backers t x lo a u j
+        backs-not a h = ap (backers t x lo a u) (plus-one j) ∙ backers-no a u j (not-backing a u j h ez)
+
+        -- who supports on day c does so on every later one
+        backs-on : (a : ℕ) → c ≤ a → n ≤ backers t x lo a u j
+        unfolding backers
+        backs-on a h = let e = flat in let m = count-mono (backing t x lo c u) (backing t x lo a u) j (λ i l y. let b = backing-e c u i y in backing-i a u i (record { is-fresh = b .is-fresh; touch = b .touch; by = le-trans (b .by) h })) in omega arith
+
+        passed : {above′ : ℕ} → above′ ≤ above → above′ ≤ z → (i : ℕ) → i < j + 1 → fresh t lo i ≡ true → touches t i u ≡ true → dayOf t i ≤ hi → (value t x i u ≤ c) ⊎ (above′ ≤ value t x i u)
+        passed {above′} le zl i l r y o = ⊎-elim (λ e. _⊎_.inr (subst (λ (a : ℕ). above′ ≤ value t x a u) (sym e) (let w = ez in omega arith))) (λ k. earlier-rows le i k r y o) (eq-or-lt-of-le (omega arith))
+
+        pub seen-note : {n′ above′ more′ : ℕ} → (z ≤ hi) ⊎ (z ≡ never) → Noting z c n above more n′ above′ more′ → Seen t x lo hi c u (j + 1) n′ above′ more′
+        seen-note {n′} {above′} {more′} days (Noting.back h en ea em) =
+            record {
+              counted = let e = flat in let k = backs-from c h in omega arith;
+              rises = let r = W .rises in omega arith;
+              none-between = λ i l k y o. ⊎-elim (λ e. _⊎_.inl (subst (λ (a : ℕ). value t x a u ≤ c) (sym e) (subst (λ (a : ℕ). a ≤ c) ez h))) (λ o′. earlier-rows (omega arith) i o′ k y o) (eq-or-lt-of-le (omega arith));
+              day = subst (λ (a : ℕ). (a ≤ hi) ⊎ (a ≡ never)) (sym ea) (W .day);
+              then = subst (λ (a : ℕ). n′ + more′ ≤ backers t x lo a u (j + 1)) (sym ea) (let r = W .rises in let k = backs-from above (omega arith) in let m = then-flat in omega arith);
+            }
+        seen-note {n′} {above′} {more′} days (Noting.nearer h k en ea em) =
+            record {
+              counted = let e = flat in let m = backs-not c h in omega arith;
+              rises = omega arith;
+              none-between = passed (omega arith) (omega arith);
+              day = subst (λ (a : ℕ). (a ≤ hi) ⊎ (a ≡ never)) (sym ea) days;
+              then = subst (λ (a : ℕ). n′ + more′ ≤ backers t x lo a u (j + 1)) (sym ea) (let m = backs-from z (le-refl z) in let o = backs-on z (omega arith) in omega arith);
+            }
+        seen-note {n′} {above′} {more′} days (Noting.level h k en ea em) =
+            record {
+              counted = let e = flat in let m = backs-not c h in omega arith;
+              rises = omega arith;
+              none-between = passed (omega arith) (omega arith);
+              day = subst (λ (a : ℕ). (a ≤ hi) ⊎ (a ≡ never)) (sym ea) (W .day);
+              then = subst (λ (a : ℕ). n′ + more′ ≤ backers t x lo a u (j + 1)) (sym ea) (let m = backs-from above (omega arith) in let o = then-flat in omega arith);
+            }
+        seen-note {n′} {above′} {more′} days (Noting.farther h k en ea em) =
+            record {
+              counted = let e = flat in let m = backs-not c h in omega arith;
+              rises = let r = W .rises in omega arith;
+              none-between = passed (omega arith) (omega arith);
+              day = subst (λ (a : ℕ). (a ≤ hi) ⊎ (a ≡ never)) (sym ea) (W .day);
+              then = subst (λ (a : ℕ). n′ + more′ ≤ backers t x lo a u (j + 1)) (sym ea) (let o = then-flat in let m = backers-grow above u j in omega arith);
+            }
+
+      -- from j on every row is dated after c
+      pub seen-count : ((i : ℕ) → j ≤ i → i < size t → c < dayOf t i) → j ≤ size t → n ≡ backers t x lo c u (size t)
+      unfolding value
+      seen-count late l = flat ∙ sym (rest (size t) l (le-refl (size t)))
+        where
+          rest : (m : ℕ) → j ≤ m → m ≤ size t → backers t x lo c u m ≡ backers t x lo c u j
+          rest zero h k = let e : j ≡ 0 = omega arith in ap (backers t x lo c u) (sym e)
+          rest (suc m) h k =
+              ⊎-elim (λ e. ap (backers t x lo c u) (sym e))
+              (λ o. backers-no c u m (⊎-elim (λ y. let v = backing-e c u m y .by in let z = late m (omega arith) (omega arith) in absurd (omega arith)) (λ y. y) (look (backing t x lo c u m))) ∙ rest m (omega arith) (omega arith)) (eq-or-lt-of-le h)
+
+      -- and after the range, or not before the day above
+      pub seen-stop : c ≤ hi → ((i : ℕ) → j ≤ i → i < size t → (hi < dayOf t i) ⊎ (above ≤ dayOf t i)) → j ≤ size t → Seen t x lo hi c u (size t) n above more
+      unfolding value
+      seen-stop top late l =
+          record {
+            counted = seen-count (λ i a k. let r = W .rises in ⊎-elim (λ z. omega arith) (λ z. omega arith) (late i a k)) l;
+            rises = W .rises;
+            none-between = λ i k f h o. ⊎-elim (λ y. ⊎-elim (λ z. absurd (omega arith)) (λ z. _⊎_.inr (omega arith)) (late i (leb-true j i y) k)) (λ y. earlier-rows (le-refl above) i (leb-false j i y) f h o) (look (leb j i));
+            day = W .day;
+            then = let m = then-flat in le-trans m (backers-mono above u j (size t) l);
+          }
+
+    pub seen-out : b ≤ size t → ((i : ℕ) → b ≤ i → i < size t → touches t i u ≡ false) → Seen t x lo hi c u (size t) n above more
+    seen-out l none =
+        record {
+          counted = W .counted ∙ sym (backers-flat c u b (size t) l none);
+          rises = W .rises;
+          none-between = λ i k f h o. ⊎-elim (λ y. clash h (none i (leb-true b i y) k)) (λ y. W .none-between i (leb-false b i y) f h o) (look (leb b i));
+          day = W .day;
+          then = le-trans (W .then) (backers-mono above u b (size t) l);
+        }
+
+  -- the rows of u below b are below lo
+  pub seen-start : (c u b : ℕ) → ((i : ℕ) → i < b → touches t i u ≡ true → i < lo) → c < never → Seen t x lo hi c u b 0 never 0
+  unfolding backers
+  seen-start c u b early h =
+      record {
+        counted = sym (count-none (backing t x lo c u) b (λ i l. ⊎-elim (λ y. let a = fresh-e t lo i (backing-e c u i y .is-fresh) .from in let z = early i l (backing-e c u i y .touch) in absurd (omega arith)) (λ y. y) (look (backing t x lo c u i))));
+        rises = h;
+        none-between = λ j l f k. let a = fresh-e t lo j f .from in let z = early j l k in absurd (omega arith);
+        day = _⊎_.inr refl;
+        then = omega arith;
+      }
+
+  -- ---- from day to day
+
+  -- no row comes in between c and above
+  same-between : {c u n above more : ℕ} → Seen t x lo hi c u (size t) n above more → (a : ℕ) → c ≤ a → a < above → a ≤ hi → supporters t x s a u ≤ n
+  unfolding backers value
+  same-between {c} {u} {n} {above} {more} W a l h top =
+      let e = W .counted in
+      let m : count (backing t x lo a u) (size t) ≤ count (backing t x lo c u) (size t) =
+      count-mono (backing t x lo a u) (backing t x lo c u) (size t)
+      (λ j k y. let b = backing-e a u j y in let o = b .by in backing-i c u j (record { is-fresh = b .is-fresh; touch = b .touch; by = ⊎-elim (λ z. z) (λ z. absurd (omega arith)) (W .none-between j k (b .is-fresh) (b .touch) (omega arith)) })) in
+      let g = backers-are a u in omega arith
+
+  -- every day of the range from c₀ on and below c has too few
+  abbrev pub Few : ℕ → ℕ → ℕ → Type 0
+  Few c₀ c u = (a : ℕ) → c₀ ≤ a → a < c → a ≤ hi → supporters t x s a u < q .k
+
+  pub few-start : (c u : ℕ) → Few c c u
+  few-start c u a h l = absurd (omega arith)
+
+  few-next : {c₀ c u n above more : ℕ} → Few c₀ c u → Seen t x lo hi c u (size t) n above more → n < q .k → Few c₀ above u
+  few-next {c₀} {c} {u} {n} {above} {more} F W h a l k top = ⊎-elim (λ y. let g = same-between W a (leb-true c a y) k top in omega arith) (λ y. F a l (leb-false c a y) top) (look (leb c a))
+
+  -- the walk on day c found too few, and names a later day
+  pub look-next : {c₀ c u n above more : ℕ} → Few c₀ c u → Glanced t x lo hi c u (size t) (q .k) n above more → n < q .k → Few c₀ above u × (c < above) × ((above ≤ hi) ⊎ (above ≡ never))
+  look-next F (Glanced.full h k) m = absurd (omega arith)
+  look-next F (Glanced.seen W) m = (few-next F W m, W .rises, W .day)
+
+  -- on which it has enough
+  pub look-then : {c₀ c u n above more m : ℕ} → Few c₀ c u → c₀ ≤ c → Glanced t x lo hi c u (size t) (q .k) n above more → n < q .k → (above ≡ never → ⊥) → q .k ≤ n + more → m ≡ n + more + 1 - q .k → Looked t x s (q .k) hi c₀ u above m
+  look-then F o (Glanced.full h k) few some enough e = absurd (omega arith)
+  look-then {c₀} {c} {u} {n} {above} F o (Glanced.seen W) few some enough e =
+      let g = backers-are above u in
+      let w = W .then in
+      let r = W .rises in
+      record { least = record { from = omega arith; fewer = few-next F W few; enough = _⊎_.inr (⊎-elim (λ y. y) (λ y. absurd (some y)) (W .day), omega arith) }; known = omega arith; enough = _⊎_.inr (omega arith) }
+
+  -- or it found enough at once
+  pub look-found : {c₀ c u n above more m : ℕ} → Few c₀ c u → c₀ ≤ c → Glanced t x lo hi c u (size t) (q .k) n above more → q .k ≤ n → c ≤ hi → m ≡ n + 1 - q .k → Looked t x s (q .k) hi c₀ u c m
+  look-found {c₀} {c} {u} {n} {m = m} F o G h top e =
+      let g = backers-are c u in
+      let b : n ≤ backers t x lo c u (size t) = counted G in
+      record { least = record { from = o; fewer = F; enough = _⊎_.inr (top, omega arith) }; known = omega arith; enough = _⊎_.inr (omega arith) }
+    where
+      counted : {above more : ℕ} → Glanced t x lo hi c u (size t) (q .k) n above more → n ≤ backers t x lo c u (size t)
+      counted (Glanced.full a b) = b
+      counted (Glanced.seen W) = let z = W .counted in omega arith
+
+  pub look-never : {c₀ c u m : ℕ} → Few c₀ c u → c₀ ≤ c → c ≡ never → m ≡ 1 → Looked t x s (q .k) hi c₀ u c m
+  look-never F o e g = record { least = record { from = o; fewer = F; enough = _⊎_.inl e }; known = omega arith; enough = _⊎_.inl e }
+
+-- ---- a look at u, in the book
+
+-- the rows of u before place p have been seen
+pub record Glance (d f g : List ℕ) (r : Season) (xs : List ℕ) (u c p n above more : ℕ) : Type 0 where
+  pub b : ℕ
+  pub within : b ≤ length d
+  pub along : Along (tableOf d f g) u b p
+  pub seen : Seen (tableOf d f g) (guess xs) (r .lo) (r .end) c u b n above more
+
+module _ (d f g links : List ℕ) (r : Season) (R : Ready d f g links r) (xs : List ℕ) (len : length xs ≡ 4096) (D : Days (r .end) xs) {u c : ℕ} (small : u < 4096) (top : c ≤ r .end) where
+  abbrev tt : Table
+  tt = tableOf d f g
+
+  pub glance-start : {p : ℕ} → Ahead tt u (r .lo) p → Glance d f g r xs u c p 0 never 0
+  glance-start A = let B = begun A in record { b = B .b; within = B .within; along = B .along; seen = seen-start tt (query (r .k)) (r .start) (r .end) (r .lo) (R .setting) (guess xs) c u (B .b) (B .before) (let h = R .setting .fits in omega arith) }
+
+  module _ {p n above more end : ℕ} (G : Glance d f g r xs u c p n above more) (ee : end ≡ placeOf tt (suc u)) where
+    glance-count : n + more ≤ G .b
+    unfolding backers
+    glance-count = let e = G .seen .then in let m = count-le (backing tt (guess xs) (r .lo) above u) (G .b) in omega arith
+
+    pub glance-most : n + more ≤ 16384
+    glance-most = let a = glance-count in let b = G .within in let h = R .sound .most in omega arith
+
+    pub glance-out : end ≤ p → Glanced tt (guess xs) (r .lo) (r .end) c u (length d) (r .k) n above more
+    glance-out h = Glanced.seen (seen-out tt (query (r .k)) (r .start) (r .end) (r .lo) (R .setting) (guess xs) (G .seen) (G .within) (along-out d f g links (R .sound) (R .linked) small (G .along) ee h))
+
+    module _ (here : p < end) {j : ℕ} (ej : j ≡ getD links (8192 + p) 0) where
+      below : j < length d
+      below = along-row d f g links (R .sound) (R .linked) small (G .along) ee here ej
+
+      from : G .b ≤ j
+      from = along-from d f g links (R .sound) (R .linked) small (G .along) ee here ej
+
+      none : (i : ℕ) → G .b ≤ i → i < j → touches tt i u ≡ false
+      none = along-none d f g links (R .sound) (R .linked) small (G .along) ee here ej
+
+      pub glance-few : (n < 16384) × (more < 16384)
+      glance-few = let a = glance-count in let b = below in let c = from in let h = R .sound .most in (omega arith, omega arith)
+
+      stop-here : ((i : ℕ) → j ≤ i → i < length d → (r .end < dayOf tt i) ⊎ (above ≤ dayOf tt i)) → Seen tt (guess xs) (r .lo) (r .end) c u (length d) n above more
+      stop-here late = seen-stop tt (query (r .k)) (r .start) (r .end) (r .lo) (R .setting) (guess xs) (G .seen) j from none top late (let b = below in omega arith)
+
+      module _ {day : ℕ} (ed : day ≡ getD d j 0) where
+        day-is : day ≡ dayOf tt j
+        unfolding dayOf at
+        day-is = ed
+
+        pub glance-over : (c < day) × ((r .k ≤ n) ⊎ ((r .end < day) ⊎ (above < day))) → Glanced tt (guess xs) (r .lo) (r .end) c u (length d) (r .k) n above more
+        glance-over o =
+            ⊎-elim (λ h. Glanced.full h (let z = all in omega arith))
+            (λ h. Glanced.seen (stop-here (λ i a k. let e = day-is in let y = R .setting .rising j i a k in ⊎-elim (λ z. _⊎_.inl (omega arith)) (λ z. _⊎_.inr (omega arith)) h))) (o .1)
+          where
+            all : n ≡ backers tt (guess xs) (r .lo) c u (length d)
+            all = seen-count tt (query (r .k)) (r .start) (r .end) (r .lo) (R .setting) (guess xs) (G .seen) j from none (λ i a k. let e = day-is in let y = R .setting .rising j i a k in let z = o .0 in omega arith) (let b = below in omega arith)
+
+        pub glance-skip : {y : Bool} → y ≡ (leb (r .lo) j and leb (getD links (8192 + 2 * length d + j) 0) (r .lo)) → y ≡ false → Glance d f g r xs u c (p + 1) n above more
+        glance-skip ey h =
+            record { b = j + 1; within = let b = below in omega arith; along = along-next d f g links (R .sound) (R .linked) small (G .along) ee here ej; seen = seen-skip tt (query (r .k)) (r .start) (r .end) (r .lo) (R .setting) (guess xs) (G .seen) j from none (sym (along-fresh d f g links (R .sound) (R .linked) small (G .along) ee here ej (r .lo) ey) ∙ h) }
+
+        module _ {a e v : ℕ} (ea : a ≡ getD f j 0) (eb : e ≡ getD g j 0) (ev : v ≡ pickOther (eqb a u) a e) where
+          v-is : v ≡ otherOf tt j u
+          v-is = along-other d f g links (R .sound) (R .linked) small (G .along) ee here ej ea eb ev
+
+          touch : touches tt j u ≡ true
+          touch = along-touch d f g links (R .sound) (R .linked) small (G .along) ee here ej
+
+          pub glance-small : v < 4096
+          glance-small = subst (λ (w : ℕ). w < 4096) (sym v-is) (other-small tt (query (r .k)) (r .start) (r .end) (r .lo) (R .setting) j u below touch)
+
+          pub glance-note : {y : Bool} {z n′ above′ more′ : ℕ} → y ≡ (leb (r .lo) j and leb (getD links (8192 + 2 * length d + j) 0) (r .lo)) → y ≡ true → day ≤ r .end → z ≡ max (getD xs v 0) day → Noting z c n above more n′ above′ more′ → Glance d f g r xs u c (p + 1) n′ above′ more′
+          unfolding value
+          glance-note {y} {z} ey h l ez N =
+              record { b = j + 1; within = let b = below in omega arith; along = along-next d f g links (R .sound) (R .linked) small (G .along) ee here ej; seen = seen-note tt (query (r .k)) (r .start) (r .end) (r .lo) (R .setting) (guess xs) (G .seen) j from none (sym (along-fresh d f g links (R .sound) (R .linked) small (G .along) ee here ej (r .lo) ey) ∙ h) touch is-value in-range N }
+            where
+              is-value : z ≡ max (guess xs (otherOf tt j u)) (dayOf tt j)
+              is-value = let e : guess xs (otherOf tt j u) ≡ getD xs v 0 = ap (guess xs) (sym v-is) ∙ guess-at xs v len glance-small in let o = day-is in omega arith
+
+              in-range : (z ≤ r .end) ⊎ (z ≡ never)
+              in-range = let o = R .setting .fits in ⊎-elim (λ k. _⊎_.inl (omega arith)) (λ k. _⊎_.inr (omega arith)) (D v glance-small)

@@ -1,0 +1,62 @@
+use borrow.Author.Needs.{needs}
+use Rattle.rings.proofs.DayLaws.{Scan, scan-on, scan-next, scan-found, scan-end}
+use Prim.Native.Nat.{_+_, _-_}
+use lib.ListN.{length}
+use native.Mathlib.Omega.{arith}
+use Rattle.rings.proofs.table.rows_through.Statement.{statement}
+use Rattle.rings.proofs.table.rows_through.Tie as tie
+use Rattle.rings.proofs.table.rows_through.Reads as reads
+use Rattle.rings.proofs.table.rows_through.Lts as lts
+
+abbrev Inv-loop : tie.InvT-loop
+Inv-loop days s lo r₀ r = Scan days (s + 1) r
+
+abbrev μ-loop : tie.MeasureT-loop
+μ-loop days s lo r₀ r = length days - r
+
+-- src/table.rt:95:5
+loop-holds : tie.Need-loop-holds Inv-loop μ-loop
+loop-holds c = scan-on (c .pre .1)
+
+-- src/table.rt:96:16
+mul-if1 : tie.Need-mul-if1 Inv-loop μ-loop
+mul-if1 c = search needs
+
+-- src/table.rt:96:16
+shared-slice-read-if1 : tie.Need-shared-slice-read-if1 Inv-loop μ-loop
+shared-slice-read-if1 c = c .before .loop-test .taken
+
+-- src/table.rt:97:13
+returns : tie.Need-returns Inv-loop μ-loop
+returns c = scan-found (c .before .before .before .before .pre .0) (c .before .before .before .loop .inv) (omega (arith, c .if1 .taken))
+
+-- src/table.rt:99:9
+add-r : tie.Need-add-r Inv-loop μ-loop
+add-r c = search needs
+
+-- src/table.rt:95:5
+loop-less : tie.Need-loop-less Inv-loop μ-loop
+loop-less c = omega (arith, c .before .before .loop-test .taken)
+
+-- src/table.rt:95:5
+loop-again : tie.Need-loop-again Inv-loop μ-loop
+loop-again c = scan-next (c .before .before .before .loop .inv) (c .before .before .loop-test .taken) (omega (arith, c .if1 .left))
+
+-- src/table.rt:89:1
+returns-2 : tie.Need-returns-2 Inv-loop μ-loop
+returns-2 c = scan-end (c .before .loop .inv) (c .loop-test .left)
+
+pub rows-through-spec : {M : Type 1} → statement M
+rows-through-spec =
+    tie.close
+    (tie.spec
+    Inv-loop
+    μ-loop
+    loop-holds
+    mul-if1
+    shared-slice-read-if1
+    returns
+    add-r
+    loop-less
+    loop-again
+    returns-2)

@@ -1,0 +1,87 @@
+-- From one start to the next, row by row. Behind the links the scratch keeps a time for each row, so that a row whose time changes is seen as it changes.
+--     timeOf t sc j           the time kept for row j
+--     Kept t q hi s sc        those are the row times at s
+--     Turning t q hi s sc     each is the row's time at s or at the day after it
+--     Renewed t q hi s sc j   that of row j is its time at the day after s
+--     Passed                  the rows below m are renewed
+--     Walked                  so are the rows of u from next to b that are dated before the time y of u
+--     Through                 so are all such rows of the first i accounts of a list; xs are the times of the accounts
+--     Stays                   a row that was renewed is so still
+--     Turned                  the rows of u are renewed, and nothing else is lost
+--     IsTime x                x is a day, or never
+--     Adding, Removing        one row more with a time, and one fewer
+--     Tallies n m sc xs       xs holds, for each day, how often it stands as the time of the first m of n rows
+--     Timed t q hi s n xs     xs holds, for each day, how many of the first n rows have this core time at s
+--     Started                 what a start hands on to the next: the links with the row times behind them, the times of the accounts, what they can spare, and the counts
+use Prim.Native.Nat.{ℕ, _+_, _-_, _*_, _≤_, _<_}
+use mathlib.Core.Path.{_≡_}
+use mathlib.Core.Logic.{_⊎_}
+use mathlib.Core.Bool.{true}
+use mathlib.Core.List.{List}
+use lib.ListN.{length, getD, set}
+use lib.Dec.{eqb}
+use Rattle.rings.specs.Words.{count}
+use Rattle.rings.specs.Table.{Table, tableOf, size, dayOf}
+use Rattle.rings.specs.Ring.{touches}
+use Rattle.rings.specs.CoreTimes.{never, rowTime}
+use Rattle.rings.specs.Inner.Links.{Linked}
+use Rattle.rings.specs.Inner.Peeling.{query, Season, Ready, CoreTimesAre}
+use Rattle.rings.specs.Inner.Settling.{Spare}
+use Rattle.rings.specs.declared.Query.{Query}
+
+unfoldable pub timeOf : Table → List ℕ → ℕ → ℕ
+timeOf t sc j = getD sc (8192 + 3 * size t + j) 0
+
+pub record Kept (t : Table) (q : Query) (hi s : ℕ) (sc : List ℕ) : Type 0 where
+  pub linked : Linked t sc
+  pub times : (j : ℕ) → j < size t → timeOf t sc j ≡ rowTime t q hi s j
+
+pub record Turning (t : Table) (q : Query) (hi s : ℕ) (sc : List ℕ) : Type 0 where
+  pub linked : Linked t sc
+  pub either : (j : ℕ) → j < size t → (timeOf t sc j ≡ rowTime t q hi s j) ⊎ (timeOf t sc j ≡ rowTime t q hi (s + 1) j)
+
+abbrev pub Renewed : Table → Query → ℕ → ℕ → List ℕ → ℕ → Type 0
+Renewed t q hi s sc j = timeOf t sc j ≡ rowTime t q hi (s + 1) j
+
+pub record Passed (t : Table) (q : Query) (hi s m : ℕ) (sc : List ℕ) : Type 0 where
+  pub renewed : (j : ℕ) → j < m → j < size t → Renewed t q hi s sc j
+
+pub record Walked (t : Table) (q : Query) (hi s next u y b : ℕ) (sc : List ℕ) : Type 0 where
+  pub renewed : (j : ℕ) → next ≤ j → j < b → j < size t → touches t j u ≡ true → dayOf t j < y → Renewed t q hi s sc j
+
+pub record Through (t : Table) (q : Query) (hi s next : ℕ) (xs list : List ℕ) (i : ℕ) (sc : List ℕ) : Type 0 where
+  pub renewed : (h j : ℕ) → h < i → next ≤ j → j < size t → touches t j (getD list h 0) ≡ true → dayOf t j < getD xs (getD list h 0) 0 → Renewed t q hi s sc j
+
+pub record Stays (t : Table) (q : Query) (hi s : ℕ) (sc₀ sc : List ℕ) : Type 0 where
+  pub renewed : (j : ℕ) → j < size t → Renewed t q hi s sc₀ j → Renewed t q hi s sc j
+
+pub record Turned (t : Table) (q : Query) (hi s next u y : ℕ) (sc₀ sc : List ℕ) : Type 0 where
+  pub turning : Turning t q hi s sc
+  pub stays : Stays t q hi s sc₀ sc
+  pub walked : Walked t q hi s next u y (size t) sc
+
+abbrev pub IsTime : ℕ → Type 0
+IsTime x = (x < 1025) ⊎ (x ≡ never)
+
+pub data Adding (time : ℕ) (xs xs′ : List ℕ) : Type 0 where
+  pass : time ≡ never → xs′ ≡ xs → Adding time xs xs′
+  one : (time ≡ never → ⊥) → xs′ ≡ set xs time (getD xs time 0 + 1) → Adding time xs xs′
+
+pub data Removing (time : ℕ) (xs xs′ : List ℕ) : Type 0 where
+  pass : time ≡ never → xs′ ≡ xs → Removing time xs xs′
+  one : (time ≡ never → ⊥) → xs′ ≡ set xs time (getD xs time 0 - 1) → Removing time xs xs′
+
+pub record Tallies (n m : ℕ) (sc xs : List ℕ) : Type 0 where
+  pub long : length xs ≡ 1025
+  pub each : (e : ℕ) → e < 1025 → getD xs e 0 ≡ count (λ j. eqb (getD sc (8192 + 3 * n + j) 0) e) m
+
+pub record Timed (t : Table) (q : Query) (hi s n : ℕ) (xs : List ℕ) : Type 0 where
+  pub long : length xs ≡ 1025
+  pub each : (e : ℕ) → e < 1025 → getD xs e 0 ≡ count (λ j. eqb (rowTime t q hi s j) e) n
+
+pub record Started (d f g sc : List ℕ) (p : Season) (times spare counts : List ℕ) : Type 0 where
+  pub ready : Ready d f g sc p
+  pub times-are : CoreTimesAre d f g p times
+  pub spares : Spare (tableOf d f g) (query (p .k)) (p .start) times spare
+  pub kept : Kept (tableOf d f g) (query (p .k)) (p .end) (p .start) sc
+  pub timed : Timed (tableOf d f g) (query (p .k)) (p .end) (p .start) (length d) counts
