@@ -7,6 +7,7 @@
 --     list-refused, list-done                         and `list_rings`
 -- Assumes nothing.
 use Prim.Native.Nat.{ℕ, zero, suc, _+_, _-_, _≤_, _<_}
+use native.Mathlib.Numerals.{add-one}
 use native.Mathlib.Omega.{arith}
 use mathlib.Core.Path.{_≡_, refl, sym, _∙_, ap, subst}
 use mathlib.Core.Logic.{⊎-elim}
@@ -39,9 +40,6 @@ use Rattle.rings.specs.Inner.Turning.{Timed}
 use Rattle.listing.specs.declared.Listed.{Listed}
 use Rattle.listing.proofs.CountLaws.{listing-most}
 use Rattle.listing.proofs.StartLaws.{entries-are}
-
-plus-one : (a : ℕ) → a + 1 ≡ suc a
-plus-one a = omega arith
 
 -- ---- a column
 
@@ -155,7 +153,7 @@ days-next te e o = omega arith
 
 pub sum-next : (xs : List ℕ) (te e : ℕ) → e ≤ te → sumOf xs e (te + 1 - e) ≡ getD xs e 0 + sumOf xs (e + 1) (te + 1 - (e + 1))
 unfolding sumOf at
-sum-next xs te e o = ap (sumOf xs e) (days-next te e o) ∙ ap (λ (m : ℕ). getD xs e 0 + sumOf xs m (te + 1 - (e + 1))) (sym (plus-one e))
+sum-next xs te e o = ap (sumOf xs e) (days-next te e o) ∙ ap (λ (m : ℕ). getD xs e 0 + sumOf xs m (te + 1 - (e + 1))) (sym (add-one e))
 
 module _ (xs : List ℕ) (least s te e total : ℕ) (o : e ≤ te) where
   abbrev added : ℕ
@@ -170,7 +168,7 @@ module _ (xs : List ℕ) (least s te e total : ℕ) (o : e ≤ te) where
   entries-next : countEntries xs least s e total (te + 1 - e) ≡ kept (ltb 0 added and leb least e) here later
   unfolding countEntries at
   entries-next =
-      ap (countEntries xs least s e total) (days-next te e o) ∙ ap (λ (d : ℕ). kept (ltb 0 added and leb least e) here (countEntries xs least s d (total + added) (te + 1 - (e + 1)))) (sym (plus-one e))
+      ap (countEntries xs least s e total) (days-next te e o) ∙ ap (λ (d : ℕ). kept (ltb 0 added and leb least e) here (countEntries xs least s d (total + added) (te + 1 - (e + 1)))) (sym (add-one e))
 
   module _ {b : Bool} (eb : b ≡ (ltb 0 added and leb least e)) {room n sum : ℕ} {goal : List ListedRing} (rest : List ListedRing) {x y z u v w : List ℕ} (P : Progress room goal (countEntries xs least s e total (te + 1 - e) ++ rest) n sum x y z u v w) where
     pub ends-skip : b ≡ false → Progress room goal (later ++ rest) n sum x y z u v w
@@ -233,7 +231,7 @@ module _ (t : Table) (q : Query) where
   unfolding restFrom joined run
   rest-next hi s h =
       let m : suc hi - s ≡ suc (suc hi - (s + 1)) = omega arith in
-      ap (λ (n : ℕ). joined (run (startEntries t q hi) s n)) m ∙ ap (λ (i : ℕ). startEntries t q hi s ++ joined (run (startEntries t q hi) i (suc hi - (s + 1)))) (sym (plus-one s))
+      ap (λ (n : ℕ). joined (run (startEntries t q hi) s n)) m ∙ ap (λ (i : ℕ). startEntries t q hi s ++ joined (run (startEntries t q hi) i (suc hi - (s + 1)))) (sym (add-one s))
 
   pub rest-end : (hi s : ℕ) → hi < s → restFrom t q hi s ≡ []
   unfolding restFrom joined run
@@ -260,7 +258,7 @@ module _ (t : Table) (q : Query) (lo hi : ℕ) where
   unfolding daysOf
   room-most {m} {places} e h =
       let a = listing-most t q lo hi in
-      let d : longest (hi + 1 - lo) ≡ longest (suc hi - lo) = ap (λ (n : ℕ). longest (n - lo)) (plus-one hi) in
+      let d : longest (hi + 1 - lo) ≡ longest (suc hi - lo) = ap (λ (n : ℕ). longest (n - lo)) (add-one hi) in
       sym (le-leb (length (listing t q lo hi)) places (omega arith))
 
   pub room-counted : {n sum : ℕ} {a b c u v w : List ℕ} → Progress 0 (listing t q lo hi) [] n sum a b c u v w → (leb n (length u) ≡ leb (length (listing t q lo hi)) (length a)) × (u ≡ a) × (v ≡ b) × (w ≡ c)

@@ -12,6 +12,7 @@
 -- Assumes nothing.
 use Prim.Native.Nat.{ℕ, suc, _+_, _-_, _*_, _≤_, _<_}
 use native.Mathlib.Nat.{le-refl}
+use native.Mathlib.Numerals.{add-one}
 use native.Mathlib.Omega.{arith}
 use mathlib.Core.Path.{_≡_, sym, _∙_, ap, subst}
 use mathlib.Core.Logic.{_⊎_, ⊎-elim}
@@ -31,9 +32,6 @@ use Rattle.rings.proofs.LinkLaws.{rank-yes, rank-mono, rank-less, none-
 
 pub record Along (t : Table) (u b p : ℕ) : Type 0 where
   pub place : p ≡ placeOf t u + rank t u b
-
-add-one : (j : ℕ) → j + 1 ≡ suc j
-add-one j = omega arith
 
 module _ (d f s links : List ℕ) (S : Sound d f s) (L : Linked (tableOf d f s) links) {u : ℕ} (small : u < 4096) where
   abbrev t : Table

@@ -1,5 +1,6 @@
 -- Rows by day, in a table whose days never fall.
---     Scan, scan-start, scan-on, scan-next, scan-found, scan-end     the loops of `rows_before` and `rows_through`
+--     Half, half-start, half-up, half-down, half-end     the loop of `rows_before`
+--     Scan, scan-on, scan-next, scan-found, scan-end     the loop of `rows_through`
 --     span-after, span-of      the rows of a window
 --     setting-of     what peeling works on
 -- Assumes nothing.
@@ -25,9 +26,6 @@ pub record Scan (d : List ℕ) (day r : ℕ) : Type 0 where
   pub within : r ≤ length d
   pub before : (j : ℕ) → j < r → getD d j 0 < day
 
-pub scan-start : (d : List ℕ) (day : ℕ) → Scan d day 0
-scan-start d day = record { within = omega arith; before = λ j h. absurd (not-suc-le-zero h) }
-
 pub scan-on : {d : List ℕ} {s lo : ℕ} → Split d s lo → Scan d (s + 1) lo
 scan-on S = record { within = S .within; before = λ j h. let k = S .before j h in omega arith }
 
@@ -38,6 +36,26 @@ scan-next {d} {day} {r} S l h = record { within = omega arith; before = λ j k. 
 pub rising-all : (d : List ℕ) → ((j : ℕ) → suc j < length d → getD d j 0 ≤ getD d (suc j) 0) → (i j : ℕ) → i ≤ j → j < length d → getD d i 0 ≤ getD d j 0
 rising-all d up i zero h l = let e : i ≡ 0 = omega arith in rw e (le-refl (getD d 0 0))
 rising-all d up i (suc j) h l = ⊎-elim (λ e. rw e (le-refl (getD d (suc j) 0))) (λ o. le-trans (rising-all d up i j (le-of-suc-le-suc o) (omega arith)) (up j l)) (eq-or-lt-of-le h)
+
+-- the rows below low are dated before the day, those from high on are not
+pub record Half (d : List ℕ) (day low high : ℕ) : Type 0 where
+  pub ordered : low ≤ high
+  pub within : high ≤ length d
+  pub before : (j : ℕ) → j < low → getD d j 0 < day
+  pub after : (j : ℕ) → high ≤ j → j < length d → day ≤ getD d j 0
+
+pub half-start : (d : List ℕ) (day : ℕ) → Half d day 0 (length d)
+half-start d day = record { ordered = omega arith; within = le-refl (length d); before = λ j h. absurd (not-suc-le-zero h); after = λ j a b. absurd (omega arith) }
+
+module _ {d : List ℕ} (up : (j : ℕ) → suc j < length d → getD d j 0 ≤ getD d (suc j) 0) {day low high middle : ℕ} (H : Half d day low high) (a : low ≤ middle) (b : middle < high) where
+  pub half-up : getD d middle 0 < day → Half d day (middle + 1) high
+  half-up h = let w = H .within in record { ordered = omega arith; within = w; before = λ j k. let r = rising-all d up j middle (omega arith) (omega arith) in omega arith; after = H .after }
+
+  pub half-down : day ≤ getD d middle 0 → Half d day low middle
+  half-down h = let w = H .within in record { ordered = a; within = omega arith; before = H .before; after = λ j k l. let r = rising-all d up middle j k l in omega arith }
+
+pub half-end : {d : List ℕ} {day low high : ℕ} → Half d day low high → high ≤ low → Split d day low
+half-end {d} {day} {low} {high} H h = let w = H .within in let o = H .ordered in record { within = omega arith; before = H .before; after = λ j a b. H .after j (omega arith) b }
 
 pub scan-found : {d : List ℕ} {day r : ℕ} → ((j : ℕ) → suc j < length d → getD d j 0 ≤ getD d (suc j) 0) → Scan d day r → day ≤ getD d r 0 → Split d day r
 scan-found {d} {day} {r} up S h = record { within = S .within; before = S .before; after = λ j a b. le-trans h (rising-all d up r j a b) }

@@ -15,6 +15,7 @@ pub mod WalkLaws
 pub mod StageLaws
 pub mod DayLaws
 pub mod MarkLaws
+pub mod PartLaws
 pub mod CallLaws
 pub mod TimeLaws
 pub mod RecallLaws

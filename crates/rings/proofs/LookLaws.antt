@@ -6,6 +6,7 @@
 -- Assumes nothing.
 use Prim.Native.Nat.{ℕ, zero, suc, max, _+_, _-_, _*_, _≤_, _<_}
 use native.Mathlib.Nat.{le-refl, le-trans, le-antisymm, eq-or-lt-of-le}
+use native.Mathlib.Numerals.{add-one}
 use native.Mathlib.Omega.{arith}
 use mathlib.Core.Path.{_≡_, refl, sym, _∙_, ap, subst}
 use mathlib.Core.Logic.{_⊎_, ⊎-elim}
@@ -29,9 +30,6 @@ use Rattle.rings.proofs.PairLaws.{count-inject, joins-other, joins-same
 use Rattle.rings.proofs.FixpointLaws.{supports-e, supports-i, enough}
 use Rattle.rings.proofs.FallLaws.{touch-named, guess-at, other-small}
 use Rattle.rings.proofs.AlongLaws.{Along, begun, along-out, along-row, along-touch, along-from, along-none, along-next, along-fresh, along-other}
-
-plus-one : (a : ℕ) → a + 1 ≡ suc a
-plus-one a = omega arith
 
 -- ---- rows and supporters
 
@@ -102,14 +100,14 @@ module _ (t : Table) (q : Query) (s hi lo : ℕ) (S : Setting t q s hi lo) (x : 
 
   backers-grow : (c u j : ℕ) → backers t x lo c u j ≤ backers t x lo c u (j + 1)
   backers-grow c u j =
-      let e = ap (backers t x lo c u) (plus-one j) in
+      let e = ap (backers t x lo c u) (add-one j) in
       ⊎-elim (λ y. let m = backers-yes c u j y in omega arith) (λ y. let m = backers-no c u j y in omega arith) (look (backing t x lo c u j))
 
   backers-mono : (c u i j : ℕ) → i ≤ j → backers t x lo c u i ≤ backers t x lo c u j
   backers-mono c u i zero h = let e : i ≡ 0 = omega arith in subst (λ (a : ℕ). backers t x lo c u a ≤ backers t x lo c u 0) (sym e) (le-refl (backers t x lo c u 0))
   backers-mono c u i (suc j) h =
       ⊎-elim (λ e. subst (λ (a : ℕ). backers t x lo c u a ≤ backers t x lo c u (suc j)) (sym e) (le-refl (backers t x lo c u (suc j))))
-      (λ l. le-trans (backers-mono c u i j (omega arith)) (subst (λ (a : ℕ). backers t x lo c u j ≤ backers t x lo c u a) (plus-one j) (backers-grow c u j))) (eq-or-lt-of-le h)
+      (λ l. le-trans (backers-mono c u i j (omega arith)) (subst (λ (a : ℕ). backers t x lo c u j ≤ backers t x lo c u a) (add-one j) (backers-grow c u j))) (eq-or-lt-of-le h)
 
   -- rows that are none of u's change nothing
   backers-flat : (c u b j : ℕ) → b ≤ j → ((i : ℕ) → b ≤ i → i < j → touches t i u ≡ false) → backers t x lo c u j ≡ backers t x lo c u b
@@ -138,11 +136,11 @@ module _ (t : Table) (q : Query) (s hi lo : ℕ) (S : Setting t q s hi lo) (x : 
       pub seen-skip : fresh t lo j ≡ false → Seen t x lo hi c u (j + 1) n above more
       seen-skip f =
           record {
-            counted = flat ∙ (sym (backers-no c u j (stale c)) ∙ ap (backers t x lo c u) (sym (plus-one j)));
+            counted = flat ∙ (sym (backers-no c u j (stale c)) ∙ ap (backers t x lo c u) (sym (add-one j)));
             rises = W .rises;
             none-between = λ i l g h o. ⊎-elim (λ e. clash (subst (λ (a : ℕ). fresh t lo a ≡ true) e g) f) (λ k. earlier-rows (le-refl above) i k g h o) (eq-or-lt-of-le (omega arith));
             day = W .day;
-            then = let m = then-flat in let e = backers-no above u j (stale above) in let y = ap (backers t x lo above u) (plus-one j) in omega arith;
+            then = let m = then-flat in let e = backers-no above u j (stale above) in let y = ap (backers t x lo above u) (add-one j) in omega arith;
           }
         where
           stale : (a : ℕ) → backing t x lo a u j ≡ false
@@ -151,10 +149,10 @@ module _ (t : Table) (q : Query) (s hi lo : ℕ) (S : Setting t q s hi lo) (x : 
       module _ {z : ℕ} (f : fresh t lo j ≡ true) (g : touches t j u ≡ true) (ez : z ≡ value t x j u) where
         -- from z on the row backs u
         backs-from : (a : ℕ) → z ≤ a → backers t x lo a u (j + 1) ≡ suc (backers t x lo a u j)
-        backs-from a h = ap (backers t x lo a u) (plus-one j) ∙ backers-yes a u j (backing-i a u j (record { is-fresh = f; touch = g; by = subst (λ (w : ℕ). w ≤ a) ez h }))
+        backs-from a h = ap (backers t x lo a u) (add-one j) ∙ backers-yes a u j (backing-i a u j (record { is-fresh = f; touch = g; by = subst (λ (w : ℕ). w ≤ a) ez h }))
 
         backs-not : (a : ℕ) → a < z → backers t x lo a u (j + 1) ≡ backers t x lo a u j
-        backs-not a h = ap (backers t x lo a u) (plus-one j) ∙ backers-no a u j (not-backing a u j h ez)
+        backs-not a h = ap (backers t x lo a u) (add-one j) ∙ backers-no a u j (not-backing a u j h ez)
 
         -- who supports on day c does so on every later one
         backs-on : (a : ℕ) → c ≤ a → n ≤ backers t x lo a u j

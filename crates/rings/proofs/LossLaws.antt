@@ -7,6 +7,7 @@
 -- Assumes nothing.
 use Prim.Native.Nat.{ℕ, suc, _+_, _-_, _*_, _≤_, _<_}
 use native.Mathlib.Nat.{le-refl, le-trans, le-antisymm, eq-or-lt-of-le}
+use native.Mathlib.Numerals.{add-one}
 use native.Mathlib.Omega.{arith}
 use mathlib.Core.Path.{_≡_, refl, sym, _∙_, ap, subst}
 use mathlib.Core.Logic.{_⊎_, ⊎-elim}
@@ -31,9 +32,6 @@ use Rattle.rings.proofs.PairLaws.{other-first, other-second, fresh-e}
 use Rattle.rings.proofs.FallLaws.{same-or, guess-at, other-small}
 use Rattle.rings.proofs.AlongLaws.{Along, begun, along-out, along-row, along-touch, along-none, along-next, along-fresh, along-other}
 use Rattle.rings.proofs.LookLaws.{backing-e, backers-yes, backers-no}
-
-plus-one : (a : ℕ) → a + 1 ≡ suc a
-plus-one a = omega arith
 
 -- ---- losses
 
@@ -255,12 +253,12 @@ module _ (t : Table) (q : Query) (s hi lo : ℕ) (S : Setting t q s hi lo) (xs :
     -- a row that backs nobody takes nothing
     rest : (sp′ : List ℕ) (u : ℕ) → u < 4096 → getD sp′ u 0 ≤ getD sp u 0 → backing t x lo (x u) u j ≡ false → (x u ≡ never) ⊎ (getD sp′ u 0 ≤ getD sp₀ u 0 - backers t x lo (x u) u (j + 1))
     rest sp′ u l h nb =
-        ⊎-elim _⊎_.inl (λ m. let b : backers t x lo (x u) u (j + 1) ≡ backers t x lo (x u) u j = ap (backers t x lo (x u) u) (plus-one j) ∙ backers-no t q s hi lo S x (x u) u j nb in _⊎_.inr (omega arith)) (F .less u l)
+        ⊎-elim _⊎_.inl (λ m. let b : backers t x lo (x u) u (j + 1) ≡ backers t x lo (x u) u j = ap (backers t x lo (x u) u) (add-one j) ∙ backers-no t q s hi lo S x (x u) u j nb in _⊎_.inr (omega arith)) (F .less u l)
 
     -- one that backs u takes one at most
     taken : (sp′ : List ℕ) (u : ℕ) → u < 4096 → getD sp′ u 0 ≤ getD sp u 0 - 1 → (x u ≡ never) ⊎ (getD sp′ u 0 ≤ getD sp₀ u 0 - backers t x lo (x u) u (j + 1))
     taken sp′ u l h =
-        ⊎-elim (λ y. ⊎-elim _⊎_.inl (λ m. let b : backers t x lo (x u) u (j + 1) ≡ suc (backers t x lo (x u) u j) = ap (backers t x lo (x u) u) (plus-one j) ∙ backers-yes t q s hi lo S x (x u) u j y in _⊎_.inr (omega arith)) (F .less u l))
+        ⊎-elim (λ y. ⊎-elim _⊎_.inl (λ m. let b : backers t x lo (x u) u (j + 1) ≡ suc (backers t x lo (x u) u j) = ap (backers t x lo (x u) u) (add-one j) ∙ backers-yes t q s hi lo S x (x u) u j y in _⊎_.inr (omega arith)) (F .less u l))
         (λ y. rest sp′ u l (omega arith) y) (look (backing t x lo (x u) u j))
 
     pub leaving-skip : fresh t lo j ≡ false → Leaving t x lo (j + 1) sp₀ sp

@@ -15,7 +15,7 @@ use mathlib.Core.List.{List, map}
 use lib.ListN.{length, getD, set, length-set, length-map, List·getD-map}
 use lib.Seq.{ext-getD, getD-set-same, getD-set-other}
 use lib.Dec.{leb, ltb, eqb}
-use borrow.Author.Tests.{leb-true, ltb-true, ltb-false, le-leb, lt-ltb, eqb-true, eq-eqb, ne-eqb}
+use borrow.Author.Tests.{leb-true, ltb-false, eqb-true, eq-eqb, ne-eqb}
 use Rattle.rings.specs.Words.{_and_, no, at, marked, count}
 use Rattle.rings.specs.Table.{Table, tableOf, dayOf, firstOf, secondOf}
 use Rattle.rings.specs.Ring.{ring, inRing, members}
@@ -32,7 +32,7 @@ use Rattle.rings.specs.declared.refusal.Verdict.the-variants.{Accepted}
 use Rattle.rings.proofs.WordLaws.{look, clash, and-i, and-l, and-r, no-i, no-e, same-truth, tally-yes, tally-no}
 use Rattle.rings.proofs.CheckLaws.{accepted-left, accepted-right, when-accepted}
 use Rattle.rings.proofs.TableLaws.{table-sound}
-use Rattle.rings.proofs.RingLaws.{Inside, ring-sized, in-marked, marked-in, in-window, two-met, met-first, met-second}
+use Rattle.rings.proofs.RingLaws.{Inside, ring-sized, in-marked, marked-in, two-met, met-first, met-second}
 use Rattle.rings.proofs.FallLaws.{fell-look, stays-met, fell-not}
 
 pub is-zero : (x : List ℕ) {a v : ℕ} (b : ℕ) → a ≡ b → v ≡ getD x a 0 → v ≡ 0 → eqb (getD x b 0) 0 ≡ true
@@ -99,20 +99,13 @@ module _ (d f s links : List ℕ) (q : Season) (R : Ready d f s links q) {end ta
   unfolding dayOf at
   inside h k = record { row = b; from = R .setting .from-lo j b h; to = Sp .inside j k }
 
-  lo-le : q .start ≤ getD d j 0 → q .lo ≤ j
-  unfolding dayOf at
-  lo-le h = ⊎-elim (λ y. leb-true (q .lo) j y) (λ y. let z = R .setting .before-lo j (borrow.Author.Tests.leb-false (q .lo) j y) in absurd (omega arith)) (look (leb (q .lo) j))
-
-  lt-end : getD d j 0 ≤ q .end → j < end
-  lt-end h = ⊎-elim (λ y. ltb-true j end y) (λ y. let z = Sp .later j (ltb-false j end y) b in absurd (omega arith)) (look (ltb j end))
-
   days-inside : (i : ℕ) → i < end → i < length d → dayOf (tableOf d f s) i ≤ q .end
   unfolding dayOf at
   days-inside i h k = Sp .inside i h
 
-  pub stays-ring : {y : Bool} → y ≡ (leb (q .lo) j and ltb j end and eqb (getD x (getD f j 0) 0) 0 and eqb (getD x (getD s j 0) 0) 0) → marked (ring (tableOf d f s) (query (q .k)) (q .start) (q .end)) j ≡ y
+  pub stays-ring : q .lo ≤ j → j < end → {y : Bool} → y ≡ (eqb (getD x (getD f j 0) 0) 0 and eqb (getD x (getD s j 0) 0) 0) → marked (ring (tableOf d f s) (query (q .k)) (q .start) (q .end)) j ≡ y
   unfolding firstOf secondOf dayOf at
-  stays-ring {y} e = same-truth (marked rg j) test goes comes ∙ sym e
+  stays-ring from to {y} e = same-truth (marked rg j) test goes comes ∙ sym e
     where
       rg : List Bool
       rg = ring (tableOf d f s) (query (q .k)) (q .start) (q .end)
@@ -124,7 +117,7 @@ module _ (d f s links : List ℕ) (q : Season) (R : Ready d f s links q) {end ta
       zb = eqb (getD x (getD s j 0) 0) 0
 
       test : Bool
-      test = leb (q .lo) j and ltb j end and za and zb
+      test = za and zb
 
       stayed : (u : ℕ) → u < 4096 → Rattle.rings.specs.Ring.met (tableOf d f s) rg u ≡ true → getD x u 0 ≡ 0
       stayed u k m = ⊎-elim (λ z. z) (λ g. absurd (fell-not (tableOf d f s) (query (q .k)) (q .start) (q .end) (q .lo) (R .setting) F u k g order m)) (fell-look x u)
@@ -132,18 +125,14 @@ module _ (d f s links : List ℕ) (q : Season) (R : Ready d f s links q) {end ta
       goes : marked rg j ≡ true → test ≡ true
       goes h =
           let k = in-marked (tableOf d f s) (query (q .k)) (q .start) (q .end) j h in
-          let w = in-window (tableOf d f s) (query (q .k)) (q .start) (q .end) j k in
-          and-i (le-leb (q .lo) j (lo-le (w .from))) (and-i (lt-ltb j end (lt-end (w .to)))
-          (and-i (eq-eqb (getD x (getD f j 0) 0) 0 (stayed (getD f j 0) rank-a (met-first (tableOf d f s) (query (q .k)) (q .start) (q .end) j k))) (eq-eqb (getD x (getD s j 0) 0) 0 (stayed (getD s j 0) rank-b (met-second (tableOf d f s) (query (q .k)) (q .start) (q .end) j k)))))
+          and-i (eq-eqb (getD x (getD f j 0) 0) 0 (stayed (getD f j 0) rank-a (met-first (tableOf d f s) (query (q .k)) (q .start) (q .end) j k))) (eq-eqb (getD x (getD s j 0) 0) 0 (stayed (getD s j 0) rank-b (met-second (tableOf d f s) (query (q .k)) (q .start) (q .end) j k)))
 
       comes : test ≡ true → marked rg j ≡ true
       comes h =
-          let h₂ = and-r (leb (q .lo) j) (ltb j end and za and zb) h in
-          let h₃ = and-r (ltb j end) (za and zb) h₂ in
           let m : (u : ℕ) → u < 4096 → getD x u 0 ≡ 0 → Rattle.rings.specs.Ring.met (tableOf d f s) rg u ≡ true = stays-met (tableOf d f s) (query (q .k)) (q .start) (q .end) (q .lo) (R .setting) F days-inside in
           marked-in (tableOf d f s) (query (q .k)) (q .start) (q .end) j
-          (two-met (tableOf d f s) (query (q .k)) (q .start) (q .end) j (inside (leb-true (q .lo) j (and-l (leb (q .lo) j) (ltb j end and za and zb) h)) (ltb-true j end (and-l (ltb j end) (za and zb) h₂)))
-          (m (getD f j 0) rank-a (eqb-true (getD x (getD f j 0) 0) 0 (and-l za zb h₃))) (m (getD s j 0) rank-b (eqb-true (getD x (getD s j 0) 0) 0 (and-r za zb h₃))))
+          (two-met (tableOf d f s) (query (q .k)) (q .start) (q .end) j (inside from to)
+          (m (getD f j 0) rank-a (eqb-true (getD x (getD f j 0) 0) 0 (and-l za zb h))) (m (getD s j 0) rank-b (eqb-true (getD x (getD s j 0) 0) 0 (and-r za zb h))))
 
 -- ---- what an accepted call says
 

@@ -6,6 +6,7 @@
 -- Assumes nothing.
 use Prim.Native.Nat.{ℕ, suc, _+_, _-_, _*_, _≤_, _<_}
 use native.Mathlib.Nat.{le-antisymm}
+use native.Mathlib.Numerals.{add-one}
 use native.Mathlib.Omega.{arith}
 use mathlib.Core.Path.{_≡_, refl, sym, _∙_, ap, subst}
 use mathlib.Core.Logic.{⊎-elim}
@@ -23,9 +24,6 @@ use Rattle.rings.specs.declared.Query.{Query}
 use Rattle.rings.proofs.WordLaws.{tally-yes, tally-no, count-le, count-less, count-same, count-pos}
 use Rattle.rings.proofs.PairLaws.{count-drop}
 use Rattle.rings.proofs.FallLaws.{same-or}
-
-plus-one : (a : ℕ) → a + 1 ≡ suc a
-plus-one a = omega arith
 
 -- ---- one row more, one fewer
 
@@ -84,7 +82,7 @@ module _ (n : ℕ) (sc : List ℕ) where
     tallies-next {v} {xs′} e A =
         record {
           long = added-long A ∙ T .long;
-          each = λ a h. subst (λ (i : ℕ). getD xs′ a 0 ≡ count (has a) i) (sym (plus-one m)) (⊎-elim (λ y. here a h y) (λ y. else a h y) (same-or a v));
+          each = λ a h. subst (λ (i : ℕ). getD xs′ a 0 ≡ count (has a) i) (sym (add-one m)) (⊎-elim (λ y. here a h y) (λ y. else a h y) (same-or a v));
         }
       where
         here : (a : ℕ) → a < 1025 → a ≡ v → getD xs′ a 0 ≡ count (has a) (suc m)

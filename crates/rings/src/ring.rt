@@ -2,7 +2,7 @@
 ghost use mathlib.Core.Path.{_≡_};
 ghost use Prim.Native.Nat.{_+_, _*_, _≤_, _<_};
 ghost use lib.ListN.{length, getD, replicate};
-ghost use lib.Dec.{leb, ltb, eqb};
+ghost use lib.Dec.{eqb};
 ghost use Rattle.rings.specs.Words.{_and_};
 ghost use Rattle.rings.specs.Table.{tableOf};
 ghost use Rattle.rings.specs.Ring.{ring, members};
@@ -10,7 +10,7 @@ ghost use Rattle.rings.specs.CoreTimes.{never};
 ghost use Rattle.rings.specs.Buffers.{marks as markBytes, countedScratch};
 ghost use Rattle.rings.specs.WindowRingCall.{ringAnswer, ringMarks};
 ghost use Rattle.rings.specs.Inner.Sound.{Sound};
-ghost use Rattle.rings.specs.Inner.Peeling.{query, season, Falling, Ready, Span};
+ghost use Rattle.rings.specs.Inner.Peeling.{query, season, Falling, Ready, Span, Split};
 use crate::Query;
 use crate::checks::check_call;
 use crate::checks::is_window;
@@ -18,21 +18,16 @@ use crate::links::clear;
 use crate::links::entry;
 use crate::links::link;
 use crate::peel::core;
+use crate::recalling::clear_marks;
 use crate::refusal::Counted;
 use crate::refusal::Verdict;
 use crate::table::rows_before;
 
-// Row j lies in the window, and neither of its accounts has fallen.
-fn stays(first: &[u16], second: &[u16], lo: usize, end: usize, times: &[u16], j: usize) -> bool
+// Neither account of row j has fallen.
+fn stays(first: &[u16], second: &[u16], times: &[u16], j: usize) -> bool
     requires { ⌜ (j < length (now first)) × (j < length (now second)) × (getD (now first) j 0 < length (now times)) × (getD (now second) j 0 < length (now times)) ⌝ }
-    ensures { λ r. ⌜ r ≡ (leb lo j and ltb j end and eqb (getD (now (times .entry)) (getD (now (first .entry)) j 0) 0) 0 and eqb (getD (now (times .entry)) (getD (now (second .entry)) j 0) 0) 0) ⌝ }
+    ensures { λ r. ⌜ r ≡ (eqb (getD (now (times .entry)) (getD (now (first .entry)) j 0) 0) 0 and eqb (getD (now (times .entry)) (getD (now (second .entry)) j 0) 0) 0) ⌝ }
 {
-    if j < lo {
-        return false;
-    }
-    if end <= j {
-        return false;
-    }
     let a = entry(first, j);
     if entry(times, a) != 0 {
         return false;
@@ -44,7 +39,7 @@ fn stays(first: &[u16], second: &[u16], lo: usize, end: usize, times: &[u16], j:
     true
 }
 
-// The rows that stay are marked and counted.
+// The rows that stay are marked and counted, in a table all of whose rows lie in the window.
 fn mark_rows(
     days: &[u16],
     first: &[u16],
@@ -53,24 +48,22 @@ fn mark_rows(
     k: u16,
     s: u16,
     e: u16,
-    lo: usize,
-    end: usize,
     tail: usize,
     times: &[u16],
     left: &[u16],
     queue: &[u16],
     marks: &mut [u8],
 ) -> usize
-    requires { ⌜ Ready (now days) (now first) (now second) (now links) (season k s e lo) ⌝ }
-    requires { ⌜ (s ≤ e) × Span (now days) e lo end ⌝ }
-    requires { ⌜ Falling (now days) (now first) (now second) (season k s e lo) 4096 never end tail tail (now times) (now left) (now queue) ⌝ }
+    requires { ⌜ Ready (now days) (now first) (now second) (now links) (season k s e 0) ⌝ }
+    requires { ⌜ (s ≤ e) × Span (now days) e 0 (length (now days)) ⌝ }
+    requires { ⌜ Falling (now days) (now first) (now second) (season k s e 0) 4096 never (length (now days)) tail tail (now times) (now left) (now queue) ⌝ }
     requires { ⌜ length (now marks) ≡ length (now days) ⌝ }
     ensures { λ n. ⌜ (n ≡ members (ring (tableOf (now (days .entry)) (now (first .entry)) (now (second .entry))) (query k) s e)) × (now (marks .exit) ≡ markBytes (ring (tableOf (now (days .entry)) (now (first .entry)) (now (second .entry))) (query k) s e)) ⌝ }
 {
     let mut n = 0;
     let mut j = 0;
     while j < days.len() {
-        if stays(first, second, lo, end, times, j) {
+        if stays(first, second, times, j) {
             marks[j] = 1;
             n += 1;
             j += 1;
@@ -82,7 +75,58 @@ fn mark_rows(
     n
 }
 
-// The ring of [s, e] of an accepted table.
+// The ring of [s, e] of a table all of whose rows lie in the window.
+fn mark_part(
+    days: &[u16],
+    first: &[u16],
+    second: &[u16],
+    k: u16,
+    s: u16,
+    e: u16,
+    marks: &mut [u8],
+    scratch: &mut [u16],
+) -> usize
+    requires { ⌜ Sound (now days) (now first) (now second) ⌝ }
+    requires { ⌜ (1 ≤ k) × (s ≤ e) × (e ≤ 1024) × (length (now marks) ≡ length (now days)) × (8192 + 4 * length (now days) ≤ length (now scratch)) ⌝ }
+    requires { ⌜ Split (now days) s 0 × Split (now days) (e + 1) (length (now days)) ⌝ }
+    ensures { λ n. ⌜ (n ≡ members (ring (tableOf (now (days .entry)) (now (first .entry)) (now (second .entry))) (query k) s e)) × (now (marks .exit) ≡ markBytes (ring (tableOf (now (days .entry)) (now (first .entry)) (now (second .entry))) (query k) s e)) ⌝ }
+{
+    let n = days.len();
+    let mut times = [0u16; 4096];
+    let mut left = [0u16; 4096];
+    let mut queue = [0u16; 4096];
+    link(days, first, second, scratch);
+    let tail = core(
+        days,
+        first,
+        second,
+        scratch,
+        k,
+        s,
+        e,
+        0,
+        n,
+        &mut times,
+        &mut left,
+        &mut queue,
+    );
+    mark_rows(
+        days,
+        first,
+        second,
+        scratch,
+        k,
+        s,
+        e,
+        tail,
+        &times,
+        &left,
+        &queue,
+        marks,
+    )
+}
+
+// The ring of [s, e] of an accepted table. Days never fall, so the window's rows stand side by side: only they are linked and peeled, and every other mark is 0.
 fn mark_ring(
     days: &[u16],
     first: &[u16],
@@ -99,39 +143,17 @@ fn mark_ring(
 {
     let lo = rows_before(days, s);
     let end = rows_before(days, e + 1);
-    let mut times = [0u16; 4096];
-    let mut left = [0u16; 4096];
-    let mut queue = [0u16; 4096];
-    link(days, first, second, scratch);
-    let tail = core(
-        days,
-        first,
-        second,
-        scratch,
+    let room = 8192 + 4 * (end - lo);
+    clear_marks(marks);
+    let n = mark_part(
+        &days[lo..end],
+        &first[lo..end],
+        &second[lo..end],
         k,
         s,
         e,
-        lo,
-        end,
-        &mut times,
-        &mut left,
-        &mut queue,
-    );
-    let n = mark_rows(
-        days,
-        first,
-        second,
-        scratch,
-        k,
-        s,
-        e,
-        lo,
-        end,
-        tail,
-        &times,
-        &left,
-        &queue,
-        marks,
+        &mut marks[lo..end],
+        &mut scratch[..room],
     );
     clear(scratch);
     n

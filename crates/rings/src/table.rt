@@ -75,14 +75,17 @@ pub fn rows_before(days: &[u16], day: u16) -> usize
     requires { ⌜ ((j : ℕ) → suc j < length (now days) → getD (now days) j 0 ≤ getD (now days) (suc j) 0) ⌝ }
     ensures { λ r. ⌜ Split (now (days .entry)) day r ⌝ }
 {
-    let mut r = 0;
-    while r < days.len() {
-        if day <= days[r] {
-            return r;
+    let mut low = 0;
+    let mut high = days.len();
+    while low < high {
+        let middle = low + (high - low) / 2;
+        if days[middle] < day {
+            low = middle + 1;
+            continue;
         }
-        r += 1;
+        high = middle;
     }
-    r
+    low
 }
 
 // The rows before the day after s, from the rows before s on.

@@ -1,81 +1,136 @@
-use Rattle.rings.proofs.DayLaws.{ready-of, span-of}
-use lib.ListN.{replicate}
+-- `ring::mark_ring` meets its contract: days never fall, so the rows of the window are those from lo to end, and their ring among 0s is the whole ring (PartLaws).
+-- Assumes nothing.
+use mathlib.Core.Path.{_∙_, ap}
 use Prim.Native.Nat.{ℕ}
-use mathlib.Core.Path.{_∙_, ap, refl}
+use lib.ListN.{replicate}
+use Rattle.rings.specs.Inner.Peeling.{query}
+use Rattle.rings.proofs.PartLaws.{part-sound, part-same, room-long, part-room, part-from, part-to, part-members, part-marks}
+use Rattle.rings.proofs.DayLaws.{span-of}
 use borrow.Author.Needs.{needs}
 use Rattle.rings.proofs.ring.mark_ring.Statement.{statement}
 use Rattle.rings.proofs.ring.mark_ring.Tie as tie
 use Rattle.rings.proofs.ring.mark_ring.Reads as reads
 use Rattle.rings.proofs.ring.mark_ring.Lts as lts
 use Rattle.rings.proofs.links.clear.Reads as clear-reads
-use Rattle.rings.proofs.links.link.Reads as link-reads
-use Rattle.rings.proofs.peel.core.Reads as core-reads
-use Rattle.rings.proofs.ring.mark_rows.Reads as mark-rows-reads
+use Rattle.rings.proofs.recalling.clear_marks.Reads as clear-marks-reads
+use Rattle.rings.proofs.ring.mark_part.Reads as mark-part-reads
 use Rattle.rings.proofs.table.rows_before.Reads as rows-before-reads
 
--- src/ring.rt:77:9
+-- src/ring.rt:154:9
 rows-before-requires : tie.Need-rows-before-requires
 rows-before-requires c κs = search needs
 
--- src/ring.rt:78:33
+-- src/ring.rt:155:33
 add-rows-before : tie.Need-add-rows-before
 add-rows-before c = search needs
 
--- src/ring.rt:78:9
+-- src/ring.rt:155:9
 rows-before-requires-2 : tie.Need-rows-before-requires-2
 rows-before-requires-2 c κs = search needs
 
--- src/ring.rt:82:5
-link-requires : tie.Need-link-requires
-link-requires c κs = search needs
+-- src/ring.rt:156:28
+sub-room : tie.Need-sub-room
+sub-room c = span-of (c .before .before .before .before .before .before .before .pre .1 .1) (c .before .rows-before .ensures) (c .rows-before2 .ensures) .ordered
 
--- src/ring.rt:83:69
-slice-aggregate-core : tie.Need-slice-aggregate-core
-slice-aggregate-core c = search needs
+-- src/ring.rt:156:23
+mul-room : tie.Need-mul-room
+mul-room c = search needs
 
--- src/ring.rt:83:81
-slice-aggregate-core-2 : tie.Need-slice-aggregate-core-2
-slice-aggregate-core-2 c = search needs
+-- src/ring.rt:156:16
+add-room : tie.Need-add-room
+add-room c = search needs
 
--- src/ring.rt:83:92
-slice-aggregate-core-3 : tie.Need-slice-aggregate-core-3
-slice-aggregate-core-3 c = search needs
+-- src/ring.rt:157:5
+clear-marks-requires : tie.Need-clear-marks-requires
+clear-marks-requires c κs = search needs
 
--- src/ring.rt:83:9
-core-requires : tie.Need-core-requires
-core-requires c κs = (ready-of (c .before .before .before .before .before .before .before .before .before .before .before .before .before .before .before .pre .0) (c .before .before .before .before .before .before .link .ensures) (c .before .before .before .before .before .before .before .before .before .before .before .before .before .before .before .pre .1 .0) (c .before .before .before .before .before .before .before .before .before .before .before .before .before .before .before .pre .1 .2) (c .before .before .before .before .before .before .before .before .before .rows-before .ensures), (span-of (c .before .before .before .before .before .before .before .before .before .before .before .before .before .before .before .pre .1 .1) (c .before .before .before .before .before .before .before .before .before .rows-before .ensures) (c .before .before .before .before .before .before .before .before .rows-before2 .ensures), (refl, refl, refl)))
+-- src/ring.rt:159:9
+mul-mark-part : tie.Need-mul-mark-part
+mul-mark-part c = search needs
 
--- src/ring.rt:84:77
-slice-aggregate-mark-rows : tie.Need-slice-aggregate-mark-rows
-slice-aggregate-mark-rows c = search needs
+-- src/ring.rt:159:9
+sub-mark-part : tie.Need-sub-mark-part
+sub-mark-part c = span-of (c .before .before .before .before .before .before .before .before .before .before .before .pre .1 .1) (c .before .before .before .before .before .rows-before .ensures) (c .before .before .before .before .rows-before2 .ensures) .ordered
 
--- src/ring.rt:84:85
-slice-aggregate-mark-rows-2 : tie.Need-slice-aggregate-mark-rows-2
-slice-aggregate-mark-rows-2 c = search needs
+-- src/ring.rt:159:9
+part-mark-part-start : tie.Need-part-mark-part-start
+part-mark-part-start c = span-of (c .before .before .before .before .before .before .before .before .before .before .before .pre .1 .1) (c .before .before .before .before .before .rows-before .ensures) (c .before .before .before .before .rows-before2 .ensures) .ordered
 
--- src/ring.rt:84:92
-slice-aggregate-mark-rows-3 : tie.Need-slice-aggregate-mark-rows-3
-slice-aggregate-mark-rows-3 c = search needs
+-- src/ring.rt:159:9
+part-mark-part-end : tie.Need-part-mark-part-end
+part-mark-part-end c = search needs
 
--- src/ring.rt:84:9
-mark-rows-requires : tie.Need-mark-rows-requires
-mark-rows-requires c κs = (ready-of (c .before .before .before .before .before .before .before .before .before .before .before .before .before .before .before .before .before .before .before .before .before .before .before .before .pre .0) (c .before .before .before .before .before .before .before .before .before .before .before .before .before .before .before .link .ensures) (c .before .before .before .before .before .before .before .before .before .before .before .before .before .before .before .before .before .before .before .before .before .before .before .before .pre .1 .0) (c .before .before .before .before .before .before .before .before .before .before .before .before .before .before .before .before .before .before .before .before .before .before .before .before .pre .1 .2) (c .before .before .before .before .before .before .before .before .before .before .before .before .before .before .before .before .before .before .rows-before .ensures), ((c .before .before .before .before .before .before .before .before .before .before .before .before .before .before .before .before .before .before .before .before .before .before .before .before .pre .1 .1, span-of (c .before .before .before .before .before .before .before .before .before .before .before .before .before .before .before .before .before .before .before .before .before .before .before .before .pre .1 .1) (c .before .before .before .before .before .before .before .before .before .before .before .before .before .before .before .before .before .before .rows-before .ensures) (c .before .before .before .before .before .before .before .before .before .before .before .before .before .before .before .before .before .rows-before2 .ensures)), (c .before .before .before .before .before .before .before .before .core .ensures, c .before .before .before .before .before .before .before .before .before .before .before .before .before .before .before .before .before .before .before .before .before .before .before .before .pre .1 .3)))
+-- src/ring.rt:160:9
+mul-mark-part-2 : tie.Need-mul-mark-part-2
+mul-mark-part-2 c = search needs
 
--- src/ring.rt:85:5
+-- src/ring.rt:160:9
+sub-mark-part-2 : tie.Need-sub-mark-part-2
+sub-mark-part-2 c = span-of (c .before .before .before .before .before .before .before .before .before .before .before .before .pre .1 .1) (c .before .before .before .before .before .before .rows-before .ensures) (c .before .before .before .before .before .rows-before2 .ensures) .ordered
+
+-- src/ring.rt:160:9
+part-mark-part-start-2 : tie.Need-part-mark-part-start-2
+part-mark-part-start-2 c = span-of (c .before .before .before .before .before .before .before .before .before .before .before .before .pre .1 .1) (c .before .before .before .before .before .before .rows-before .ensures) (c .before .before .before .before .before .rows-before2 .ensures) .ordered
+
+-- src/ring.rt:160:9
+part-mark-part-end-2 : tie.Need-part-mark-part-end-2
+part-mark-part-end-2 c = search needs
+
+-- src/ring.rt:161:9
+mul-mark-part-3 : tie.Need-mul-mark-part-3
+mul-mark-part-3 c = search needs
+
+-- src/ring.rt:161:9
+sub-mark-part-3 : tie.Need-sub-mark-part-3
+sub-mark-part-3 c = span-of (c .before .before .before .before .before .before .before .before .before .before .before .before .before .pre .1 .1) (c .before .before .before .before .before .before .before .rows-before .ensures) (c .before .before .before .before .before .before .rows-before2 .ensures) .ordered
+
+-- src/ring.rt:161:9
+part-mark-part-start-3 : tie.Need-part-mark-part-start-3
+part-mark-part-start-3 c = span-of (c .before .before .before .before .before .before .before .before .before .before .before .before .before .pre .1 .1) (c .before .before .before .before .before .before .before .rows-before .ensures) (c .before .before .before .before .before .before .rows-before2 .ensures) .ordered
+
+-- src/ring.rt:161:9
+part-mark-part-end-3 : tie.Need-part-mark-part-end-3
+part-mark-part-end-3 c = search needs
+
+-- src/ring.rt:165:9
+sub-mark-part-4 : tie.Need-sub-mark-part-4
+sub-mark-part-4 c = span-of (c .before .before .before .before .before .before .before .before .before .before .before .before .before .before .pre .1 .1) (c .before .before .before .before .before .before .before .before .rows-before .ensures) (c .before .before .before .before .before .before .before .rows-before2 .ensures) .ordered
+
+-- src/ring.rt:165:9
+part-mark-part-start-4 : tie.Need-part-mark-part-start-4
+part-mark-part-start-4 c = span-of (c .before .before .before .before .before .before .before .before .before .before .before .before .before .before .pre .1 .1) (c .before .before .before .before .before .before .before .before .rows-before .ensures) (c .before .before .before .before .before .before .before .rows-before2 .ensures) .ordered
+
+-- src/ring.rt:165:9
+part-mark-part-end-4 : tie.Need-part-mark-part-end-4
+part-mark-part-end-4 c = search needs
+
+-- src/ring.rt:166:9
+slice-relend-prefix-mark-part : tie.Need-slice-relend-prefix-mark-part
+slice-relend-prefix-mark-part c = search needs
+
+-- src/ring.rt:166:9
+slice-aggregate-mark-part : tie.Need-slice-aggregate-mark-part
+slice-aggregate-mark-part c = let a = c .before .before .before .before .before .before .before .before .before .before .before .before .before .before .before .before .args in let o = span-of (c .before .before .before .before .before .before .before .before .before .before .before .before .before .before .before .before .pre .1 .1) (c .before .before .before .before .before .before .before .before .before .before .rows-before .ensures) (c .before .before .before .before .before .before .before .before .before .rows-before2 .ensures) in room-long (a .days .now) (a .first .now) (a .second .now) _ _ (o .ordered) (o .within) (a .scratch .now) (c .before .before .before .before .before .before .before .before .before .before .before .before .before .before .before .before .pre .1 .4)
+
+-- src/ring.rt:158:9
+mark-part-requires : tie.Need-mark-part-requires
+mark-part-requires c κs = let a = c .before .before .before .before .before .before .before .before .before .before .before .before .before .before .before .before .args in let l = c .before .before .before .before .before .before .before .before .before .before .rows-before in let r = c .before .before .before .before .before .before .before .before .before .rows-before2 in let o = span-of (c .before .before .before .before .before .before .before .before .before .before .before .before .before .before .before .before .pre .1 .1) (l .ensures) (r .ensures) in (part-sound _ _ _ _ _ (o .ordered) (o .within) (c .before .before .before .before .before .before .before .before .before .before .before .before .before .before .before .before .pre .0), ((c .before .before .before .before .before .before .before .before .before .before .before .before .before .before .before .before .pre .1 .0, c .before .before .before .before .before .before .before .before .before .before .before .before .before .before .before .before .pre .1 .1, c .before .before .before .before .before .before .before .before .before .before .before .before .before .before .before .before .pre .1 .2, part-same _ (a .first .now) (a .second .now) _ _ (o .ordered) (o .within) (c .before .before .before .before .before .before .before .clear-marks .ensures) (c .before .before .before .before .before .before .before .before .before .before .before .before .before .before .before .before .pre .1 .3), part-room _ (a .first .now) (a .second .now) _ _ (o .ordered) (o .within) (a .scratch .now) (c .before .before .before .before .before .before .before .before .before .before .before .before .before .before .before .before .pre .1 .4)), (part-from _ (a .first .now) (a .second .now) _ _ (o .ordered) (o .within) (l .ensures), part-to _ (a .first .now) (a .second .now) _ _ (o .ordered) (o .within) (r .ensures))))
+
+-- src/ring.rt:168:5
 clear-requires : tie.Need-clear-requires
 clear-requires c κs = search needs
 
--- src/ring.rt:72:1
+-- src/ring.rt:140:1
 same-length : tie.Need-same-length
 same-length c = search needs
 
--- src/ring.rt:72:1
+-- src/ring.rt:140:1
 same-length-2 : tie.Need-same-length-2
 same-length-2 c = search needs
 
--- src/ring.rt:72:1
+-- src/ring.rt:140:1
 returns : tie.Need-returns
-returns c = (c .before .before .before .before .before .before .mark-rows .ensures .0, c .before .before .before .before .before .before .mark-rows .ensures .1, c .before .before .clear .ensures ∙ ap (λ (m : ℕ). replicate m 0) (c .before .before .before .before .before .before .before .before .before .before .before .before .before .before .before .before .before .before .before .before .before .before .link .kept .1 .1 .1 .0))
+returns c = let a = c .before .before .before .before .before .before .before .before .before .before .before .before .before .before .before .before .before .before .before .before .before .before .before .before .before .args in let l = c .before .before .before .before .before .before .before .before .before .before .before .before .before .before .before .before .before .before .before .rows-before in let r = c .before .before .before .before .before .before .before .before .before .before .before .before .before .before .before .before .before .before .rows-before2 in let o = span-of (c .before .before .before .before .before .before .before .before .before .before .before .before .before .before .before .before .before .before .before .before .before .before .before .before .before .pre .1 .1) (l .ensures) (r .ensures) in (part-members (a .days .now) (a .first .now) (a .second .now) (l .result) (r .result) (o .ordered) (o .within) (query (a .k)) (a .s) (a .e) (l .ensures) (r .ensures) (c .before .before .before .before .before .before .before .before .mark-part .ensures .0), part-marks (a .days .now) (a .first .now) (a .second .now) (l .result) (r .result) (o .ordered) (o .within) (query (a .k)) (a .s) (a .e) (l .ensures) (r .ensures) (c .before .before .before .before .before .before .before .before .before .before .before .before .before .before .before .before .clear-marks .ensures) (c .before .before .before .before .before .before .before .before .before .before .before .before .before .before .before .before .before .before .before .before .before .before .before .before .before .pre .1 .3) (c .before .before .before .before .before .before .before .before .mark-part .ensures .1), c .before .before .clear .ensures ∙ ap (λ (m : ℕ). replicate {A = ℕ} m 0) (c .before .before .before .before .before .scratch .given .1))
 
 pub mark-ring-spec : {M : Type 1} → statement M
 mark-ring-spec =
@@ -84,15 +139,28 @@ mark-ring-spec =
     rows-before-requires
     add-rows-before
     rows-before-requires-2
-    link-requires
-    slice-aggregate-core
-    slice-aggregate-core-2
-    slice-aggregate-core-3
-    core-requires
-    slice-aggregate-mark-rows
-    slice-aggregate-mark-rows-2
-    slice-aggregate-mark-rows-3
-    mark-rows-requires
+    sub-room
+    mul-room
+    add-room
+    clear-marks-requires
+    mul-mark-part
+    sub-mark-part
+    part-mark-part-start
+    part-mark-part-end
+    mul-mark-part-2
+    sub-mark-part-2
+    part-mark-part-start-2
+    part-mark-part-end-2
+    mul-mark-part-3
+    sub-mark-part-3
+    part-mark-part-start-3
+    part-mark-part-end-3
+    sub-mark-part-4
+    part-mark-part-start-4
+    part-mark-part-end-4
+    slice-relend-prefix-mark-part
+    slice-aggregate-mark-part
+    mark-part-requires
     clear-requires
     same-length
     same-length-2

@@ -1,15 +1,16 @@
-use Rattle.rings.proofs.MarkLaws.{Marking, mark-start, mark-yes, mark-no, mark-few, mark-end, stays-place, stays-ring}
-use Rattle.rings.proofs.RingLaws.{ring-sized}
-use Rattle.rings.specs.Inner.Peeling.{query}
-use Rattle.rings.specs.Ring.{ring}
-use Rattle.rings.specs.Table.{tableOf}
-use Rattle.rings.specs.Words.{marked}
-use native.Mathlib.Nat.{le-antisymm}
-use mathlib.Core.Path.{_≡_, refl, _∙_, sym}
-use lib.ListN.{length, length-set}
-use Prim.Native.Nat.{_-_, _≤_}
+-- `ring::mark_rows` meets its contract. The loop's invariant: the rows below j are marked and counted.
+-- Assumes nothing.
 use native.Mathlib.Omega.{arith}
-use borrow.Author.Needs.{needs}
+use Prim.Native.Nat.{_-_, _≤_, zero-le}
+use lib.ListN.{length}
+use mathlib.Core.Path.{_∙_, sym}
+use native.Mathlib.Nat.{le-antisymm}
+use Rattle.rings.specs.Words.{marked}
+use Rattle.rings.specs.Table.{tableOf}
+use Rattle.rings.specs.Ring.{ring}
+use Rattle.rings.specs.Inner.Peeling.{query}
+use Rattle.rings.proofs.RingLaws.{ring-sized}
+use Rattle.rings.proofs.MarkLaws.{Marking, mark-start, mark-yes, mark-no, mark-few, mark-end, stays-place, stays-ring}
 use Rattle.rings.proofs.ring.mark_rows.Statement.{statement}
 use Rattle.rings.proofs.ring.mark_rows.Tie as tie
 use Rattle.rings.proofs.ring.mark_rows.Reads as reads
@@ -17,60 +18,60 @@ use Rattle.rings.proofs.ring.mark_rows.Lts as lts
 use Rattle.rings.proofs.ring.stays.Reads as stays-reads
 
 abbrev Inv-loop : tie.InvT-loop
-Inv-loop days first second links k s e lo end tail times left queue marks₀ n₀ j₀ marks n j = (j ≤ length days) × Marking (marked (ring (tableOf days first second) (query k) s e)) j n marks₀ marks
+Inv-loop days first second links k s e tail times left queue marks₀ n₀ j₀ marks n j = (j ≤ length days) × Marking (marked (ring (tableOf days first second) (query k) s e)) j n marks₀ marks
 
 abbrev μ-loop : tie.MeasureT-loop
-μ-loop days first second links k s e lo end tail times left queue marks₀ n₀ j₀ marks n j = length days - j
+μ-loop days first second links k s e tail times left queue marks₀ n₀ j₀ marks n j = length days - j
 
--- src/ring.rt:58:5
+-- src/ring.rt:65:5
 loop-holds : tie.Need-loop-holds Inv-loop μ-loop
 loop-holds c = (omega arith, mark-start _ _)
 
--- src/ring.rt:59:12
+-- src/ring.rt:66:12
 stays-requires : tie.Need-stays-requires Inv-loop μ-loop
 stays-requires c κs = stays-place _ _ _ _ _ (c .before .before .before .before .before .before .before .before .before .before .pre .0) (c .before .before .before .before .before .before .before .before .before .before .pre .1 .0 .0) (c .before .before .before .before .before .before .before .before .before .before .pre .1 .0 .1) (c .before .before .before .before .before .before .before .before .before .before .pre .1 .1 .0) _ (c .loop-test .taken)
 
--- src/ring.rt:60:13
+-- src/ring.rt:67:13
 slice-write-marks : tie.Need-slice-write-marks Inv-loop μ-loop
 slice-write-marks c = omega (arith, c .before .before .loop-test .taken, c .before .before .before .before .before .before .before .before .before .before .before .before .pre .1 .1 .1, c .before .before .before .loop .inv .1 .long)
 
--- src/ring.rt:61:13
+-- src/ring.rt:68:13
 add-n : tie.Need-add-n Inv-loop μ-loop
 add-n c = omega (arith, c .before .before .loop-test .taken, mark-few (c .before .before .before .loop .inv .1), c .before .before .before .before .before .before .before .before .before .before .before .before .pre .0 .sound .most)
 
--- src/ring.rt:62:13
+-- src/ring.rt:69:13
 add-j : tie.Need-add-j Inv-loop μ-loop
 add-j c = omega (arith, c .before .before .loop-test .taken, c .before .before .before .before .before .before .before .before .before .before .before .before .pre .0 .sound .most)
 
--- src/ring.rt:58:5
+-- src/ring.rt:65:5
 loop-less : tie.Need-loop-less Inv-loop μ-loop
 loop-less c = omega (arith, c .before .before .loop-test .taken)
 
--- src/ring.rt:58:5
+-- src/ring.rt:65:5
 loop-again : tie.Need-loop-again Inv-loop μ-loop
-loop-again c = (omega (arith, c .before .before .loop-test .taken), mark-yes (c .before .before .before .loop .inv .1) (omega (arith, c .before .before .loop-test .taken, c .before .before .before .before .before .before .before .before .before .before .before .before .pre .1 .1 .1, c .before .before .before .loop .inv .1 .long)) (stays-ring _ _ _ _ _ (c .before .before .before .before .before .before .before .before .before .before .before .before .pre .0) (c .before .before .before .before .before .before .before .before .before .before .before .before .pre .1 .0 .0) (c .before .before .before .before .before .before .before .before .before .before .before .before .pre .1 .0 .1) (c .before .before .before .before .before .before .before .before .before .before .before .before .pre .1 .1 .0) _ (c .before .before .loop-test .taken) (c .before .stays .ensures) ∙ c .if1 .taken))
+loop-again c = (omega (arith, c .before .before .loop-test .taken), mark-yes (c .before .before .before .loop .inv .1) (omega (arith, c .before .before .loop-test .taken, c .before .before .before .before .before .before .before .before .before .before .before .before .pre .1 .1 .1, c .before .before .before .loop .inv .1 .long)) (stays-ring _ _ _ _ _ (c .before .before .before .before .before .before .before .before .before .before .before .before .pre .0) (c .before .before .before .before .before .before .before .before .before .before .before .before .pre .1 .0 .0) (c .before .before .before .before .before .before .before .before .before .before .before .before .pre .1 .0 .1) (c .before .before .before .before .before .before .before .before .before .before .before .before .pre .1 .1 .0) _ (c .before .before .loop-test .taken) zero-le (c .before .before .loop-test .taken) (c .before .stays .ensures) ∙ c .if1 .taken))
 
--- src/ring.rt:65:9
+-- src/ring.rt:72:9
 slice-write-marks-2 : tie.Need-slice-write-marks-2 Inv-loop μ-loop
 slice-write-marks-2 c = omega (arith, c .before .before .loop-test .taken, c .before .before .before .before .before .before .before .before .before .before .before .before .pre .1 .1 .1, c .before .before .before .loop .inv .1 .long)
 
--- src/ring.rt:66:9
+-- src/ring.rt:73:9
 add-j-2 : tie.Need-add-j-2 Inv-loop μ-loop
 add-j-2 c = omega (arith, c .before .before .loop-test .taken, c .before .before .before .before .before .before .before .before .before .before .before .before .pre .0 .sound .most)
 
--- src/ring.rt:58:5
+-- src/ring.rt:65:5
 loop-less-2 : tie.Need-loop-less-2 Inv-loop μ-loop
 loop-less-2 c = omega (arith, c .before .before .loop-test .taken)
 
--- src/ring.rt:58:5
+-- src/ring.rt:65:5
 loop-again-2 : tie.Need-loop-again-2 Inv-loop μ-loop
-loop-again-2 c = (omega (arith, c .before .before .loop-test .taken), mark-no (c .before .before .before .loop .inv .1) (omega (arith, c .before .before .loop-test .taken, c .before .before .before .before .before .before .before .before .before .before .before .before .pre .1 .1 .1, c .before .before .before .loop .inv .1 .long)) (stays-ring _ _ _ _ _ (c .before .before .before .before .before .before .before .before .before .before .before .before .pre .0) (c .before .before .before .before .before .before .before .before .before .before .before .before .pre .1 .0 .0) (c .before .before .before .before .before .before .before .before .before .before .before .before .pre .1 .0 .1) (c .before .before .before .before .before .before .before .before .before .before .before .before .pre .1 .1 .0) _ (c .before .before .loop-test .taken) (c .before .stays .ensures) ∙ c .if1 .left))
+loop-again-2 c = (omega (arith, c .before .before .loop-test .taken), mark-no (c .before .before .before .loop .inv .1) (omega (arith, c .before .before .loop-test .taken, c .before .before .before .before .before .before .before .before .before .before .before .before .pre .1 .1 .1, c .before .before .before .loop .inv .1 .long)) (stays-ring _ _ _ _ _ (c .before .before .before .before .before .before .before .before .before .before .before .before .pre .0) (c .before .before .before .before .before .before .before .before .before .before .before .before .pre .1 .0 .0) (c .before .before .before .before .before .before .before .before .before .before .before .before .pre .1 .0 .1) (c .before .before .before .before .before .before .before .before .before .before .before .before .pre .1 .1 .0) _ (c .before .before .loop-test .taken) zero-le (c .before .before .loop-test .taken) (c .before .stays .ensures) ∙ c .if1 .left))
 
--- src/ring.rt:49:1
+-- src/ring.rt:43:1
 same-length : tie.Need-same-length Inv-loop μ-loop
 same-length c = c .before .loop .inv .1 .long
 
--- src/ring.rt:49:1
+-- src/ring.rt:43:1
 returns : tie.Need-returns Inv-loop μ-loop
 returns c = mark-end _ (c .before .loop .inv .1) (c .before .before .before .before .before .before .before .before .before .before .pre .1 .1 .1 ∙ sym (ring-sized _ _ _ _)) (le-antisymm (c .before .loop .inv .0) (c .loop-test .left) ∙ sym (ring-sized _ _ _ _))
 

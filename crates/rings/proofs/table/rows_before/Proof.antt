@@ -1,5 +1,4 @@
-use Rattle.rings.proofs.DayLaws.{Scan, scan-start, scan-next, scan-found, scan-end}
-use lib.ListN.{length}
+use Rattle.rings.proofs.DayLaws.{Half, half-start, half-up, half-down, half-end}
 use Prim.Native.Nat.{_-_}
 use native.Mathlib.Omega.{arith}
 use borrow.Author.Needs.{needs}
@@ -9,42 +8,54 @@ use Rattle.rings.proofs.table.rows_before.Reads as reads
 use Rattle.rings.proofs.table.rows_before.Lts as lts
 
 abbrev Inv-loop : tie.InvT-loop
-Inv-loop days day r₀ r = Scan days day r
+Inv-loop days day low₀ high₀ low high = Half days day low high
 
 abbrev μ-loop : tie.MeasureT-loop
-μ-loop days day r₀ r = length days - r
+μ-loop days day low₀ high₀ low high = high - low
 
 -- src/table.rt:80:5
 loop-holds : tie.Need-loop-holds Inv-loop μ-loop
-loop-holds c = scan-start _ _
+loop-holds c = half-start _ _
 
--- src/table.rt:81:19
+-- src/table.rt:81:29
+sub-middle : tie.Need-sub-middle Inv-loop μ-loop
+sub-middle c = omega (arith, c .loop-test .taken)
+
+-- src/table.rt:81:22
+add-middle : tie.Need-add-middle Inv-loop μ-loop
+add-middle c = search needs
+
+-- src/table.rt:82:12
 mul-if1 : tie.Need-mul-if1 Inv-loop μ-loop
 mul-if1 c = search needs
 
--- src/table.rt:81:19
+-- src/table.rt:82:12
 shared-slice-read-if1 : tie.Need-shared-slice-read-if1 Inv-loop μ-loop
-shared-slice-read-if1 c = search needs
+shared-slice-read-if1 c = omega (arith, c .before .loop-test .taken, c .before .before .loop .inv .within)
 
--- src/table.rt:82:13
-returns : tie.Need-returns Inv-loop μ-loop
-returns c = scan-found (c .before .before .before .before .pre) (c .before .before .before .loop .inv) (c .if1 .taken)
-
--- src/table.rt:84:9
-add-r : tie.Need-add-r Inv-loop μ-loop
-add-r c = search needs
+-- src/table.rt:83:19
+add-low : tie.Need-add-low Inv-loop μ-loop
+add-low c = search needs
 
 -- src/table.rt:80:5
 loop-less : tie.Need-loop-less Inv-loop μ-loop
-loop-less c = search needs
+loop-less c = omega (arith, c .before .before .loop-test .taken)
 
 -- src/table.rt:80:5
 loop-again : tie.Need-loop-again Inv-loop μ-loop
-loop-again c = scan-next (c .before .before .before .loop .inv) (c .before .before .loop-test .taken) (c .if1 .left)
+loop-again c = half-up (c .before .before .before .before .pre) (c .before .before .before .loop .inv) (omega (arith, c .before .before .loop-test .taken)) (omega (arith, c .before .before .loop-test .taken)) (c .if1 .taken)
 
--- src/table.rt:75:1
-returns-2 : tie.Need-returns-2 Inv-loop μ-loop
-returns-2 c = scan-end (c .before .loop .inv) (c .loop-test .left)
+-- src/table.rt:80:5
+loop-less-2 : tie.Need-loop-less-2 Inv-loop μ-loop
+loop-less-2 c = omega (arith, c .before .before .loop-test .taken)
+
+-- src/table.rt:80:5
+loop-again-2 : tie.Need-loop-again-2 Inv-loop μ-loop
+loop-again-2 c = half-down (c .before .before .before .before .pre) (c .before .before .before .loop .inv) (omega (arith, c .before .before .loop-test .taken)) (omega (arith, c .before .before .loop-test .taken)) (c .if1 .left)
+
+-- src/table.rt:74:1
+returns : tie.Need-returns Inv-loop μ-loop
+returns c = half-end (c .before .loop .inv) (c .loop-test .left)
 
 pub rows-before-spec : {M : Type 1} → statement M
 rows-before-spec =
@@ -53,10 +64,13 @@ rows-before-spec =
     Inv-loop
     μ-loop
     loop-holds
+    sub-middle
+    add-middle
     mul-if1
     shared-slice-read-if1
-    returns
-    add-r
+    add-low
     loop-less
     loop-again
-    returns-2)
+    loop-less-2
+    loop-again-2
+    returns)
