@@ -3,10 +3,10 @@
 --     Bounded, bounded         2,048 rings, number 14, line 18,450 are the most
 --     TextAnswer, text-answer, RefusedAnswer, refused-answer    what stands behind the list call's answer, for an output of 45,078 bytes: it holds every text
 -- Assumes nothing.
-use Prim.Native.Nat.{ℕ, _+_, _*_, _≤_, _<_}
+use Prim.Native.Nat.{ℕ, _+_, _*_, _≤_}
 use mathlib.Core.Path.{_≡_, refl, sym, ap, _∙_}
 use mathlib.Core.Bool.{Bool, true, false}
-use mathlib.Core.List.{List, map, _++_}
+use mathlib.Core.List.{List, map}
 use native.Mathlib.Omega.{arith}
 use lib.ListN.{length, take, drop, length-append, length-map, length-drop}
 use lib.Seq.{take-at}

@@ -5,13 +5,13 @@
 --     nonempty-e, nonempty-i   a ring is not empty exactly if it has a row
 --     tight-one                two tight windows with one ring are one
 -- Assumes nothing.
-use Prim.Native.Nat.{ℕ, zero, suc, pred, _+_, _-_, min, max, _≤_, _<_}
-use native.Mathlib.Nat.{le-refl, le-trans, le-antisymm, eq-or-lt-of-le}
+use Prim.Native.Nat.{ℕ, pred, _-_, min, max, _≤_, _<_}
+use native.Mathlib.Nat.{le-trans, le-antisymm, eq-or-lt-of-le}
 use native.Mathlib.Omega.{arith}
 use mathlib.Core.Path.{_≡_, refl, sym, _∙_, ap, subst}
 use mathlib.Core.Logic.{_⊎_, ⊎-elim}
 use mathlib.Core.Bool.{Bool, true, false}
-use mathlib.Core.List.{List, [], _∷_, map, List·Memᴰ as Mem, List·Memᴰ·head as here, List·Memᴰ·tail as there, List·Memᴰ·not-nil as not-nil, List·Memᴰ·cases-cons as cases-cons, Memᴰ·cast as mem-cast}
+use mathlib.Core.List.{List, [], _∷_, List·Memᴰ as Mem, List·Memᴰ·head as here, List·Memᴰ·tail as there, List·Memᴰ·not-nil as not-nil, List·Memᴰ·cases-cons as cases-cons, Memᴰ·cast as mem-cast}
 use lib.ListN.{length}
 use lib.Dec.{leb, eqb}
 use borrow.Author.Tests.{leb-true, leb-false, eqb-true, eq-eqb}
@@ -22,8 +22,8 @@ use Rattle.rings.specs.CoreTimes.{never, rowTime}
 use Rattle.rings.specs.declared.Query.{Query}
 use Rattle.rings.proofs.WordLaws.{look, clash, and-i, and-l, and-r, some-i, some-e, some-none, marked-below, same-marks}
 use Rattle.rings.proofs.ListLaws.{mem-run, run-mem, mem-chosen, chosen-mem, mem-map, map-mem}
-use Rattle.rings.proofs.RingLaws.{Inside, window-i, window-e, ring-sized, ring-good, ring-within, ring-holds, in-marked, marked-in, in-window, in-grows, ring-grows}
-use Rattle.rings.proofs.CoreTimeLaws.{Time, time-day, row-time, row-reach-i, row-reach-e, row-day}
+use Rattle.rings.proofs.RingLaws.{Inside, window-i, ring-sized, ring-good, ring-holds, in-marked, marked-in, in-window, ring-grows}
+use Rattle.rings.proofs.CoreTimeLaws.{row-reach-i, row-reach-e, row-day}
 use Rattle.listing.specs.Tight.{memberDays, lowest, firstDay, lastDay, nonempty, tightest, tight}
 
 -- ---- the least and the greatest of a list

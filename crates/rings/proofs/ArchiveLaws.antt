@@ -7,19 +7,18 @@
 --     archive-marks      and marks that window's ring
 -- Assumes nothing.
 use Prim.Native.Nat.{ℕ, zero, suc, _+_, _≤_, _<_}
-use native.Mathlib.Nat.{le-trans, eq-or-lt-of-le, not-suc-le-zero}
+use native.Mathlib.Nat.{eq-or-lt-of-le, not-suc-le-zero}
 use native.Mathlib.Omega.{arith}
 use mathlib.Core.Path.{_≡_, refl, sym, _∙_, ap, subst}
 use mathlib.Core.Logic.{_⊎_, ⊎-elim}
-use mathlib.Core.Bool.{Bool, true, false}
-use mathlib.Core.List.{List, [], _∷_, _++_, map, List·Memᴰ as Mem}
+use mathlib.Core.Bool.{Bool, true}
+use mathlib.Core.List.{List, [], _∷_, _++_, map}
 use lib.ListN.{length, getD, take, drop, length-map}
-use lib.Dec.{leb, ltb, eqb}
+use lib.Dec.{ltb, eqb}
 use borrow.Author.Tests.{lt-ltb, le-leb, eq-eqb}
-use Rattle.rings.specs.Words.{_and_, _or_, no, at, marked, run, Pairwise}
+use Rattle.rings.specs.Words.{_and_, _or_, no, at, run, Pairwise}
 use Rattle.rings.specs.Table.{Table, size, dayOf}
 use Rattle.rings.specs.Ring.{ring, inRing}
-use Rattle.rings.specs.CoreTimes.{never}
 use Rattle.rings.specs.Windows.{Entry, Listed, minimalWindows, Before, IsMinimalList, entries, recalled}
 use Rattle.rings.specs.Checks.{_when_, _then_, inOrder, counted, rangeCheck}
 use Rattle.rings.specs.Buffers.{marks, over}
@@ -32,7 +31,7 @@ use Rattle.rings.specs.declared.refusal.Refusal.the-variants.{BadWindow,
 use Rattle.rings.specs.declared.refusal.Verdict.{Verdict}
 use Rattle.rings.specs.declared.refusal.Verdict.the-variants.{Accepted, Refused}
 use Rattle.rings.specs.declared.refusal.Counted.{Counted}
-use Rattle.rings.proofs.WordLaws.{and-i, or-l, or-r, same-truth, length-run, marked-run-e, marked-run-i, same-marks}
+use Rattle.rings.proofs.WordLaws.{and-i, or-l, or-r, length-run, marked-run-e, marked-run-i, same-marks}
 use Rattle.rings.proofs.ListLaws.{mem-run}
 use Rattle.rings.proofs.CheckLaws.{then-accepted, order-accepted}
 use Rattle.rings.proofs.RingLaws.{ring-is, in-window}

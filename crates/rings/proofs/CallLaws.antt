@@ -7,7 +7,7 @@
 -- Assumes nothing.
 use Prim.Native.Nat.{ℕ, _≤_, _<_}
 use mathlib.Core.Path.{_≡_, refl, sym, _∙_, ap, subst}
-use mathlib.Core.Bool.{Bool, true, false}
+use mathlib.Core.Bool.{Bool, false}
 use mathlib.Core.List.{List, map}
 use lib.ListN.{length, replicate}
 use lib.Dec.{leb, ltb, eqb}
@@ -31,7 +31,7 @@ use Rattle.rings.specs.declared.refusal.Refusal.the-variants.{BadWindow,
 use Rattle.rings.specs.declared.refusal.Verdict.{Verdict}
 use Rattle.rings.specs.declared.refusal.Verdict.the-variants.{Accepted, Refused}
 use Rattle.rings.specs.declared.refusal.Counted.{Counted}
-use Rattle.rings.proofs.CheckLaws.{Front, front-call, then-refused, then-accepted, counted-yes, counted-no}
+use Rattle.rings.proofs.CheckLaws.{front-call, then-refused, then-accepted, counted-yes, counted-no}
 use Rattle.rings.proofs.PlaceLaws.{list-length}
 
 -- the shared checks

@@ -5,18 +5,16 @@
 --     setting-of     what peeling works on
 -- Assumes nothing.
 use Prim.Native.Nat.{ℕ, zero, suc, _+_, _≤_, _<_}
-use native.Mathlib.Nat.{le-refl, le-trans, le-antisymm, eq-or-lt-of-le, not-suc-le-zero, le-of-suc-le-suc}
+use native.Mathlib.Nat.{le-refl, le-trans, eq-or-lt-of-le, not-suc-le-zero, le-of-suc-le-suc}
 use native.Mathlib.Omega.{arith}
-use mathlib.Core.Path.{_≡_, refl, sym, _∙_, subst}
+use mathlib.Core.Path.{_≡_, sym, subst}
 use mathlib.Core.Logic.{_⊎_, ⊎-elim}
-use mathlib.Core.Bool.{true, false}
 use mathlib.Core.List.{List}
 use lib.ListN.{length, getD}
 use lib.Dec.{leb}
 use borrow.Author.Tests.{leb-true, leb-false}
 use Rattle.rings.specs.Words.{at}
-use Rattle.rings.specs.Table.{Table, tableOf, dayOf, firstOf, secondOf}
-use Rattle.rings.specs.CoreTimes.{never}
+use Rattle.rings.specs.Table.{tableOf, dayOf, firstOf, secondOf}
 use Rattle.rings.specs.Inner.Sound.{Sound}
 use Rattle.rings.specs.Inner.Links.{Linked}
 use Rattle.rings.specs.Inner.Peeling.{Setting, Ready, season, query, Split, Span}

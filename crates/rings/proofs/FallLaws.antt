@@ -3,7 +3,7 @@
 --     walk-start, walk-lost, walk-skip, walk-end     the walk over the rows of an account that fell
 -- Assumes nothing.
 use Prim.Native.Nat.{ℕ, zero, suc, _+_, _-_, _≤_, _<_, zero-le}
-use native.Mathlib.Nat.{le-refl, le-trans, le-antisymm, eq-or-lt-of-le, not-suc-le-zero, le-of-suc-le-suc}
+use native.Mathlib.Nat.{le-refl, le-trans, eq-or-lt-of-le, not-suc-le-zero, le-of-suc-le-suc}
 use native.Mathlib.Omega.{arith}
 use mathlib.Core.Path.{_≡_, refl, sym, _∙_, ap, subst}
 use mathlib.Core.Logic.{_⊎_, ⊎-elim}
@@ -12,19 +12,19 @@ use mathlib.Core.List.{List, [], _∷_}
 use lib.ListN.{length, getD, set, length-set, List·getD-eq-default}
 use lib.Seq.{getD-set-same, getD-set-other}
 use lib.Dec.{leb, ltb, eqb}
-use borrow.Author.Tests.{leb-true, leb-false, le-leb, ltb-true, lt-ltb, eqb-true, eqb-false, eq-eqb, ne-eqb}
-use Rattle.rings.specs.Words.{_and_, _or_, no, at, marked, count}
+use borrow.Author.Tests.{leb-true, leb-false, ltb-true, lt-ltb, eqb-true, eqb-false, eq-eqb, ne-eqb}
+use Rattle.rings.specs.Words.{_and_, _or_, no, at, count}
 use Rattle.rings.specs.Table.{Table, size, dayOf, firstOf, secondOf}
 use Rattle.rings.specs.Ring.{joins, neighbour, greatest, names, degree, touches, met, ring}
 use Rattle.rings.specs.CoreTimes.{never, accountTime}
 use Rattle.rings.specs.Inner.Links.{otherOf, fresh}
 use Rattle.rings.specs.Inner.Support.{supports, supporters}
-use Rattle.rings.specs.Inner.Peeling.{Lost, Setting, Fell, Here, Rows, Place, fallen, Queue, Degrees, guess, Times, Fall, nothing, passing, Walk}
+use Rattle.rings.specs.Inner.Peeling.{Lost, Setting, Fell, Here, Rows, Place, fallen, Queue, guess, Times, Fall, nothing, passing, Walk}
 use Rattle.rings.specs.declared.Query.{Query}
 use Rattle.rings.proofs.WordLaws.{look, clash, and-i, and-l, and-r, or-l, or-r, or-e, no-i, no-e, same-truth, count-mono, count-less, count-same, count-le, count-none}
-use Rattle.rings.proofs.RingLaws.{Inside, window-e, joins-touch, touch-cases, touch-first, touch-second, met-i, met-e, neighbour-e, ring-within, ring-degree, in-window, in-marked}
+use Rattle.rings.proofs.RingLaws.{window-e, joins-touch, touch-cases, touch-first, touch-second, met-i, met-e, neighbour-e, ring-within, ring-degree}
 use Rattle.rings.proofs.PairLaws.{Partner, count-inject, count-drop, other-first, other-second, joins-other, joins-same, joins-swap, joins-ends, fresh-e, fresh-one, first-fresh}
-use Rattle.rings.proofs.FixpointLaws.{Backs, supports-i, supports-e, Lower, Closed, fixpoint, closed-met}
+use Rattle.rings.proofs.FixpointLaws.{supports-i, supports-e, Lower, Closed, fixpoint, closed-met}
 
 -- ---- one store
 

@@ -6,23 +6,23 @@
 --     fixpoint                 lower and closed everywhere: x is the core times
 --     times-lower, times-closed, lower-next    the core times at s are lower and closed, and are lower at a later start
 -- Assumes nothing.
-use Prim.Native.Nat.{ℕ, suc, max, _≤_, _<_}
+use Prim.Native.Nat.{ℕ, _≤_, _<_}
 use native.Mathlib.Nat.{le-refl, le-trans, le-antisymm}
 use native.Mathlib.Omega.{arith}
-use mathlib.Core.Path.{_≡_, refl, sym, _∙_, ap, subst}
+use mathlib.Core.Path.{_≡_, sym, _∙_, subst}
 use mathlib.Core.Logic.{_⊎_, ⊎-elim}
-use mathlib.Core.Bool.{Bool, true, false}
+use mathlib.Core.Bool.{Bool, true}
 use mathlib.Core.List.{List}
-use lib.Dec.{leb, eqb}
-use borrow.Author.Tests.{leb-true, le-leb, eqb-true, eq-eqb}
-use Rattle.rings.specs.Words.{_and_, _or_, marked, some, count, run}
+use lib.Dec.{leb}
+use borrow.Author.Tests.{leb-true, le-leb}
+use Rattle.rings.specs.Words.{_and_, _or_, marked, run}
 use Rattle.rings.specs.Table.{Table, size, dayOf, firstOf, secondOf, windowRows}
-use Rattle.rings.specs.Ring.{joins, neighbour, names, degree, touches, met, Good, Within, ring}
+use Rattle.rings.specs.Ring.{joins, neighbour, names, degree, met, Good, Within, ring}
 use Rattle.rings.specs.CoreTimes.{never, accountTime}
 use Rattle.rings.specs.Inner.Support.{backs, supports, supporters}
 use Rattle.rings.specs.declared.Query.{Query}
-use Rattle.rings.proofs.WordLaws.{look, clash, and-i, and-l, and-r, or-e, some-i, some-e, count-mono, count-some, marked-run-e, marked-run-i}
-use Rattle.rings.proofs.RingLaws.{Inside, window-e, window-i, touch-cases, joins-cases, joins-touch, met-i, met-e, met-mono, neighbour-i, neighbour-e, ring-within, ring-degree, ring-holds, ring-grows}
+use Rattle.rings.proofs.WordLaws.{and-i, and-l, and-r, some-i, some-e, count-mono, count-some, marked-run-e, marked-run-i}
+use Rattle.rings.proofs.RingLaws.{window-e, window-i, touch-cases, joins-cases, joins-touch, met-i, met-e, met-mono, neighbour-i, neighbour-e, ring-within, ring-degree, ring-holds, ring-grows}
 use Rattle.rings.proofs.CoreTimeLaws.{Time, account-time, account-reach-i, account-reach-e, time-day}
 
 pub record Lower (t : Table) (q : Query) (hi s : ℕ) (x : ℕ → ℕ) : Type 0 where

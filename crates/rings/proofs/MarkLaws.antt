@@ -4,8 +4,8 @@
 --     stays-ring               who stays is in the ring of the window
 --     call-sound, call-k, call-window, call-lengths, call-scratch     what an accepted call says
 -- Assumes nothing.
-use Prim.Native.Nat.{ℕ, zero, suc, _+_, _*_, _≤_, _<_}
-use native.Mathlib.Nat.{le-refl, le-trans, le-antisymm, eq-or-lt-of-le, not-suc-le-zero}
+use Prim.Native.Nat.{ℕ, _+_, _*_, _≤_, _<_}
+use native.Mathlib.Nat.{eq-or-lt-of-le, not-suc-le-zero}
 use native.Mathlib.Numerals.{add-one}
 use native.Mathlib.Omega.{arith}
 use mathlib.Core.Path.{_≡_, refl, sym, _∙_, ap, subst}
@@ -18,7 +18,7 @@ use lib.Dec.{leb, ltb, eqb}
 use borrow.Author.Tests.{leb-true, ltb-false, eqb-true, eq-eqb, ne-eqb}
 use Rattle.rings.specs.Words.{_and_, no, at, marked, count}
 use Rattle.rings.specs.Table.{Table, tableOf, dayOf, firstOf, secondOf}
-use Rattle.rings.specs.Ring.{ring, inRing, members}
+use Rattle.rings.specs.Ring.{ring, members}
 use Rattle.rings.specs.CoreTimes.{never}
 use Rattle.rings.specs.TableCheck.{tableCheck}
 use Rattle.rings.specs.Checks.{_when_, _then_, queryCheck, scratchCheck}
@@ -29,10 +29,10 @@ use Rattle.rings.specs.declared.Query.{Query}
 use Rattle.rings.specs.declared.refusal.Refusal.the-variants.{BadK, BadWindow, BadLengths, SmallScratch}
 use Rattle.rings.specs.declared.refusal.Verdict.{Verdict}
 use Rattle.rings.specs.declared.refusal.Verdict.the-variants.{Accepted}
-use Rattle.rings.proofs.WordLaws.{look, clash, and-i, and-l, and-r, no-i, no-e, same-truth, tally-yes, tally-no}
+use Rattle.rings.proofs.WordLaws.{look, clash, and-i, and-l, and-r, no-i, same-truth, tally-yes, tally-no}
 use Rattle.rings.proofs.CheckLaws.{accepted-left, accepted-right, when-accepted}
 use Rattle.rings.proofs.TableLaws.{table-sound}
-use Rattle.rings.proofs.RingLaws.{Inside, ring-sized, in-marked, marked-in, two-met, met-first, met-second}
+use Rattle.rings.proofs.RingLaws.{Inside, in-marked, marked-in, two-met, met-first, met-second}
 use Rattle.rings.proofs.FallLaws.{fell-look, stays-met, fell-not}
 
 pub is-zero : (x : List ℕ) {a v : ℕ} (b : ℕ) → a ≡ b → v ≡ getD x a 0 → v ≡ 0 → eqb (getD x b 0) 0 ≡ true

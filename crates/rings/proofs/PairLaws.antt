@@ -6,20 +6,20 @@
 --     fresh-one                and only one
 --     joins-other, joins-same, joins-swap    the other account of a row
 -- Assumes nothing.
-use Prim.Native.Nat.{ℕ, zero, suc, _+_, _≤_, _<_, zero-le}
-use native.Mathlib.Nat.{le-refl, le-trans, le-antisymm, eq-or-lt-of-le, not-suc-le-zero}
+use Prim.Native.Nat.{ℕ, zero, suc, _≤_, _<_, zero-le}
+use native.Mathlib.Nat.{le-refl, le-trans, eq-or-lt-of-le, not-suc-le-zero}
 use native.Mathlib.Omega.{arith}
 use mathlib.Core.Path.{_≡_, refl, sym, _∙_, ap, subst}
 use mathlib.Core.Logic.{_⊎_, ⊎-elim}
 use mathlib.Core.Bool.{Bool, true, false}
 use lib.Dec.{leb, eqb}
-use borrow.Author.Tests.{leb-true, leb-false, le-leb, eqb-true, eqb-false, eq-eqb, ne-eqb}
-use Rattle.rings.specs.Words.{_and_, _or_, no, some, tally, count}
-use Rattle.rings.specs.Table.{Table, size, firstOf, secondOf}
+use borrow.Author.Tests.{leb-true, leb-false, le-leb, eq-eqb, ne-eqb}
+use Rattle.rings.specs.Words.{_and_, _or_, no, some, count}
+use Rattle.rings.specs.Table.{Table, firstOf, secondOf}
 use Rattle.rings.specs.Ring.{joins, touches}
 use Rattle.rings.specs.Inner.Links.{pickOther, otherOf, pairBefore, earlier, fresh}
-use Rattle.rings.proofs.WordLaws.{look, clash, and-i, and-l, and-r, or-l, or-r, no-i, no-e, some-e, some-none, tally-yes, tally-no, count-mono, count-less, count-same}
-use Rattle.rings.proofs.RingLaws.{joins-cases, touch-cases, touch-first, touch-second}
+use Rattle.rings.proofs.WordLaws.{look, clash, and-i, and-l, and-r, or-l, or-r, no-i, no-e, some-e, some-none, tally-yes, tally-no, count-less, count-same}
+use Rattle.rings.proofs.RingLaws.{joins-cases, touch-cases}
 
 -- ---- counting by partners
 

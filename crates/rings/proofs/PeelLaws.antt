@@ -10,7 +10,7 @@ use mathlib.Core.Logic.{⊎-elim}
 use mathlib.Core.Bool.{Bool, true, false}
 use mathlib.Core.List.{List}
 use lib.ListN.{length}
-use Rattle.rings.specs.Words.{_and_, no, marked, some, count, run}
+use Rattle.rings.specs.Words.{_and_, no, marked, some, count}
 use Rattle.rings.specs.Ring.{Within, round, rounds, peel, members}
 use Rattle.rings.proofs.WordLaws.{look, clash, and-i, and-l, and-r, no-i, no-e, some-none, some-e, count-le, count-less, count-pos, length-run, marked-run-e, marked-run-i, marked-below, same-marks}
 

@@ -9,22 +9,21 @@
 --     two-met                  a row of the window between two accounts of the ring is in the ring
 --     ring-holds               a good set of the window's rows is within the ring
 -- Assumes nothing.
-use Prim.Native.Nat.{ℕ, zero, suc, max, _≤_, _<_}
-use native.Mathlib.Nat.{le-refl, le-trans}
-use native.Mathlib.Omega.{arith}
+use Prim.Native.Nat.{ℕ, _≤_, _<_}
+use native.Mathlib.Nat.{le-trans}
 use mathlib.Core.Path.{_≡_, refl, sym, _∙_, ap, subst}
 use mathlib.Core.Logic.{_⊎_, ⊎-elim}
-use mathlib.Core.Bool.{Bool, true, false}
+use mathlib.Core.Bool.{Bool, true}
 use mathlib.Core.List.{List}
 use lib.ListN.{length}
 use lib.Dec.{leb, eqb}
 use borrow.Author.Tests.{leb-true, le-leb, eqb-true, eq-eqb}
-use Rattle.rings.specs.Words.{_and_, _or_, marked, some, count, run}
+use Rattle.rings.specs.Words.{_and_, _or_, marked, run}
 use Rattle.rings.specs.Table.{Table, size, dayOf, firstOf, secondOf, inWindow, windowRows}
-use Rattle.rings.specs.Ring.{joins, neighbour, names, degree, touches, met, Good, Within, IsRing, keep, peel, ring, inRing}
+use Rattle.rings.specs.Ring.{joins, neighbour, names, degree, touches, met, Good, Within, IsRing, keep, ring, inRing}
 use Rattle.rings.specs.declared.Query.{Query}
-use Rattle.rings.proofs.WordLaws.{look, clash, and-i, and-l, and-r, or-l, or-r, or-e, some-i, some-e, count-mono, length-run, marked-run-e, marked-run-i, marked-below, same-marks, Witness}
-use Rattle.rings.proofs.PeelLaws.{Stable, Monotone, within-refl, within-trans, peel-sized, peel-within, peel-stable, peel-greatest}
+use Rattle.rings.proofs.WordLaws.{and-i, and-l, and-r, or-l, or-r, or-e, some-i, some-e, count-mono, length-run, marked-run-e, marked-run-i, same-marks}
+use Rattle.rings.proofs.PeelLaws.{Stable, Monotone, within-trans, peel-sized, peel-within, peel-stable, peel-greatest}
 
 -- ---- windows
 

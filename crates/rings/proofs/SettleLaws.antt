@@ -16,7 +16,7 @@ use lib.ListN.{length, getD, set, length-set}
 use lib.Seq.{getD-set-same, getD-set-other, set-getD}
 use lib.Dec.{leb}
 use borrow.Author.Tests.{leb-true, leb-false}
-use Rattle.rings.specs.Words.{_and_, at, count}
+use Rattle.rings.specs.Words.{count}
 use Rattle.rings.specs.Table.{Table, tableOf, size, dayOf, firstOf, secondOf}
 use Rattle.rings.specs.Ring.{joins, names, touches, ring}
 use Rattle.rings.specs.CoreTimes.{never, accountTime}

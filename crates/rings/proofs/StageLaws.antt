@@ -1,7 +1,7 @@
 -- The stages of peeling (src/peel.rt): drain, leave, fade, count_neighbours, weed.
 -- Assumes nothing.
 use Prim.Native.Nat.{ℕ, zero, suc, _+_, _-_, _*_, _≤_, _<_}
-use native.Mathlib.Nat.{le-refl, le-trans, le-antisymm, eq-or-lt-of-le, not-suc-le-zero, le-of-suc-le-suc}
+use native.Mathlib.Nat.{le-refl, le-antisymm, eq-or-lt-of-le, not-suc-le-zero}
 use native.Mathlib.Numerals.{add-one}
 use native.Mathlib.Omega.{arith}
 use mathlib.Core.Path.{_≡_, refl, sym, _∙_, ap, subst}
@@ -11,17 +11,17 @@ use mathlib.Core.List.{List}
 use lib.ListN.{length, getD, set, replicate, length-set, length-replicate, getD-replicate}
 use lib.Seq.{getD-set-same, getD-set-other}
 use lib.Dec.{leb, ltb, eqb}
-use borrow.Author.Tests.{leb-true, leb-false, ltb-true, ltb-false, lt-ltb, le-ltb, eqb-true, eqb-false, eq-eqb, ne-eqb}
+use borrow.Author.Tests.{ltb-true, lt-ltb, eq-eqb, ne-eqb}
 use Rattle.rings.specs.Words.{_and_, no, at, count}
 use Rattle.rings.specs.Table.{Table, tableOf, dayOf, firstOf, secondOf}
 use Rattle.rings.specs.Ring.{touches}
-use Rattle.rings.specs.CoreTimes.{never, accountTime}
-use Rattle.rings.specs.Inner.Links.{earlier, fresh}
-use Rattle.rings.specs.Inner.Peeling.{Lost, Fell, Fall, fallen, Season, Ready, query, Falling, Walking, nothing, Counted, Fade, Split, Span, CoreTimesAre}
+use Rattle.rings.specs.CoreTimes.{never}
+use Rattle.rings.specs.Inner.Links.{fresh}
+use Rattle.rings.specs.Inner.Peeling.{Lost, fallen, Season, Ready, query, Falling, Walking, Counted, Fade, Span, CoreTimesAre}
 use Rattle.rings.proofs.WordLaws.{look, clash, and-i, and-l, and-r, no-i, no-e, same-truth, count-same, count-none, count-pos, count-le}
 use Rattle.rings.proofs.RingLaws.{touch-cases, touch-first, touch-second}
 use Rattle.rings.proofs.PairLaws.{count-drop}
-use Rattle.rings.proofs.FallLaws.{fell-look, same-or, room, times-fall, queue-fall, fall-lower, still, now-e, walk-start, leave-stale, leave-fell, leave-first-one, leave-tail, leave-second-one, leave-both, next-day, fall-times}
+use Rattle.rings.proofs.FallLaws.{fell-look, same-or, room, times-fall, queue-fall, fall-lower, walk-start, leave-stale, leave-fell, leave-first-one, leave-tail, leave-second-one, leave-both, next-day, fall-times}
 
 -- nobody has fallen exactly where all times are 0
 fallen-none : (x : List ℕ) → ((u : ℕ) → u < 4096 → getD x u 0 ≡ 0) → fallen x ≡ 0

@@ -3,11 +3,11 @@
 --     pass-start, pass-next, pass-refused, pass-end    the loop's laws
 --     table-sound              what the checks say of an accepted table
 -- Assumes nothing.
-use Prim.Native.Nat.{ℕ, zero, suc, _+_, _≤_, _<_}
-use native.Mathlib.Nat.{le-refl, eq-or-lt-of-le, not-suc-le-zero, zero-add, le-of-suc-le-suc}
+use Prim.Native.Nat.{ℕ, suc, _+_, _≤_, _<_}
+use native.Mathlib.Nat.{eq-or-lt-of-le, not-suc-le-zero, le-of-suc-le-suc}
 use native.Mathlib.Numerals.{add-one}
 use native.Mathlib.Omega.{arith}
-use mathlib.Core.Path.{_≡_, refl, sym, _∙_, ap, subst}
+use mathlib.Core.Path.{_≡_, refl, sym, ap, subst}
 use mathlib.Core.Logic.{_⊎_, ⊎-elim}
 use mathlib.Core.Bool.{Bool, true, false}
 use mathlib.Core.List.{List}
@@ -15,15 +15,15 @@ use lib.ListN.{length, getD}
 use lib.Dec.{leb, ltb, eqb}
 use borrow.Author.Tests.{leb-true, ltb-true, ltb-false, eqb-true}
 use Rattle.rings.specs.Words.{_and_, _or_, no, at, run}
-use Rattle.rings.specs.Table.{Table, tableOf, size, dayOf, firstOf, secondOf}
-use Rattle.rings.specs.Inner.Sound.{RowSound, Sound}
+use Rattle.rings.specs.Table.{tableOf, dayOf, firstOf, secondOf}
+use Rattle.rings.specs.Inner.Sound.{Sound}
 use Rattle.rings.specs.Checks.{_when_, _then_, inOrder}
 use Rattle.rings.specs.TableCheck.{dayBefore, rowFaults, rowCheck, tableCheck}
 use Rattle.rings.specs.declared.refusal.Refusal.{Refusal}
 use Rattle.rings.specs.declared.refusal.Refusal.the-variants.{UnequalColumns, TooManyRows, BadDay, BadAccounts, OutOfOrder}
 use Rattle.rings.specs.declared.refusal.Verdict.{Verdict}
 use Rattle.rings.specs.declared.refusal.Verdict.the-variants.{Accepted, Refused}
-use Rattle.rings.proofs.WordLaws.{look, clash, and-l, and-r, or-l, or-r, no-i, no-e}
+use Rattle.rings.proofs.WordLaws.{look, clash, and-l, and-r, or-l, or-r, no-i}
 use Rattle.rings.proofs.CheckLaws.{accepted-left, accepted-right, when-accepted, order-accepted, order-refused, all-accepted}
 
 pub record Passed (d f s : List ℕ) (before j : ℕ) : Type 0 where

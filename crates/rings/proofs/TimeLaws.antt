@@ -3,16 +3,16 @@
 --     Filled, fill-start, fill-next, fill-end      a column filled from the front
 --     accounts-are       the account column
 -- Assumes nothing.
-use Prim.Native.Nat.{ℕ, zero, suc, _+_, max, _≤_, _<_}
-use native.Mathlib.Nat.{eq-or-lt-of-le, not-suc-le-zero, le-antisymm, zero-add}
+use Prim.Native.Nat.{ℕ, _+_, max, _≤_, _<_}
+use native.Mathlib.Nat.{eq-or-lt-of-le, not-suc-le-zero, zero-add}
 use native.Mathlib.Omega.{arith}
-use mathlib.Core.Path.{_≡_, refl, sym, _∙_, ap, subst}
+use mathlib.Core.Path.{_≡_, refl, sym, _∙_, ap}
 use mathlib.Core.Logic.{⊎-elim}
 use mathlib.Core.List.{List}
 use lib.ListN.{length, getD, set, length-set}
 use lib.Seq.{ext-getD, getD-set-same, getD-set-other}
 use Rattle.rings.specs.Words.{at, run}
-use Rattle.rings.specs.Table.{Table, tableOf, dayOf, firstOf, secondOf}
+use Rattle.rings.specs.Table.{tableOf, dayOf, firstOf, secondOf}
 use Rattle.rings.specs.CoreTimes.{never, accountTime, rowTime}
 use Rattle.rings.specs.Inner.Peeling.{query, Season, Ready, Span, CoreTimesAre}
 use Rattle.rings.proofs.WordLaws.{length-run, getD-run}

@@ -2,22 +2,21 @@
 --     At                 the rows of u before place p have been passed
 --     at-start, at-row, at-stop, at-fresh, at-stale, at-room, at-lose, at-skip, at-out      the loop's laws
 -- Assumes nothing.
-use Prim.Native.Nat.{ℕ, zero, suc, _+_, _-_, _*_, _≤_, _<_}
-use native.Mathlib.Nat.{le-refl, le-trans, eq-or-lt-of-le}
+use Prim.Native.Nat.{ℕ, suc, _+_, _-_, _*_, _≤_, _<_}
+use native.Mathlib.Nat.{le-trans}
 use native.Mathlib.Omega.{arith}
-use mathlib.Core.Path.{_≡_, refl, sym, _∙_, ap, subst}
-use mathlib.Core.Logic.{_⊎_, ⊎-elim}
+use mathlib.Core.Path.{_≡_, sym, _∙_, ap, subst}
+use mathlib.Core.Logic.{_⊎_}
 use mathlib.Core.Bool.{Bool, true, false}
 use mathlib.Core.List.{List}
 use lib.ListN.{length, getD}
 use lib.Dec.{leb, eqb}
-use borrow.Author.Tests.{leb-true, leb-false, le-leb, lt-leb}
-use Rattle.rings.specs.Words.{_and_, at}
-use Rattle.rings.specs.Table.{Table, tableOf, firstOf, secondOf}
+use borrow.Author.Tests.{le-leb, lt-leb}
+use Rattle.rings.specs.Words.{_and_}
+use Rattle.rings.specs.Table.{Table, tableOf}
 use Rattle.rings.specs.Ring.{touches}
-use Rattle.rings.specs.Inner.Links.{pickOther, otherOf, rank, placeOf, earlier, fresh}
+use Rattle.rings.specs.Inner.Links.{pickOther, otherOf, placeOf, fresh}
 use Rattle.rings.specs.Inner.Peeling.{Lost, Season, Ready, query, Falling, Walking}
-use Rattle.rings.proofs.WordLaws.{look, clash}
 use Rattle.rings.proofs.AlongLaws.{Along, along-last, along-start, along-out, along-place, along-few, along-row, along-touch, along-from, along-none, along-next, along-fresh, along-fresh-place, along-ends, along-other}
 use Rattle.rings.proofs.FallLaws.{room, walk-small, next-small, walk-lose-one, walk-lost, walk-skip, walk-end}
 

@@ -7,17 +7,17 @@
 --     list-is, list-only            `minimalWindows` holds exactly the minimal windows of the range, in order, and is the only such list
 --     recall-ring                   recall from such a list marks the ring of every window inside the range
 -- Assumes nothing.
-use Prim.Native.Nat.{ℕ, zero, suc, _+_, _-_, _≤_, _<_}
-use native.Mathlib.Nat.{le-refl, le-trans, le-antisymm, eq-or-lt-of-le}
+use Prim.Native.Nat.{ℕ, zero, suc, _-_, _≤_, _<_}
+use native.Mathlib.Nat.{le-refl, le-trans, eq-or-lt-of-le}
 use native.Mathlib.Omega.{arith}
-use mathlib.Core.Path.{_≡_, refl, sym, _∙_, ap, subst}
+use mathlib.Core.Path.{_≡_, refl, sym, ap, subst}
 use mathlib.Core.Logic.{_⊎_, ⊎-elim}
 use mathlib.Core.Bool.{Bool, true, false}
-use mathlib.Core.List.{List, map, List·Memᴰ as Mem, Memᴰ·cast as mem-cast}
+use mathlib.Core.List.{List, List·Memᴰ as Mem}
 use lib.Dec.{leb, eqb}
 use borrow.Author.Tests.{leb-true, leb-false, le-leb, eqb-true, eq-eqb}
 use Rattle.rings.specs.Words.{_and_, no, every, run, joined, chosen, oneOf, Pairwise}
-use Rattle.rings.specs.Table.{Table, size, dayOf}
+use Rattle.rings.specs.Table.{Table, size}
 use Rattle.rings.specs.Ring.{inRing}
 use Rattle.rings.specs.CoreTimes.{never, rowTime}
 use Rattle.rings.specs.Windows.{Window, windowsFrom, windows, Entry, smaller, minimal, IsMinimal, minimalOf, minimalWindows, Listed, Before, IsMinimalList, recalled}
@@ -25,7 +25,7 @@ use Rattle.rings.specs.declared.Query.{Query}
 use Rattle.rings.proofs.WordLaws.{look, clash, and-i, and-l, and-r, no-i, no-e, every-i, every-e, same-truth}
 use Rattle.rings.proofs.ListLaws.{mem-run, run-mem, mem-joined, joined-mem, mem-chosen, chosen-mem, mem-map, map-mem, oneOf-i, oneOf-e, pair-run, pair-joined, pair-chosen, pair-map, pair-weaken, pair-unique}
 use Rattle.rings.proofs.RingLaws.{in-window, in-grows}
-use Rattle.rings.proofs.CoreTimeLaws.{Time, time-day, row-time, row-reach-i, row-reach-e, row-later}
+use Rattle.rings.proofs.CoreTimeLaws.{time-day, row-time, row-reach-i, row-reach-e, row-later}
 
 -- ---- smaller windows
 
