@@ -1,12 +1,12 @@
 -- A walk over the rows of an account, in the book that `link` made: p is a place in it, and the rows of u below b are passed.
 --     Along          p stands behind the rows of u below b
 --     other-sum      what `other` returns
---     along-start, along-last    the first place, and one past the last
+--     along-last     one past the last place
 --     along-out      at the end no row of u is left
 --     along-place, along-few     a place before the end lies in the book
 --     along-row, along-touch, along-from, along-none    the row there is the next of u from b on
 --     along-next     and the walk goes on behind it
---     ahead-start, ahead-place, ahead-next, places-few    a search by halving for the first row from lo on
+--     ahead-of, places-few    the rows before the head are below the first row of its day
 --     Begun, begun   a walk may begin there
 --     along-fresh, along-fresh-place, along-ends, along-other    what the code reads of that row
 -- Assumes nothing.
@@ -21,8 +21,8 @@ use mathlib.Core.List.{List}
 use lib.ListN.{length, getD}
 use lib.Dec.{leb, eqb}
 use borrow.Author.Tests.{leb-true, leb-false, eqb-true, eqb-false}
-use Rattle.rings.specs.Words.{_and_, at, count}
-use Rattle.rings.specs.Table.{Table, tableOf, size, firstOf, secondOf}
+use Rattle.rings.specs.Words.{_and_, at}
+use Rattle.rings.specs.Table.{Table, tableOf, size, dayOf, firstOf, secondOf}
 use Rattle.rings.specs.Ring.{touches}
 use Rattle.rings.specs.Inner.Sound.{Sound}
 use Rattle.rings.specs.Inner.Links.{pickOther, otherOf, rank, placeOf, fresh, Linked, Ahead}
@@ -33,16 +33,12 @@ use Rattle.rings.proofs.LinkLaws.{rank-yes, rank-mono, rank-less, none-
 pub record Along (t : Table) (u b p : ℕ) : Type 0 where
   pub place : p ≡ placeOf t u + rank t u b
 
-module _ (d f s links : List ℕ) (S : Sound d f s) (L : Linked (tableOf d f s) links) {u : ℕ} (small : u < 4096) where
+module _ (d f s links : List ℕ) (S : Sound d f s) {day : ℕ} (L : Linked (tableOf d f s) day links) {u : ℕ} (small : u < 4096) where
   abbrev t : Table
   t = tableOf d f s
 
   pub along-last : {end : ℕ} → end ≡ getD links u 0 → end ≡ placeOf t (suc u)
   along-last e = e ∙ (L .cursors u small ∙ sym (place-step t u))
-
-  pub along-start : {p : ℕ} → p ≡ getD links (4096 + u) 0 → Along t u 0 p
-  unfolding rank count
-  along-start e = record { place = let y = L .starts u small in omega arith }
 
   module _ {b p end : ℕ} (A : Along t u b p) (ee : end ≡ placeOf t (suc u)) where
     pub along-out : end ≤ p → (i : ℕ) → b ≤ i → i < length d → touches t i u ≡ false
@@ -114,33 +110,22 @@ begun {t} {u} {lo} {p} A =
     let a = A .from in let g = N .ranked in let w = N .below in
     record { b = N .row; within = omega arith; along = record { place = omega arith }; before = λ i l k. A .before i (omega arith) k (let m = rank-less t u i (N .row) k l in omega arith) }) (look (leb (placeOf t (suc u)) p))
 
-module _ (d f s links : List ℕ) (S : Sound d f s) (L : Linked (tableOf d f s) links) {u : ℕ} (small : u < 4096) where
+module _ (d f s links : List ℕ) (S : Sound d f s) {day : ℕ} (L : Linked (tableOf d f s) day links) {u : ℕ} (small : u < 4096) where
   abbrev tb : Table
   tb = tableOf d f s
 
-  pub ahead-start : {p : ℕ} (lo : ℕ) → p ≡ getD links (4096 + u) 0 → Ahead tb u lo p
-  ahead-start {p} lo e = let y = L .starts u small in let g = place-step tb u in record { from = omega arith; to = omega arith; before = λ i l k h. absurd (omega arith) }
+  -- lo and the rows after it are not dated before the day
+  pub ahead-of : {lo p : ℕ} → ((j : ℕ) → j < size tb → lo ≤ j → day ≤ dayOf tb j) → p ≡ getD links (4096 + u) 0 → Ahead tb u lo p
+  ahead-of {lo} late e =
+      let H = L .heads u small in
+      record {
+        from = let a = H .from in omega arith;
+        to = let a = H .to in omega arith;
+        before = λ i l k h. ⊎-elim (λ y. let a = late i l (leb-true lo i y) in let b = H .before i l k (omega arith) in absurd (omega arith)) (λ y. leb-false lo i y) (look (leb lo i));
+      }
 
   pub places-few : placeOf tb (suc u) ≤ 32768
   places-few = let y = places-most tb (suc u) in let c = S .most in omega arith
-
-  -- the row in the middle
-  module _ {lo low high middle : ℕ} (A : Ahead tb u lo low) (a : low ≤ middle) (b : middle < high) (top : high ≤ placeOf tb (suc u)) where
-    mid : NthRow tb u (length d) (middle - placeOf tb u)
-    mid = nth-row tb u (length d) (middle - placeOf tb u) (let c = A .from in let g = place-step tb u in omega arith)
-
-    pub ahead-place : 8192 + middle < length links
-    ahead-place = let y = places-most tb (suc u) in let c = L .long in omega arith
-
-    pub ahead-next : {j : ℕ} → j ≡ getD links (8192 + middle) 0 → j < lo → Ahead tb u lo (middle + 1)
-    ahead-next {j} ej h =
-        record {
-          from = let c = A .from in omega arith;
-          to = omega arith;
-          before = λ i l k o.
-              let is : j ≡ mid .row = ej ∙ (ap (λ (c : ℕ). getD links c 0) (let c = mid .ranked in let y = A .from in let g : 8192 + middle ≡ 8192 + (placeOf tb u + rank tb u (mid .row)) = omega arith in g) ∙ L .book u (mid .row) small (mid .below) (mid .touch)) in
-              ⊎-elim (λ y. let z = leb-true i (mid .row) y in omega arith) (λ y. let m = rank-less tb u (mid .row) i (mid .touch) (leb-false i (mid .row) y) in let c = mid .ranked in let z = A .from in absurd (omega arith)) (look (leb i (mid .row)));
-        }
 
 -- what `other` returns
 pub other-sum : {a b u r : ℕ} → (a ≡ u) ⊎ (b ≡ u) → r ≡ a + b - u → r ≡ pickOther (eqb a u) a b

@@ -17,7 +17,7 @@ use Rattle.rings.specs.Words.{at}
 use Rattle.rings.specs.Table.{tableOf, dayOf, firstOf, secondOf}
 use Rattle.rings.specs.Inner.Sound.{Sound}
 use Rattle.rings.specs.Inner.Links.{Linked}
-use Rattle.rings.specs.Inner.Peeling.{Setting, Ready, season, query, Split, Span}
+use Rattle.rings.specs.Inner.Peeling.{Setting, Ready, Placed, season, query, Split, Span}
 use Rattle.rings.proofs.WordLaws.{look}
 
 pub record Scan (d : List ℕ) (day r : ℕ) : Type 0 where
@@ -71,6 +71,10 @@ span-after {d} {s} {e} {lo} {end} h a b =
       ordered = ⊎-elim (λ y. leb-true lo end y) (λ y. let k = leb-false lo end y in let x = a .before end k in let w = a .within in let z = b .after end (le-refl end) (omega arith) in absurd (omega arith)) (look (leb lo end));
     }
 
+-- no row is dated before day 0
+pub split-none : (d : List ℕ) → Split d 0 0
+split-none d = record { within = omega arith; before = λ j h. absurd (not-suc-le-zero h); after = λ j a b. omega arith }
+
 pub span-of : {d : List ℕ} {s e lo end : ℕ} → s ≤ e → Split d s lo → Split d (e + 1) end → Span d e lo end
 span-of h a b = span-after (omega arith) a b
 
@@ -87,5 +91,8 @@ setting-of {d} S one top a =
       small = λ j l. let x = S .rows j l .account-to in omega arith;
     }
 
-pub ready-of : {d f s links : List ℕ} {k start stop lo : ℕ} → Sound d f s → Linked (tableOf d f s) links → 1 ≤ k → stop ≤ 1024 → Split d start lo → Ready d f s links (season k start stop lo)
+pub ready-of : {d f s links : List ℕ} {k start stop lo : ℕ} → Sound d f s → Linked (tableOf d f s) start links → 1 ≤ k → stop ≤ 1024 → Split d start lo → Ready d f s links (season k start stop lo)
 ready-of S L one top a = record { sound = S; linked = L; setting = setting-of S one top a }
+
+pub placed-of : {d f s links : List ℕ} {k day start stop lo : ℕ} → Sound d f s → Linked (tableOf d f s) day links → 1 ≤ k → stop ≤ 1024 → Split d start lo → Placed d f s links (season k start stop lo)
+placed-of {day = day} S L one top a = record { sound = S; day = day; linked = L; setting = setting-of S one top a }

@@ -1,6 +1,6 @@
 -- Laws of peeling by counts (specs/Inner/Peeling.antt): each step of the code keeps the state, and the end of it is the core times.
 --     lost-step                     an account loses a neighbour
---     walk-start, walk-lost, walk-skip, walk-end     the walk over the rows of an account that fell
+--     walk-start, walk-to, walk-lost, walk-skip, walk-end     the walk over the rows of an account that fell
 -- Assumes nothing.
 use Prim.Native.Nat.{ℕ, zero, suc, _+_, _-_, _≤_, _<_, zero-le}
 use native.Mathlib.Nat.{le-refl, le-trans, eq-or-lt-of-le, not-suc-le-zero, le-of-suc-le-suc}
@@ -454,6 +454,34 @@ module _ (t : Table) (q : Query) (s hi lo : ℕ) (S : Setting t q s hi lo) where
     walk-not : W .state .walked u ≡ false
     walk-not = subst (λ (a : ℕ). W .state .walked a ≡ false) (W .at-front) (W .state .queue .waiting-not head (le-refl head) (W .front))
 
+    -- rows of u that are not fresh are passed over
+    pub walk-to : (m : ℕ) → b ≤ m → ((i : ℕ) → b ≤ i → i < m → touches t i u ≡ true → fresh t lo i ≡ false) → Walk t q s hi lo m e r head tail u x d w
+    walk-to m low stale = record { state = passed (W .state); front = W .front; at-front = W .at-front }
+      where
+        passed : Fall t q s hi lo 4096 e r head tail (passing t u b) x d w → Fall t q s hi lo 4096 e r head tail (passing t u m) x d w
+        passed F =
+            record {
+              len-x = F .len-x;
+              len-d = F .len-d;
+              len-w = F .len-w;
+              walked = F .walked;
+              live = F .live;
+              queue = F .queue;
+              counts = F .counts;
+              times = F .times;
+              left-why = F .left-why;
+              rows = record {
+                live-row = F .rows .live-row;
+                live-not = F .rows .live-not;
+                live-passed = λ i v h. agree i v (F .rows .live-row i v h .is-fresh) ∙ F .rows .live-passed i v h;
+                live-all = λ i v a c p. F .rows .live-all i v a c (sym (agree i v (a .is-fresh)) ∙ p);
+              };
+              passed-why = λ i v k p. let o = other-joins i v u k (joins-swap t i u v (passing-e u m i v p .0)) in _⊎_.inl (subst (λ (a : ℕ). (a < 4096) × Fell x a) (sym o) (walk-small, walk-fell));
+            }
+          where
+            agree : (i v : ℕ) → fresh t lo i ≡ true → passing t u m i v ≡ passing t u b i v
+            agree i v g = passing-same u b m i v (λ h k. omega arith) (λ h k. ⊎-elim (λ z. clash g (stale i (leb-true b i z) k (joins-touch t i u v h .0))) (λ z. leb-false b i z) (look (leb b i)))
+
     -- the next row of u is j
     module _ (j : ℕ) (low : b ≤ j) (l : j < size t) (touch : touches t j u ≡ true) (none : (i : ℕ) → b ≤ i → i < j → touches t i u ≡ false) where
       other-is : otherOf t j (otherOf t j u) ≡ u
@@ -493,31 +521,7 @@ module _ (t : Table) (q : Query) (s hi lo : ℕ) (S : Setting t q s hi lo) where
 
       -- a row that is not fresh is passed over
       pub walk-skip : fresh t lo j ≡ false → Walk t q s hi lo (j + 1) e r head tail u x d w
-      walk-skip f = record { state = skipped (W .state); front = W .front; at-front = W .at-front }
-        where
-          skipped : Fall t q s hi lo 4096 e r head tail (passing t u b) x d w → Fall t q s hi lo 4096 e r head tail (passing t u (j + 1)) x d w
-          skipped F =
-              record {
-                len-x = F .len-x;
-                len-d = F .len-d;
-                len-w = F .len-w;
-                walked = F .walked;
-                live = F .live;
-                queue = F .queue;
-                counts = F .counts;
-                times = F .times;
-                left-why = F .left-why;
-                rows = record {
-                  live-row = F .rows .live-row;
-                  live-not = F .rows .live-not;
-                  live-passed = λ i v h. agree i v (F .rows .live-row i v h .is-fresh) ∙ F .rows .live-passed i v h;
-                  live-all = λ i v a c p. F .rows .live-all i v a c (sym (agree i v (a .is-fresh)) ∙ p);
-                };
-                passed-why = λ i v k p. let o = other-joins i v u k (joins-swap t i u v (passing-e u (j + 1) i v p .0)) in _⊎_.inl (subst (λ (a : ℕ). (a < 4096) × Fell x a) (sym o) (walk-small, walk-fell));
-              }
-            where
-              agree : (i v : ℕ) → fresh t lo i ≡ true → passing t u (j + 1) i v ≡ passing t u b i v
-              agree i v g = next-pass .rest i v (λ y. clash g (subst (λ (a : ℕ). fresh t lo a ≡ false) (sym (y .0)) f))
+      walk-skip f = walk-to (j + 1) (omega arith) (λ i a k h. ⊎-elim (λ y. subst (λ (c : ℕ). fresh t lo c ≡ false) (sym y) f) (λ y. clash h (none i a y)) (eq-or-lt-of-le (omega arith)))
 
     -- the walk ends where no row of u from b on is below r
     pub walk-end : ((i : ℕ) → b ≤ i → i < r → i < size t → touches t i u ≡ false) → Fall t q s hi lo 4096 e r (head + 1) tail nothing x d w

@@ -11,6 +11,8 @@ pub mod PairLaws
 pub mod LinkLaws
 pub mod BookLaws
 pub mod FallLaws
+pub mod AlongLaws
+pub mod HeadLaws
 pub mod WalkLaws
 pub mod StageLaws
 pub mod DayLaws
@@ -21,7 +23,6 @@ pub mod TimeLaws
 pub mod RecallLaws
 pub mod PlaceLaws
 pub mod ClosingLaws
-pub mod AlongLaws
 pub mod LookLaws
 pub mod LossLaws
 pub mod SettleLaws

@@ -2,7 +2,9 @@
 --     backing-e, backing-i, backers-are     the rows that back u, each the first of its pair, are as many as its supporters
 --     seen-start, seen-skip, seen-note, seen-count, seen-stop, seen-out     the rows of u as they stand on a day
 --     few-start, look-next, look-found, look-never     a look rises from day to day, and stops at the first with k supporters
---     Glance, glance-start, glance-out, glance-over, glance-skip, glance-note, glance-few, glance-most, glance-small     the walk of `look_at` in the book
+--     By, by-most, marked     what `one`, `pick` and `note` compute without a branch
+--     both, not-first         two tests at once
+--     Glance, glance-start, glance-out, glance-over, glance-mark, glance-few, glance-most, glance-small     the walk of `look_at` in the book
 -- Assumes nothing.
 use Prim.Native.Nat.{ℕ, zero, suc, max, _+_, _-_, _*_, _≤_, _<_}
 use native.Mathlib.Nat.{le-refl, le-trans, le-antisymm, eq-or-lt-of-le}
@@ -10,11 +12,11 @@ use native.Mathlib.Numerals.{add-one}
 use native.Mathlib.Omega.{arith}
 use mathlib.Core.Path.{_≡_, refl, sym, _∙_, ap, subst}
 use mathlib.Core.Logic.{_⊎_, ⊎-elim}
-use mathlib.Core.Bool.{Bool, true, false}
+use mathlib.Core.Bool.{Bool, true, false, _&&_}
 use mathlib.Core.List.{List}
 use lib.ListN.{length, getD}
-use lib.Dec.{leb, eqb}
-use borrow.Author.Tests.{leb-true, leb-false, le-leb}
+use lib.Dec.{leb, ltb, eqb}
+use borrow.Author.Tests.{leb-true, leb-false, ltb-true, ltb-false, eqb-true, eqb-false, le-leb}
 use Rattle.rings.specs.Words.{_and_, at, count}
 use Rattle.rings.specs.Table.{Table, tableOf, size, dayOf}
 use Rattle.rings.specs.Ring.{joins, names, touches}
@@ -22,7 +24,7 @@ use Rattle.rings.specs.CoreTimes.{never}
 use Rattle.rings.specs.Inner.Links.{pickOther, otherOf, placeOf, fresh, Ahead}
 use Rattle.rings.specs.Inner.Support.{supports, supporters}
 use Rattle.rings.specs.Inner.Peeling.{Setting, Season, Ready, query, guess}
-use Rattle.rings.specs.Inner.Settling.{value, backing, backers, Days, Seen, Noting, Glanced, Looked}
+use Rattle.rings.specs.Inner.Settling.{value, backing, backers, Days, Seen, Noting, Marking, Glanced, Looked}
 use Rattle.rings.specs.declared.Query.{Query}
 use Rattle.rings.proofs.WordLaws.{look, clash, and-i, and-l, and-r, count-le, count-mono, count-none, tally-yes, tally-no}
 use Rattle.rings.proofs.RingLaws.{joins-touch}
@@ -291,6 +293,39 @@ module _ (t : Table) (q : Query) (s hi lo : ℕ) (S : Setting t q s hi lo) (x : 
   pub look-never : {c₀ c u m : ℕ} → Few c₀ c u → c₀ ≤ c → c ≡ never → m ≡ 1 → Looked t x s (q .k) hi c₀ u c m
   look-never F o e g = record { least = record { from = o; fewer = F; enough = _⊎_.inl e }; known = omega arith; enough = _⊎_.inl e }
 
+-- ---- one row more, without a branch
+
+-- what a sum or a choice by a test gives
+abbrev pub By : Bool → ℕ → ℕ → ℕ → Type 0
+By test x y r = (test ≡ true → r ≡ x) × (test ≡ false → r ≡ y)
+
+pub by-most : {test : Bool} {r : ℕ} → By test 1 0 r → r ≤ 1
+by-most {test} A = ⊎-elim (λ h. let e = A .0 h in omega arith) (λ h. let e = A .1 h in omega arith) (look test)
+
+pub both : {p q : Bool} → p ≡ true → q ≡ true → (p && q) ≡ true
+both {p} {q} h k = ap (λ (w : Bool). w && q) h ∙ k
+
+pub not-first : {p : Bool} (q : Bool) → p ≡ false → (p && q) ≡ false
+not-first q h = ap (λ (w : Bool). w && q) h
+
+not-second : {p q : Bool} → p ≡ true → q ≡ false → (p && q) ≡ false
+not-second {p} {q} h k = ap (λ (w : Bool). w && q) h ∙ k
+
+pub marked : (y : Bool) (z c n above more : ℕ) {a b e m : ℕ} → By (y && leb z c) 1 0 a → By ((y && ltb c z) && ltb z above) z above b → By ((y && ltb c z) && eqb z above) 1 0 e → By ((y && ltb c z) && ltb z above) 1 (more + e) m → Marking y z c n above more (n + a) b m
+marked false z c n above more A B E M = Marking.stale refl (let h = A .1 refl in omega arith) (B .1 refl) (let h = E .1 refl in let k = M .1 refl in omega arith)
+marked true z c n above more {a} {b} {e} {m} A B E M = Marking.counts refl (⊎-elim late (λ g. soon (ltb-false c z g) g) (look (ltb c z)))
+  where
+    soon : z ≤ c → ltb c z ≡ false → Noting z c n above more (n + a) b m
+    soon l g = Noting.back l (let h = A .0 (le-leb z c l) in omega arith) (B .1 (not-first (ltb z above) g)) (let h = E .1 (not-first (eqb z above) g) in let k = M .1 (not-first (ltb z above) g) in omega arith)
+
+    late : ltb c z ≡ true → Noting z c n above more (n + a) b m
+    late g =
+        let more-than : c < z = ltb-true c z g in
+        let none : a ≡ 0 = A .1 (⊎-elim (λ h. let k = leb-true z c h in absurd (omega arith)) (λ h. h) (look (leb z c))) in
+        ⊎-elim (λ h. Noting.nearer more-than (ltb-true z above h) (omega arith) (B .0 (both g h)) (M .0 (both g h)))
+        (λ h. ⊎-elim (λ k. Noting.level more-than (eqb-true z above k) (omega arith) (B .1 (not-second g h)) (let o = E .0 (both g k) in let i = M .1 (not-second g h) in omega arith)) (λ k. Noting.farther more-than (ltb-false z above h) (omega arith) (B .1 (not-second g h)) (let o = E .1 (not-second g k) in let i = M .1 (not-second g h) in omega arith)) (look (eqb z above)))
+        (look (ltb z above))
+
 -- ---- a look at u, in the book
 
 -- the rows of u before place p have been seen
@@ -347,7 +382,7 @@ module _ (d f g links : List ℕ) (r : Season) (R : Ready d f g links r) (xs : L
             all : n ≡ backers tt (guess xs) (r .lo) c u (length d)
             all = seen-count tt (query (r .k)) (r .start) (r .end) (r .lo) (R .setting) (guess xs) (G .seen) j from none (λ i a k. let e = day-is in let y = R .setting .rising j i a k in let z = o .0 in omega arith) (let b = below in omega arith)
 
-        pub glance-skip : {y : Bool} → y ≡ (leb (r .lo) j and leb (getD links (8192 + 2 * length d + j) 0) (r .lo)) → y ≡ false → Glance d f g r xs u c (p + 1) n above more
+        glance-skip : {y : Bool} → y ≡ (leb (r .lo) j and leb (getD links (8192 + 2 * length d + j) 0) (r .lo)) → y ≡ false → Glance d f g r xs u c (p + 1) n above more
         glance-skip ey h =
             record { b = j + 1; within = let b = below in omega arith; along = along-next d f g links (R .sound) (R .linked) small (G .along) ee here ej; seen = seen-skip tt (query (r .k)) (r .start) (r .end) (r .lo) (R .setting) (guess xs) (G .seen) j from none (sym (along-fresh d f g links (R .sound) (R .linked) small (G .along) ee here ej (r .lo) ey) ∙ h) }
 
@@ -361,7 +396,7 @@ module _ (d f g links : List ℕ) (r : Season) (R : Ready d f g links r) (xs : L
           pub glance-small : v < 4096
           glance-small = subst (λ (w : ℕ). w < 4096) (sym v-is) (other-small tt (query (r .k)) (r .start) (r .end) (r .lo) (R .setting) j u below touch)
 
-          pub glance-note : {y : Bool} {z n′ above′ more′ : ℕ} → y ≡ (leb (r .lo) j and leb (getD links (8192 + 2 * length d + j) 0) (r .lo)) → y ≡ true → day ≤ r .end → z ≡ max (getD xs v 0) day → Noting z c n above more n′ above′ more′ → Glance d f g r xs u c (p + 1) n′ above′ more′
+          glance-note : {y : Bool} {z n′ above′ more′ : ℕ} → y ≡ (leb (r .lo) j and leb (getD links (8192 + 2 * length d + j) 0) (r .lo)) → y ≡ true → day ≤ r .end → z ≡ max (getD xs v 0) day → Noting z c n above more n′ above′ more′ → Glance d f g r xs u c (p + 1) n′ above′ more′
           unfolding value
           glance-note {y} {z} ey h l ez N =
               record { b = j + 1; within = let b = below in omega arith; along = along-next d f g links (R .sound) (R .linked) small (G .along) ee here ej; seen = seen-note tt (query (r .k)) (r .start) (r .end) (r .lo) (R .setting) (guess xs) (G .seen) j from none (sym (along-fresh d f g links (R .sound) (R .linked) small (G .along) ee here ej (r .lo) ey) ∙ h) touch is-value in-range N }
@@ -371,3 +406,9 @@ module _ (d f g links : List ℕ) (r : Season) (R : Ready d f g links r) (xs : L
 
               in-range : (z ≤ r .end) ⊎ (z ≡ never)
               in-range = let o = R .setting .fits in ⊎-elim (λ k. _⊎_.inl (omega arith)) (λ k. _⊎_.inr (omega arith)) (D v glance-small)
+
+          pub glance-mark : {y : Bool} {z n′ above′ more′ : ℕ} → y ≡ (leb (r .lo) j and leb (getD links (8192 + 2 * length d + j) 0) (r .lo)) → day ≤ r .end → z ≡ max (getD xs v 0) day → Marking y z c n above more n′ above′ more′ → Glance d f g r xs u c (p + 1) n′ above′ more′
+          glance-mark {n′ = n′} {above′ = above′} {more′ = more′} ey l ez (Marking.stale h en ea em) =
+              subst (λ (i : ℕ). Glance d f g r xs u c (p + 1) i above′ more′) (sym en)
+              (subst (λ (i : ℕ). Glance d f g r xs u c (p + 1) n i more′) (sym ea) (subst (λ (i : ℕ). Glance d f g r xs u c (p + 1) n above i) (sym em) (glance-skip ey h)))
+          glance-mark ey l ez (Marking.counts h N) = glance-note ey h l ez N

@@ -1,9 +1,9 @@
 -- Who loses a supporter (src/settle.rt), and who waits for a look by that.
 --     at-place, in-list         equal places, equal lists
---     queued-start, queued-gated, queued-then, gated-long     a loss, and the queue after it
---     Wave, wave-start, wave-out, wave-stop, wave-skip, wave-small, wave-open      the walk of `lose_others` in the book
---     leaving-start, leaving-skip, leaving-row, leaving-last  the rows that leave
---     first-is, second-is, day-of, first-small, second-small, not-fresh            what the code reads of a row
+--     under, losing, losing-on, losing-less, queued-start, queued-losing, queued-then     a loss, and the queue after it
+--     Wave, wave-start, wave-out, wave-stop, wave-small, wave-next      the walk of `lose_others` in the book
+--     leaving-start, leaving-row, leaving-last                          the rows that leave
+--     first-is, second-is, day-of, first-small, second-small, is-first  what the code reads of a row
 -- Assumes nothing.
 use Prim.Native.Nat.{ℕ, suc, _+_, _-_, _*_, _≤_, _<_}
 use native.Mathlib.Nat.{le-refl, le-trans, le-antisymm, eq-or-lt-of-le}
@@ -11,29 +11,32 @@ use native.Mathlib.Numerals.{add-one}
 use native.Mathlib.Omega.{arith}
 use mathlib.Core.Path.{_≡_, refl, sym, _∙_, ap, subst}
 use mathlib.Core.Logic.{_⊎_, ⊎-elim}
-use mathlib.Core.Bool.{Bool, true, false}
+use mathlib.Core.Bool.{Bool, true, false, _&&_}
 use mathlib.Core.List.{List}
 use lib.ListN.{length, getD, set, length-set}
 use lib.Seq.{getD-set-same, getD-set-other}
-use lib.Dec.{leb, eqb}
-use borrow.Author.Tests.{leb-true, leb-false}
+use lib.Dec.{leb, ltb, eqb}
+use borrow.Author.Tests.{leb-true, leb-false, ltb-true, ltb-false, eqb-false, le-leb, lt-ltb}
 use Rattle.rings.specs.Words.{_and_, at}
 use Rattle.rings.specs.Table.{Table, tableOf, size, dayOf, firstOf, secondOf}
 use Rattle.rings.specs.Ring.{touches}
 use Rattle.rings.specs.CoreTimes.{never}
 use Rattle.rings.specs.Inner.Sound.{Sound}
 use Rattle.rings.specs.Inner.Links.{pickOther, otherOf, placeOf, fresh, Linked, Ahead}
-use Rattle.rings.specs.Inner.Peeling.{Setting, Season, Ready, query, guess}
-use Rattle.rings.specs.Inner.Settling.{value, backing, backers, Days, Losing, Gated, Lessened, Leaving, Queued}
+use Rattle.rings.specs.Inner.Peeling.{Setting, Season, Ready, Place, query, guess}
+use Rattle.rings.specs.Inner.Settling.{value, backing, backers, Days, Losing, Lessened, Leaving, Queued}
 use Rattle.rings.specs.declared.Query.{Query}
 use Rattle.rings.proofs.WordLaws.{look, clash, and-l, count-none}
 use Rattle.rings.proofs.RingLaws.{touch-cases}
 use Rattle.rings.proofs.PairLaws.{other-first, other-second, fresh-e}
 use Rattle.rings.proofs.FallLaws.{same-or, guess-at, other-small}
 use Rattle.rings.proofs.AlongLaws.{Along, begun, along-out, along-row, along-touch, along-none, along-next, along-fresh, along-other}
-use Rattle.rings.proofs.LookLaws.{backing-e, backers-yes, backers-no}
+use Rattle.rings.proofs.LookLaws.{By, by-most, both, not-first, backing-e, backers-yes, backers-no}
 
 -- ---- losses
+
+lost-i : (old z day new : ℕ) → old ≤ z → day ≤ z → z < new → ((leb old z && leb day z) && ltb z new) ≡ true
+lost-i old z day new a b c = both (both (le-leb old z a) (le-leb day z b)) (lt-ltb z new c)
 
 pub at-place : (ys : List ℕ) {a b : ℕ} → a ≡ b → getD ys a 0 ≡ getD ys b 0
 at-place ys e = ap (λ (c : ℕ). getD ys c 0) e
@@ -41,90 +44,91 @@ at-place ys e = ap (λ (c : ℕ). getD ys c 0) e
 pub in-list : {xs ys : List ℕ} (a : ℕ) → xs ≡ ys → getD xs a 0 ≡ getD ys a 0
 in-list a e = ap (λ (zs : List ℕ). getD zs a 0) e
 
--- v has one to spare less, or waits; nobody has more
-record Less (v : ℕ) (sp sp′ : List ℕ) : Type 0 where
+-- v has one to spare less where y says so; nobody has more
+pub record Less (y : Bool) (v : ℕ) (sp sp′ : List ℕ) : Type 0 where
   pub long : length sp′ ≡ 4096
-  pub one : getD sp′ v 0 ≡ getD sp v 0 - 1
-  pub else : (w : ℕ) → (w ≡ v → ⊥) → getD sp′ w 0 ≡ getD sp w 0
+  pub one : y ≡ true → getD sp′ v 0 ≤ getD sp v 0 - 1
+  pub down : (w : ℕ) → getD sp′ w 0 ≤ getD sp w 0
 
-less-down : {v : ℕ} {sp sp′ : List ℕ} → Less v sp sp′ → (w : ℕ) → getD sp′ w 0 ≤ getD sp w 0
-less-down {v} {sp} {sp′} L w = ⊎-elim (λ e. let a = at-place sp′ e in let b = at-place sp e in let c = L .one in omega arith) (λ n. let c = L .else w n in omega arith) (same-or w v)
+losing-at : {y : Bool} {v tail r : ℕ} {sp ws sp′ ws′ : List ℕ} → v < 4096 → length sp ≡ 4096 → (L : Losing y v tail sp ws sp′ ws′ r) → getD sp′ v 0 ≡ L .left
+losing-at {v = v} {sp = sp} small len L = in-list v (L .stored) ∙ getD-set-same sp v (L .left) 0 (omega arith)
 
-set-less : (v : ℕ) (sp : List ℕ) {sp′ : List ℕ} → v < 4096 → length sp ≡ 4096 → sp′ ≡ set sp v (getD sp v 0 - 1) → Less v sp sp′
-set-less v sp small len e =
+losing-else : {y : Bool} {v tail r : ℕ} {sp ws sp′ ws′ : List ℕ} → Losing y v tail sp ws sp′ ws′ r → (w : ℕ) → (w ≡ v → ⊥) → getD sp′ w 0 ≡ getD sp w 0
+losing-else {v = v} {sp = sp} L w n = in-list w (L .stored) ∙ getD-set-other sp v w (L .left) 0 n
+
+pub losing-less : {y : Bool} {v tail r : ℕ} {sp ws sp′ ws′ : List ℕ} → v < 4096 → length sp ≡ 4096 → Losing y v tail sp ws sp′ ws′ r → Less y v sp sp′
+losing-less {v = v} {sp = sp} {sp′ = sp′} small len L =
+    let at-v = losing-at small len L in
     record {
-      long = ap length e ∙ (length-set sp v (getD sp v 0 - 1) ∙ len);
-      one = in-list v e ∙ getD-set-same sp v (getD sp v 0 - 1) 0 (omega arith);
-      else = λ w n. in-list w e ∙ getD-set-other sp v w (getD sp v 0 - 1) 0 n;
+      long = ap length (L .stored) ∙ (length-set sp v (L .left) ∙ len);
+      one = λ h. let m = L .lost h in omega arith;
+      down = λ w. ⊎-elim (λ e. let a = at-place sp′ e in let b = at-place sp e in let m = L .less in omega arith) (λ n. let c = losing-else L w n in omega arith) (same-or w v);
     }
 
-losing-less : {v tail r : ℕ} {sp ws sp′ ws′ : List ℕ} → v < 4096 → length sp ≡ 4096 → Losing v tail sp ws sp′ ws′ r → Less v sp sp′
-losing-less {v} {sp = sp} small len (Losing.waits z e f g) = record { long = ap length e ∙ len; one = let h = in-list v e in omega arith; else = λ w n. in-list w e }
-losing-less {v} {sp = sp} small len (Losing.spares z e f g) = set-less v sp small len e
-losing-less {v} {sp = sp} small len (Losing.opens z e l f g) = set-less v sp small len e
-losing-less {v} {sp = sp} small len (Losing.full e l f g) = set-less v sp small len e
+-- what `lose` computes without a branch
+pub under : (y : Bool) (n : ℕ) {a : ℕ} → By (y && ltb 0 n) 1 0 a → a ≤ n
+under y n A = ⊎-elim (λ h. let e = ltb-true 0 n h in let m = by-most A in omega arith) (λ h. let e = A .1 (none y h) in omega arith) (look (ltb 0 n))
+  where
+    none : (w : Bool) → ltb 0 n ≡ false → (w && ltb 0 n) ≡ false
+    none true h = h
+    none false h = refl
+
+pub losing-on : {y : Bool} {v tail r : ℕ} {sp ws sp′ ws′ : List ℕ} → Losing y v tail sp ws sp′ ws′ r → r ≤ tail + 1
+losing-on L = ⊎-elim (λ e. let h = e .0 in omega arith) (λ e. omega arith) (L .ended)
+
+pub losing : (y : Bool) (v tail : ℕ) (sp ws : List ℕ) {a b m : ℕ} {sp′ ws′ : List ℕ} → By (y && ltb 0 (getD sp v 0)) 1 0 a → By (y && eqb (getD sp v 0) 1) 1 0 b → sp′ ≡ set sp v (getD sp v 0 - a) → ws′ ≡ set ws tail v → m ≡ b → Losing y v tail sp ws sp′ ws′ (tail + m)
+losing y v tail sp ws {a} {b} {m} A B es ew em =
+    record {
+      left = getD sp v 0 - a;
+      stored = es;
+      less = omega arith;
+      lost = λ h. ⊎-elim (λ k. let e = A .0 (both h k) in omega arith) (λ k. let e = ltb-false 0 (getD sp v 0) k in omega arith) (look (ltb 0 (getD sp v 0)));
+      queued = ew;
+      ended = ⊎-elim (λ h. _⊎_.inr (let e = B .0 h in omega arith)) (λ h. let e = B .1 h in _⊎_.inl (omega arith, λ z. stays z h)) (look (y && eqb (getD sp v 0) 1));
+    }
+  where
+    stays : getD sp v 0 - a ≡ 0 → (y && eqb (getD sp v 0) 1) ≡ false → getD sp v 0 ≡ 0
+    stays z h =
+        ⊎-elim
+        (λ k. ⊎-elim (λ o. ⊎-elim (λ e. clash (both k e) h) (λ e. let c = A .0 (both k o) in let i = ltb-true 0 (getD sp v 0) o in absurd (eqb-false (getD sp v 0) 1 e (omega arith))) (look (eqb (getD sp v 0) 1))) (λ o. let e = ltb-false 0 (getD sp v 0) o in omega arith) (look (ltb 0 (getD sp v 0))))
+        (λ k. let c = A .1 (not-first (ltb 0 (getD sp v 0)) k) in omega arith) (look y)
 
 pub queued-start : (tail : ℕ) (sp ws : List ℕ) → length ws ≡ 4096 → Queued tail sp ws tail sp ws
 queued-start tail sp ws l = record { long = l; grows = λ h. le-refl tail; front = λ i h o. refl; waits = λ h u k z. _⊎_.inl z; small = λ i a b. absurd (omega arith) }
 
-queued-losing : {v tail r r′ : ℕ} {sp₀ ws₀ sp ws sp′ ws′ : List ℕ} → v < 4096 → length sp ≡ 4096 → Queued tail sp₀ ws₀ r sp ws → Losing v r sp ws sp′ ws′ r′ → Queued tail sp₀ ws₀ r′ sp′ ws′
-queued-losing {v} {tail} {r} {r′} {sp₀} {ws₀} {sp} {ws} {sp′} {ws′} small len Q (Losing.waits z e f g) =
+-- an account stands at the end of the queue, or behind it, and the rest stays
+pub queued-losing : {y : Bool} {v tail r r′ : ℕ} {sp₀ ws₀ sp ws sp′ ws′ : List ℕ} → v < 4096 → r < 4096 → length sp ≡ 4096 → Queued tail sp₀ ws₀ r sp ws → Losing y v r sp ws sp′ ws′ r′ → Queued tail sp₀ ws₀ r′ sp′ ws′
+queued-losing {y} {v} {tail} {r} {r′} {sp₀} {ws₀} {sp} {ws} {sp′} {ws′} small room len Q L =
     record {
-      long = ap length f ∙ Q .long;
-      grows = λ h. let a = Q .grows (omega arith) in omega arith;
-      front = λ i h o. in-list i f ∙ Q .front i h o;
-      waits = λ h u k w. ⊎-elim _⊎_.inl (λ P. _⊎_.inr (record { place = P .place; from = P .from; below = let b = P .below in omega arith; is = in-list (P .place) f ∙ P .is })) (Q .waits (omega arith) u k (sym (in-list u e) ∙ w));
-      small = λ i a b c. subst (λ (m : ℕ). m < 4096) (sym (in-list i f)) (Q .small i a (omega arith) c);
-    }
-queued-losing {v} {tail} {r} {r′} {sp₀} {ws₀} {sp} {ws} {sp′} {ws′} small len Q (Losing.spares z e f g) =
-    let D : Less v sp sp′ = set-less v sp small len e in
-    record {
-      long = ap length f ∙ Q .long;
-      grows = λ h. let a = Q .grows (omega arith) in omega arith;
-      front = λ i h o. in-list i f ∙ Q .front i h o;
-      waits = λ h u k w. ⊎-elim _⊎_.inl (λ P. _⊎_.inr (record { place = P .place; from = P .from; below = let b = P .below in omega arith; is = in-list (P .place) f ∙ P .is })) (Q .waits (omega arith) u k (⊎-elim (λ q. let a = at-place sp′ q in let b = D .one in absurd (omega arith)) (λ n. sym (D .else u n) ∙ w) (same-or u v)));
-      small = λ i a b c. subst (λ (m : ℕ). m < 4096) (sym (in-list i f)) (Q .small i a (omega arith) c);
-    }
-queued-losing {v} {tail} {r} {r′} {sp₀} {ws₀} {sp} {ws} {sp′} {ws′} small len Q (Losing.opens z e l f g) =
-    let D : Less v sp sp′ = set-less v sp small len e in
-    let up : tail ≤ r = Q .grows (omega arith) in
-    let there : getD ws′ r 0 ≡ v = in-list r f ∙ getD-set-same ws r v 0 (let m = Q .long in omega arith) in
-    record {
-      long = ap length f ∙ (length-set ws r v ∙ Q .long);
-      grows = λ h. omega arith;
-      front = λ i h o. in-list i f ∙ (getD-set-other ws r i v 0 (λ y. omega arith) ∙ Q .front i h o);
-      waits = λ h u k w.
-          ⊎-elim (λ q. _⊎_.inr (record { place = r; from = up; below = omega arith; is = there ∙ sym q }))
-          (λ n. ⊎-elim _⊎_.inl (λ P. let b = P .below in _⊎_.inr (record { place = P .place; from = P .from; below = omega arith; is = in-list (P .place) f ∙ (getD-set-other ws r (P .place) v 0 (λ o. omega arith) ∙ P .is) })) (Q .waits (omega arith) u k (sym (D .else u n) ∙ w))) (same-or u v);
-      small = λ i a b c. ⊎-elim (λ q. let y = at-place ws′ q in omega arith) (λ n. subst (λ (m : ℕ). m < 4096) (sym (in-list i f ∙ getD-set-other ws r i v 0 n)) (Q .small i a (apart i n b) c)) (same-or i r);
+      long = ap length (L .queued) ∙ (length-set ws r v ∙ Q .long);
+      grows = λ h. let a = up in let o = on .0 in omega arith;
+      front = λ i h o. kept i (λ e. let a = up in omega arith) ∙ Q .front i h o;
+      waits = λ h u k w. ⊎-elim (λ e. at-v (sym (at-place sp′ e) ∙ w) u e) (λ n. before u k (sym (losing-else L u n) ∙ w)) (same-or u v);
+      small = λ i a b c. ⊎-elim (λ e. let m = at-place ws′ e in let n = there in omega arith) (λ n. subst (λ (m : ℕ). m < 4096) (sym (kept i n)) (Q .small i a (apart i n b) c)) (same-or i r);
     }
   where
+    up : tail ≤ r
+    up = Q .grows (omega arith)
+
+    on : (r ≤ r′) × (r′ ≤ r + 1)
+    on = ⊎-elim (λ e. let h = e .0 in (omega arith, omega arith)) (λ e. (omega arith, omega arith)) (L .ended)
+
+    there : getD ws′ r 0 ≡ v
+    there = in-list r (L .queued) ∙ getD-set-same ws r v 0 (let m = Q .long in omega arith)
+
+    kept : (i : ℕ) → (i ≡ r → ⊥) → getD ws′ i 0 ≡ getD ws i 0
+    kept i n = in-list i (L .queued) ∙ getD-set-other ws r i v 0 n
+
     apart : (i : ℕ) → (i ≡ r → ⊥) → i < r′ → i < r
-    apart i n b = ⊎-elim (λ q. absurd (n q)) (λ k. k) (eq-or-lt-of-le (omega arith))
-queued-losing {v} {tail} {r} {r′} {sp₀} {ws₀} {sp} {ws} {sp′} {ws′} small len Q (Losing.full e l f g) =
-    record {
-      long = ap length f ∙ Q .long;
-      grows = λ h. absurd (omega arith);
-      front = λ i h o. in-list i f ∙ Q .front i h o;
-      waits = λ h. absurd (omega arith);
-      small = λ i a b c. subst (λ (m : ℕ). m < 4096) (sym (in-list i f)) (Q .small i a (omega arith) c);
-    }
+    apart i n b = ⊎-elim (λ q. absurd (n q)) (λ k. k) (eq-or-lt-of-le (let o = on .1 in omega arith))
 
-queued-same : {tail r r′ : ℕ} {sp₀ ws₀ sp ws sp′ ws′ : List ℕ} → Queued tail sp₀ ws₀ r sp ws → sp′ ≡ sp → ws′ ≡ ws → r′ ≡ r → Queued tail sp₀ ws₀ r′ sp′ ws′
-queued-same {tail} {r} {r′} {sp₀} {ws₀} {sp} {ws} {sp′} {ws′} Q e f g =
-    subst (λ (a : ℕ). Queued tail sp₀ ws₀ a sp′ ws′) (sym g) (subst (λ (a : List ℕ). Queued tail sp₀ ws₀ r a ws′) (sym e) (subst (Queued tail sp₀ ws₀ r sp) (sym f) Q))
+    before : (u : ℕ) → u < 4096 → getD sp u 0 ≡ 0 → (getD sp₀ u 0 ≡ 0) ⊎ Place ws′ tail r′ u
+    before u k w = ⊎-elim _⊎_.inl (λ P. let b = P .below in let o = on .0 in _⊎_.inr (record { place = P .place; from = P .from; below = omega arith; is = kept (P .place) (λ e. omega arith) ∙ P .is })) (Q .waits (omega arith) u k w)
 
-pub queued-gated : {v z day old new tail r r′ : ℕ} {sp₀ ws₀ sp ws sp′ ws′ : List ℕ} → v < 4096 → length sp ≡ 4096 → Queued tail sp₀ ws₀ r sp ws → Gated v z day old new r sp ws sp′ ws′ r′ → Queued tail sp₀ ws₀ r′ sp′ ws′
-queued-gated small len Q (Gated.shut h e f g) = queued-same Q e f g
-queued-gated small len Q (Gated.lost L) = queued-losing small len Q L
-
-gated-down : {v z day old new tail r : ℕ} {sp ws sp′ ws′ : List ℕ} → v < 4096 → length sp ≡ 4096 → Gated v z day old new tail sp ws sp′ ws′ r → (w : ℕ) → getD sp′ w 0 ≤ getD sp w 0
-gated-down small len (Gated.shut h e f g) w = let a = in-list w e in omega arith
-gated-down small len (Gated.lost L) w = less-down (losing-less small len L) w
-
-pub gated-long : {v z day old new tail r : ℕ} {sp ws sp′ ws′ : List ℕ} → v < 4096 → length sp ≡ 4096 → Gated v z day old new tail sp ws sp′ ws′ r → length sp′ ≡ 4096
-gated-long small len (Gated.shut h e f g) = ap length e ∙ len
-gated-long small len (Gated.lost L) = losing-less small len L .long
+    at-v : getD sp′ v 0 ≡ 0 → (u : ℕ) → u ≡ v → (getD sp₀ u 0 ≡ 0) ⊎ Place ws′ tail r′ u
+    at-v w u e =
+        ⊎-elim (λ h. before u (omega arith) (at-place sp e ∙ h .1 (sym (losing-at small len L) ∙ w)))
+        (λ h. _⊎_.inr (record { place = r; from = up; below = omega arith; is = there ∙ sym e })) (L .ended)
 
 pub queued-then : {a b c : ℕ} {sp ws sp₁ ws₁ sp₂ ws₂ : List ℕ} → Queued a sp ws b sp₁ ws₁ → Queued b sp₁ ws₁ c sp₂ ws₂ → Queued a sp ws c sp₂ ws₂
 queued-then {a} {b} {c} {sp} {ws} {sp₁} {ws₁} {sp₂} {ws₂} P Q =
@@ -152,24 +156,24 @@ module _ (t : Table) (x : ℕ → ℕ) (lo u old new : ℕ) (sp₀ : List ℕ) w
     lessened-all : (m : ℕ) → ((i : ℕ) → b ≤ i → i < m → fresh t lo i ≡ true → touches t i u ≡ true → new ≤ dayOf t i) → Lessened t x lo u m old new sp₀ sp
     lessened-all m late = record { long = O .long; less = O .less; lost = λ i k f h p o n. ⊎-elim (λ y. let c = late i (leb-true b i y) k f h in absurd (omega arith)) (λ y. O .lost i (leb-false b i y) f h p o n) (look (leb b i)) }
 
-    lessened-next : (j : ℕ) {v z day tail r : ℕ} {ws sp′ ws′ : List ℕ} → ((i : ℕ) → b ≤ i → i < j → touches t i u ≡ false) → v ≡ otherOf t j u → v < 4096 → z ≡ x v → day ≡ dayOf t j → Gated v z day old new tail sp ws sp′ ws′ r → Lessened t x lo u (j + 1) old new sp₀ sp′
-    lessened-next j {v} {z} {day} {sp′ = sp′} none ev small ez ed G =
+    lessened-next : (j : ℕ) {y : Bool} {v tail r : ℕ} {ws sp′ ws′ : List ℕ} → ((i : ℕ) → b ≤ i → i < j → touches t i u ≡ false) → v ≡ otherOf t j u → v < 4096 → (fresh t lo j ≡ true → old ≤ x v → dayOf t j ≤ x v → x v < new → y ≡ true) → Losing y v tail sp ws sp′ ws′ r → Lessened t x lo u (j + 1) old new sp₀ sp′
+    lessened-next j {y} {v} {sp′ = sp′} none ev small is-lost L =
+        let D = losing-less small (O .long) L in
         record {
-          long = gated-long small (O .long) G;
-          less = λ w. le-trans (gated-down small (O .long) G w) (O .less w);
+          long = D .long;
+          less = λ w. le-trans (D .down w) (O .less w);
           lost = λ i k f h p o n.
-              ⊎-elim (λ y. ⊎-elim (λ q. here G i q p o n) (λ q. clash h (none i (leb-true b i y) q)) (eq-or-lt-of-le (omega arith)))
-              (λ y. let m = O .lost i (leb-false b i y) f h p o n in let d = gated-down small (O .long) G (otherOf t i u) in omega arith) (look (leb b i));
+              ⊎-elim (λ z. ⊎-elim (λ q. here i q f p o n) (λ q. clash h (none i (leb-true b i z) q)) (eq-or-lt-of-le (omega arith)))
+              (λ z. let m = O .lost i (leb-false b i z) f h p o n in let d = D .down (otherOf t i u) in omega arith) (look (leb b i));
         }
       where
-        here : {tail r : ℕ} {ws ws′ : List ℕ} → Gated v z day old new tail sp ws sp′ ws′ r → (i : ℕ) → i ≡ j → old ≤ x (otherOf t i u) → dayOf t i ≤ x (otherOf t i u) → x (otherOf t i u) < new → getD sp′ (otherOf t i u) 0 ≤ getD sp₀ (otherOf t i u) 0 - 1
-        here (Gated.shut no-loss e f g) i q p o n =
-            let a : z ≡ x (otherOf t i u) = ez ∙ ap x (ev ∙ ap (λ (c : ℕ). otherOf t c u) (sym q)) in
-            let c : day ≡ dayOf t i = ed ∙ ap (dayOf t) (sym q) in absurd (no-loss (omega arith) (omega arith) (omega arith))
-        here (Gated.lost L) i q p o n =
-            let D = losing-less small (O .long) L in
+        here : (i : ℕ) → i ≡ j → fresh t lo i ≡ true → old ≤ x (otherOf t i u) → dayOf t i ≤ x (otherOf t i u) → x (otherOf t i u) < new → getD sp′ (otherOf t i u) 0 ≤ getD sp₀ (otherOf t i u) 0 - 1
+        here i q f p o n =
             let e : otherOf t i u ≡ v = ap (λ (c : ℕ). otherOf t c u) q ∙ sym ev in
-            let a = at-place sp′ e in let c = at-place sp₀ e in let d = D .one in let m = O .less v in omega arith
+            let z : x (otherOf t i u) ≡ x v = ap x e in
+            let g : dayOf t i ≡ dayOf t j = ap (dayOf t) q in
+            let d = losing-less small (O .long) L .one (is-lost (subst (λ (c : ℕ). fresh t lo c ≡ true) q f) (omega arith) (omega arith) (omega arith)) in
+            let a = at-place sp′ e in let c = at-place sp₀ e in let m = O .less v in omega arith
 
 -- the rows of u before place p have been seen; the queue had tail entries, and has end
 pub record Wave (d f g : List ℕ) (r : Season) (xs : List ℕ) (u old new tail : ℕ) (sp₀ ws₀ : List ℕ) (p end : ℕ) (sp ws : List ℕ) : Type 0 where
@@ -207,15 +211,6 @@ module _ (d f g links : List ℕ) (r : Season) (R : Ready d f g links r) (xs : L
         W .queued,
       )
 
-      pub wave-skip : {y : Bool} → y ≡ (leb (r .lo) j and leb (getD links (8192 + 2 * length d + j) 0) (r .lo)) → y ≡ false → Wave d f g r xs u old new tail sp₀ ws₀ (p + 1) end sp ws
-      wave-skip ey h =
-          record {
-            b = j + 1;
-            along = along-next d f g links (R .sound) (R .linked) small (W .along) ee more ej;
-            done = lessened-all tw (guess xs) (r .lo) u old new sp₀ (W .done) (j + 1) (λ i a k fr y. ⊎-elim (λ q. clash (subst (λ (c : ℕ). fresh tw (r .lo) c ≡ true) q fr) (sym (along-fresh d f g links (R .sound) (R .linked) small (W .along) ee more ej (r .lo) ey) ∙ h)) (λ q. clash y (w-none i a q)) (eq-or-lt-of-le (omega arith)));
-            queued = W .queued;
-          }
-
       module _ {a e v : ℕ} (ea : a ≡ getD f j 0) (eb : e ≡ getD g j 0) (ev : v ≡ pickOther (eqb a u) a e) where
         w-other : v ≡ otherOf tw j u
         w-other = along-other d f g links (R .sound) (R .linked) small (W .along) ee more ej ea eb ev
@@ -223,14 +218,20 @@ module _ (d f g links : List ℕ) (r : Season) (R : Ready d f g links r) (xs : L
         pub wave-small : v < 4096
         wave-small = subst (λ (w : ℕ). w < 4096) (sym w-other) (other-small tw (query (r .k)) (r .start) (r .end) (r .lo) (R .setting) j u w-below (along-touch d f g links (R .sound) (R .linked) small (W .along) ee more ej))
 
-        pub wave-open : {z end′ : ℕ} {sp′ ws′ : List ℕ} → z ≡ getD xs v 0 → Gated v z day old new end sp ws sp′ ws′ end′ → Wave d f g r xs u old new tail sp₀ ws₀ (p + 1) end′ sp′ ws′
-        wave-open ez M =
+        pub wave-next : {y w : Bool} {z end′ : ℕ} {sp′ ws′ : List ℕ} → end < 4096 → y ≡ (leb (r .lo) j and leb (getD links (8192 + 2 * length d + j) 0) (r .lo)) → z ≡ getD xs v 0 → w ≡ ((leb old z && leb day z) && ltb z new) → Losing (y && w) v end sp ws sp′ ws′ end′ → Wave d f g r xs u old new tail sp₀ ws₀ (p + 1) end′ sp′ ws′
+        wave-next {y} {w} {z} room ey ez ew L =
             record {
               b = j + 1;
               along = along-next d f g links (R .sound) (R .linked) small (W .along) ee more ej;
-              done = lessened-next tw (guess xs) (r .lo) u old new sp₀ (W .done) j w-none w-other wave-small (ez ∙ sym (guess-at xs v len wave-small)) w-day M;
-              queued = queued-gated wave-small (W .done .long) (W .queued) M;
+              done = lessened-next tw (guess xs) (r .lo) u old new sp₀ (W .done) j w-none w-other wave-small lost L;
+              queued = queued-losing wave-small room (W .done .long) (W .queued) L;
             }
+          where
+            time : z ≡ guess xs v
+            time = ez ∙ sym (guess-at xs v len wave-small)
+
+            lost : fresh tw (r .lo) j ≡ true → old ≤ guess xs v → dayOf tw j ≤ guess xs v → guess xs v < new → (y && w) ≡ true
+            lost h a c n = let t = time in let e = w-day in both (along-fresh d f g links (R .sound) (R .linked) small (W .along) ee more ej (r .lo) ey ∙ h) (ew ∙ lost-i old z day new (omega arith) (omega arith) (omega arith))
 
 -- ---- who loses one by a row that leaves
 
@@ -261,28 +262,25 @@ module _ (t : Table) (q : Query) (s hi lo : ℕ) (S : Setting t q s hi lo) (xs :
         ⊎-elim (λ y. ⊎-elim _⊎_.inl (λ m. let b : backers t x lo (x u) u (j + 1) ≡ suc (backers t x lo (x u) u j) = ap (backers t x lo (x u) u) (add-one j) ∙ backers-yes t q s hi lo S x (x u) u j y in _⊎_.inr (omega arith)) (F .less u l))
         (λ y. rest sp′ u l (omega arith) y) (look (backing t x lo (x u) u j))
 
-    pub leaving-skip : fresh t lo j ≡ false → Leaving t x lo (j + 1) sp₀ sp
-    leaving-skip f = record { long = F .long; less = λ u l. rest sp u l (le-refl (getD sp u 0)) (⊎-elim (λ y. clash (backed-fresh t x lo (x u) u j y) f) (λ y. y) (look (backing t x lo (x u) u j))) }
-
     -- u, whose other account is v: it loses v by row j if it had it
-    gate : {u v z day old tail r : ℕ} {spa wsa spb wsb : List ℕ} (sp′ : List ℕ) → u < 4096 → otherOf t j u ≡ v → z ≡ x u → old ≡ x v → day ≡ dayOf t j → length spa ≡ 4096 → getD spa u 0 ≤ getD sp u 0 → getD sp′ u 0 ≤ getD spb u 0 → Gated u z day old never tail spa wsa spb wsb r → (x u ≡ never) ⊎ (getD sp′ u 0 ≤ getD sp₀ u 0 - backers t x lo (x u) u (j + 1))
+    gate : {y : Bool} {u v tail r : ℕ} {spa wsa spb wsb : List ℕ} (sp′ : List ℕ) → u < 4096 → otherOf t j u ≡ v → (fresh t lo j ≡ true → x v ≤ x u → dayOf t j ≤ x u → x u < never → y ≡ true) → length spa ≡ 4096 → getD spa u 0 ≤ getD sp u 0 → getD sp′ u 0 ≤ getD spb u 0 → Losing y u tail spa wsa spb wsb r → (x u ≡ never) ⊎ (getD sp′ u 0 ≤ getD sp₀ u 0 - backers t x lo (x u) u (j + 1))
     unfolding value
-    gate {u} {v} sp′ l ev ez eo ed la ha hb (Gated.shut kept e f g) =
-        ⊎-elim (λ k. rest sp′ u l (let m = in-list u e in omega arith) (⊎-elim (λ y. let b = backing-e t q s hi lo S x (x u) u j y .by in let c : x (otherOf t j u) ≡ x v = ap x ev in let h = S .fits in absurd (kept (omega arith) (omega arith) (omega arith))) (λ y. y) (look (backing t x lo (x u) u j))))
-        _⊎_.inl day-or
+    gate {y} {u} {v} sp′ l ev lost la ha hb L =
+        ⊎-elim (λ h. taken sp′ u l (let m = losing-less l la L .one h in omega arith))
+        (λ h. ⊎-elim (λ k. rest sp′ u l (let m = losing-less l la L .down u in omega arith) (⊎-elim (λ z. let w = backing-e t q s hi lo S x (x u) u j z in let b = w .by in let c : x (otherOf t j u) ≡ x v = ap x ev in let o = S .fits in clash (lost (w .is-fresh) (omega arith) (omega arith) (omega arith)) h) (λ z. z) (look (backing t x lo (x u) u j)))) _⊎_.inl day-or)
+        (look y)
       where
         day-or : (x u ≤ hi) ⊎ (x u ≡ never)
         day-or = subst (λ (c : ℕ). (c ≤ hi) ⊎ (c ≡ never)) (sym (guess-at xs u len l)) (D u l)
-    gate {u} {v} sp′ l ev ez eo ed la ha hb (Gated.lost L) = taken sp′ u l (let m = losing-less l la L .one in omega arith)
 
-    pub leaving-row : {a b day xa xb tail mid r : ℕ} {ws sp₁ ws₁ sp₂ ws₂ : List ℕ} → j < size t → a ≡ firstOf t j → b ≡ secondOf t j → day ≡ dayOf t j → xa ≡ getD xs a 0 → xb ≡ getD xs b 0
-        → Gated a xa day xb never tail sp ws sp₁ ws₁ mid → Gated b xb day xa never mid sp₁ ws₁ sp₂ ws₂ r → Leaving t x lo (j + 1) sp₀ sp₂
-    leaving-row {a} {b} {day} {xa} {xb} {sp₁ = sp₁} {sp₂ = sp₂} l ea eb ed exa exb A B =
+    pub leaving-row : {y wa wb : Bool} {a b day xa xb tail mid r : ℕ} {ws sp₁ ws₁ sp₂ ws₂ : List ℕ} → j < size t → y ≡ fresh t lo j → a ≡ firstOf t j → b ≡ secondOf t j → day ≡ dayOf t j → xa ≡ getD xs a 0 → xb ≡ getD xs b 0 → wa ≡ ((leb xb xa && leb day xa) && ltb xa never) → wb ≡ ((leb xa xb && leb day xb) && ltb xb never)
+        → Losing (y && wa) a tail sp ws sp₁ ws₁ mid → Losing (y && wb) b mid sp₁ ws₁ sp₂ ws₂ r → Leaving t x lo (j + 1) sp₀ sp₂
+    leaving-row {y} {wa} {wb} {a} {b} {day} {xa} {xb} {sp₁ = sp₁} {sp₂ = sp₂} l ey ea eb ed exa exb ewa ewb A B =
         record {
-          long = gated-long lb (gated-long la (F .long) A) B;
+          long = lessb .long;
           less = λ u h.
-              ⊎-elim (λ y. ⊎-elim (λ e. at-a u (sym e)) (λ e. at-b u (sym e)) (touch-cases t j u y))
-              (λ y. rest sp₂ u h (le-trans (gated-down lb (gated-long la (F .long) A) B u) (gated-down la (F .long) A u)) (⊎-elim (λ z. clash (backing-e t q s hi lo S x (x u) u j z .touch) y) (λ z. z) (look (backing t x lo (x u) u j)))) (look (touches t j u));
+              ⊎-elim (λ k. ⊎-elim (λ e. at-a u (sym e)) (λ e. at-b u (sym e)) (touch-cases t j u k))
+              (λ k. rest sp₂ u h (le-trans (lessb .down u) (lessa .down u)) (⊎-elim (λ z. clash (backing-e t q s hi lo S x (x u) u j z .touch) k) (λ z. z) (look (backing t x lo (x u) u j)))) (look (touches t j u));
         }
       where
         apart : firstOf t j < secondOf t j
@@ -294,15 +292,27 @@ module _ (t : Table) (q : Query) (s hi lo : ℕ) (S : Setting t q s hi lo) (xs :
         lb : b < 4096
         lb = let m = S .small j l in omega arith
 
+        lessa : Less (y && wa) a sp sp₁
+        lessa = losing-less la (F .long) A
+
+        lessb : Less (y && wb) b sp₁ sp₂
+        lessb = losing-less lb (lessa .long) B
+
+        ta : xa ≡ x a
+        ta = exa ∙ sym (guess-at xs a len la)
+
+        tb : xb ≡ x b
+        tb = exb ∙ sym (guess-at xs b len lb)
+
         at-a : (u : ℕ) → u ≡ firstOf t j → (x u ≡ never) ⊎ (getD sp₂ u 0 ≤ getD sp₀ u 0 - backers t x lo (x u) u (j + 1))
         at-a u e =
             subst (λ (c : ℕ). (x c ≡ never) ⊎ (getD sp₂ c 0 ≤ getD sp₀ c 0 - backers t x lo (x c) c (j + 1))) (sym (e ∙ sym ea))
-            (gate sp₂ la (ap (otherOf t j) ea ∙ (other-first t j ∙ sym eb)) (exa ∙ sym (guess-at xs a len la)) (exb ∙ sym (guess-at xs b len lb)) ed (F .long) (le-refl (getD sp a 0)) (gated-down lb (gated-long la (F .long) A) B a) A)
+            (gate sp₂ la (ap (otherOf t j) ea ∙ (other-first t j ∙ sym eb)) (λ f h k o. let m = ta in let n = tb in both (ey ∙ f) (ewa ∙ lost-i xb xa day never (omega arith) (omega arith) (omega arith))) (F .long) (le-refl (getD sp a 0)) (lessb .down a) A)
 
         at-b : (u : ℕ) → u ≡ secondOf t j → (x u ≡ never) ⊎ (getD sp₂ u 0 ≤ getD sp₀ u 0 - backers t x lo (x u) u (j + 1))
         at-b u e =
             subst (λ (c : ℕ). (x c ≡ never) ⊎ (getD sp₂ c 0 ≤ getD sp₀ c 0 - backers t x lo (x c) c (j + 1))) (sym (e ∙ sym eb))
-            (gate sp₂ lb (ap (otherOf t j) eb ∙ (other-second t j apart ∙ sym ea)) (exb ∙ sym (guess-at xs b len lb)) (exa ∙ sym (guess-at xs a len la)) ed (gated-long la (F .long) A) (gated-down la (F .long) A b) (le-refl (getD sp₂ b 0)) B)
+            (gate sp₂ lb (ap (otherOf t j) eb ∙ (other-second t j apart ∙ sym ea)) (λ f h k o. let m = ta in let n = tb in both (ey ∙ f) (ewb ∙ lost-i xa xb day never (omega arith) (omega arith) (omega arith))) (lessa .long) (lessa .down b) (le-refl (getD sp₂ b 0)) B)
 
 pub leaving-last : {t : Table} {x : ℕ → ℕ} {lo j next : ℕ} {sp₀ sp : List ℕ} → Leaving t x lo j sp₀ sp → j ≤ next → next ≤ j → Leaving t x lo next sp₀ sp
 leaving-last {t} {x} {lo} {sp₀ = sp₀} {sp = sp} F a b = subst (λ (m : ℕ). Leaving t x lo m sp₀ sp) (le-antisymm a b) F
@@ -330,6 +340,6 @@ module _ (d f g : List ℕ) {j : ℕ} (S : Sound d f g) (l : j < length d) where
   pub second-small : {a : ℕ} → a ≡ getD g j 0 → a < 4096
   second-small e = let y = S .rows j l .account-to in omega arith
 
-  pub not-fresh : (lo : ℕ) {links : List ℕ} {y : Bool} → Linked tr links → y ≡ (leb lo j and leb (getD links (8192 + 2 * length d + j) 0) lo) → y ≡ false → fresh tr lo j ≡ false
+  pub is-first : (lo : ℕ) {day : ℕ} {links : List ℕ} {y : Bool} → Linked tr day links → y ≡ (leb lo j and leb (getD links (8192 + 2 * length d + j) 0) lo) → y ≡ fresh tr lo j
   unfolding fresh
-  not-fresh lo L e h = sym (e ∙ ap (λ (c : ℕ). leb lo j and leb c lo) (L .pairs j l)) ∙ h
+  is-first lo L e = e ∙ ap (λ (c : ℕ). leb lo j and leb c lo) (L .pairs j l)

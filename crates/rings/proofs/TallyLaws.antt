@@ -3,6 +3,7 @@
 --     write-drops, write-adds     what one row's new time asks of the counts
 --     write-none, write-one       and what it makes of them
 --     tallies-timed, timed-tallies      where the times are those at s, so are the counts
+--     tallies-moved               where only heads move, the counts stay
 -- Assumes nothing.
 use Prim.Native.Nat.{ℕ, suc, _+_, _-_, _*_, _≤_, _<_}
 use native.Mathlib.Nat.{le-antisymm}
@@ -179,3 +180,8 @@ module _ {t : Table} {q : Query} {hi s : ℕ} {sc : List ℕ} (K : Kept t q hi s
 
   pub timed-tallies : {xs : List ℕ} → Timed t q hi s (size t) xs → Tallies (size t) (size t) sc xs
   timed-tallies T = record { long = T .long; each = λ e h. T .each e h ∙ sym (same-times e) }
+
+-- where the heads move, the counts stay
+pub tallies-moved : {n m : ℕ} {sc₀ sc xs : List ℕ} → Tallies n m sc₀ xs → ((p : ℕ) → 8192 ≤ p → getD sc p 0 ≡ getD sc₀ p 0) → Tallies n m sc xs
+tallies-moved {n} {m} {sc₀} {sc} T h =
+    record { long = T .long; each = λ e l. T .each e l ∙ count-same (λ j. eqb (getD sc₀ (8192 + 3 * n + j) 0) e) (λ j. eqb (getD sc (8192 + 3 * n + j) 0) e) m (λ j k. ap (λ (a : ℕ). eqb a e) (sym (h (8192 + 3 * n + j) (omega arith)))) }

@@ -21,7 +21,7 @@ use Rattle.rings.specs.Ring.{touches}
 use Rattle.rings.specs.CoreTimes.{never, rowTime}
 use Rattle.rings.specs.Inner.Sound.{Sound}
 use Rattle.rings.specs.Inner.Links.{placeOf, Ahead}
-use Rattle.rings.specs.Inner.Peeling.{query, season, Ready, Split, Span, CoreTimesAre}
+use Rattle.rings.specs.Inner.Peeling.{query, season, Ready, Placed, Split, Span, CoreTimesAre}
 use Rattle.rings.specs.Inner.Settling.{Spare, Risen}
 use Rattle.rings.specs.Inner.Turning.{timeOf, Kept, Turning, Passed, Walked, Through, Stays, Turned, IsTime, Tallies, Started}
 use Rattle.rings.specs.declared.Query.{Query}
@@ -85,7 +85,7 @@ unfolding dayOf at
 gone-time d f g q hi s {next} {j} N h = sym (row-before (tableOf d f g) q hi (s + 1) j (N .before j h))
 
 -- before a start the rows before it have left
-pub left-before : {d f g sc : List ℕ} {k s te lo : ℕ} → Ready d f g sc (season k s te lo) → Turning (tableOf d f g) (query k) te s sc → Passed (tableOf d f g) (query k) te s lo sc
+pub left-before : {d f g sc : List ℕ} {k s te lo : ℕ} → Placed d f g sc (season k s te lo) → Turning (tableOf d f g) (query k) te s sc → Passed (tableOf d f g) (query k) te s lo sc
 left-before R T = passed-start T (R .setting .before-lo)
 
 -- ---- the rows of an account
@@ -152,5 +152,5 @@ module _ {d f g sc₀ xs ys ws sc spare spare′ counts counts′ : List ℕ} {k
     (Y : CoreTimesAre d f g (season k (s + 1) te next) ys) (X : Spare (tableOf d f g) (query k) (s + 1) ys spare′) (R : Risen xs ys ws r) where
   pub started-next : Turning (tableOf d f g) (query k) te s sc → Passed (tableOf d f g) (query k) te s next sc → Through (tableOf d f g) (query k) te s next ys ws r sc → Tallies (length d) (length d) sc counts′ → Started d f g sc (season k (s + 1) te next) ys spare′ counts′
   started-next T P H A =
-      started-first (ready-of (St .ready .sound) (St .ready .linked) (St .ready .setting .some-k) top N) Y X
+      started-first (ready-of (St .ready .sound) (T .linked) (St .ready .setting .some-k) top N) Y X
       (kept-next d f g k s te lo next (St .ready .setting) N (St .times-are) Y R T P H) A

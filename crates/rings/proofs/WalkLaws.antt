@@ -5,33 +5,30 @@
 use Prim.Native.Nat.{ℕ, suc, _+_, _-_, _*_, _≤_, _<_}
 use native.Mathlib.Nat.{le-trans}
 use native.Mathlib.Omega.{arith}
-use mathlib.Core.Path.{_≡_, sym, _∙_, ap, subst}
-use mathlib.Core.Logic.{_⊎_}
-use mathlib.Core.Bool.{Bool, true, false}
+use mathlib.Core.Path.{_≡_, refl, sym, _∙_, ap, subst}
+use mathlib.Core.Logic.{_⊎_, ⊎-elim}
+use mathlib.Core.Bool.{Bool, true, false, _&&_}
 use mathlib.Core.List.{List}
 use lib.ListN.{length, getD}
 use lib.Dec.{leb, eqb}
-use borrow.Author.Tests.{le-leb, lt-leb}
 use Rattle.rings.specs.Words.{_and_}
 use Rattle.rings.specs.Table.{Table, tableOf}
 use Rattle.rings.specs.Ring.{touches}
 use Rattle.rings.specs.Inner.Links.{pickOther, otherOf, placeOf, fresh}
 use Rattle.rings.specs.Inner.Peeling.{Lost, Season, Ready, query, Falling, Walking}
-use Rattle.rings.proofs.AlongLaws.{Along, along-last, along-start, along-out, along-place, along-few, along-row, along-touch, along-from, along-none, along-next, along-fresh, along-fresh-place, along-ends, along-other}
-use Rattle.rings.proofs.FallLaws.{room, walk-small, next-small, walk-lose-one, walk-lost, walk-skip, walk-end}
+use Rattle.rings.proofs.WordLaws.{look}
+use Rattle.rings.proofs.PairLaws.{fresh-e}
+use Rattle.rings.proofs.AlongLaws.{Along, begun, ahead-of, along-last, along-out, along-place, along-few, along-row, along-touch, along-from, along-none, along-next, along-fresh, along-fresh-place, along-ends, along-other}
+use Rattle.rings.proofs.FallLaws.{room, walk-small, walk-to, next-small, walk-lose-one, walk-lost, walk-skip, walk-end}
 
 -- what `is_fresh` returns
-pub fresh-before : {lo j : ℕ} (e : ℕ) → j < lo → false ≡ (leb lo j and leb e lo)
+and-is : (a b : Bool) → (a && b) ≡ (a and b)
 unfolding _and_
-fresh-before {lo} {j} e h = sym (ap (λ (b : Bool). b and leb e lo) (lt-leb lo j h))
+and-is true b = refl
+and-is false b = refl
 
-pub fresh-paired : {lo j e e′ : ℕ} → lo ≤ j → e′ ≡ e → lo < e′ → false ≡ (leb lo j and leb e lo)
-unfolding _and_
-fresh-paired {lo} {j} {e} {e′} h y l = sym (ap (λ (b : Bool). b and leb e lo) (le-leb lo j h) ∙ lt-leb e lo (omega arith))
-
-pub fresh-first : {lo j e e′ : ℕ} → lo ≤ j → e′ ≡ e → e′ ≤ lo → true ≡ (leb lo j and leb e lo)
-unfolding _and_
-fresh-first {lo} {j} {e} {e′} h y l = sym (ap (λ (b : Bool). b and leb e lo) (le-leb lo j h) ∙ le-leb e lo (omega arith))
+pub fresh-is : (lo j : ℕ) {e e′ : ℕ} → e′ ≡ e → (leb lo j && leb e′ lo) ≡ (leb lo j and leb e lo)
+fresh-is lo j {e′ = e′} y = and-is (leb lo j) (leb e′ lo) ∙ ap (λ (m : ℕ). leb lo j and leb m lo) y
 
 pub record At (d f s : List ℕ) (q : Season) (e r head u p last : ℕ) (x l w : List ℕ) : Type 0 where
   pub b : ℕ
@@ -50,7 +47,9 @@ module _ (d f s links : List ℕ) (q : Season) (R : Ready d f s links q) where
     at-end W e = along-last d f s links (R .sound) (R .linked) (at-small W) e
 
     pub at-start : {p : ℕ} → Walking d f s q 0 e r head last u x l w → p ≡ getD links (4096 + u) 0 → At d f s q e r head u p last x l w
-    at-start {p} W ep = record { b = 0; state = W; along = along-start d f s links (R .sound) (R .linked) (at-small W) ep }
+    at-start {p} W ep =
+        let B = begun (ahead-of d f s links (R .sound) (R .linked) (at-small W) (R .setting .from-lo) ep) in
+        record { b = B .b; state = walk-to t (query (q .k)) (q .start) (q .end) (q .lo) (R .setting) W (B .b) (omega arith) (λ i a k h. ⊎-elim (λ y. let c = fresh-e t (q .lo) i y .from in let o = B .before i k h in absurd (omega arith)) (λ y. y) (look (fresh t (q .lo) i))); along = B .along }
 
     module _ {p end : ℕ} (A : At d f s q e r head u p last x l w) (ee : end ≡ placeOf t (suc u)) where
       small : u < 4096

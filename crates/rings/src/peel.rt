@@ -1,6 +1,6 @@
 // Core times of one start from nothing, by peeling: accounts fall where fewer than k neighbours are left, as the rows leave from the last day on.
 // times: 0 while an account has not fallen, then its core time; left: its neighbours left; queue: who fell and is still to be walked.
-// Each account is walked once and each row leaves once, so the work is linear in the rows up to the window's end: the walk over an account's rows passes those before its first row too.
+// Each account is walked once, from its head on, and each row leaves once, so the work is linear in the rows of the window.
 ghost use mathlib.Core.Path.{_≡_};
 ghost use Prim.Native.Nat.{_+_, _*_, _≤_, _<_};
 ghost use lib.ListN.{length, getD};
@@ -19,14 +19,8 @@ pub fn is_fresh(links: &[u16], n: usize, lo: usize, j: usize) -> bool
     requires { ⌜ (n ≤ 16384) × (j < n) × (8192 + 2 * n + j < length (now links)) ⌝ }
     ensures { λ r. ⌜ r ≡ (leb lo j and leb (getD (now (links .entry)) (8192 + 2 * n + j) 0) lo) ⌝ }
 {
-    if j < lo {
-        return false;
-    }
     let earlier = entry(links, 8192 + 2 * n + j);
-    if lo < earlier {
-        return false;
-    }
-    true
+    (lo <= j) & (earlier <= lo)
 }
 
 // Account v loses a neighbour; with fewer than k left it falls, dated e, and waits in the queue.

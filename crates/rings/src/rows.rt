@@ -4,11 +4,11 @@ ghost use Prim.Native.Nat.{ℕ, _+_, _*_, _≤_, _<_};
 ghost use lib.ListN.{length, getD, set};
 ghost use Rattle.rings.specs.Table.{tableOf};
 ghost use Rattle.rings.specs.CoreTimes.{never};
-ghost use Rattle.rings.specs.Inner.Peeling.{query, season, Ready, Split, Span, CoreTimesAre};
+ghost use Rattle.rings.specs.Inner.Peeling.{query, season, Ready, Placed, Split, Span, CoreTimesAre};
 ghost use Rattle.rings.specs.Inner.Turning.{Kept, Turning, Passed, Through, Turned, IsTime, Adding, Removing, Tallies, Started};
 use crate::links::clear;
 use crate::links::entry;
-use crate::links::first_place;
+use crate::links::move_heads;
 use crate::settle::advance;
 use crate::settle::begin;
 use crate::times::row_time;
@@ -106,7 +106,7 @@ fn drop_rows(
     next: usize,
     counts: &mut [u16],
 )
-    requires { ⌜ Ready (now days) (now first) (now second) (now scratch) (season k s te lo) ⌝ }
+    requires { ⌜ Placed (now days) (now first) (now second) (now scratch) (season k s te lo) ⌝ }
     requires { ⌜ (te ≤ 1024) × Split (now days) (s + 1) next ⌝ }
     requires { ⌜ Turning (tableOf (now days) (now first) (now second)) (query k) te s (now scratch) × Tallies (length (now days)) (length (now days)) (now scratch) (now counts) ⌝ }
     ensures { λ _. ⌜ Turning (tableOf (now (days .entry)) (now (first .entry)) (now (second .entry))) (query k) te s (now (scratch .exit)) × Passed (tableOf (now (days .entry)) (now (first .entry)) (now (second .entry))) (query k) te s next (now (scratch .exit)) × Tallies (length (now (days .entry))) (length (now (days .entry))) (now (scratch .exit)) (now (counts .exit)) ⌝ }
@@ -144,7 +144,7 @@ fn keep_rows(
     let n = days.len();
     let until = times[u];
     let last = entry(scratch, u);
-    let mut p = first_place(days, first, second, scratch, u, next);
+    let mut p = entry(scratch, 4096 + u);
     while p < last {
         let j = entry(scratch, 8192 + p);
         p += 1;
@@ -279,6 +279,7 @@ pub fn next_start(
     requires { ⌜ length (now queue) ≡ 4096 ⌝ }
     ensures { λ _. ⌜ Started (now (days .entry)) (now (first .entry)) (now (second .entry)) (now (scratch .exit)) (season k (s + 1) te next) (now (times .exit)) (now (spare .exit)) (now (counts .exit)) ⌝ }
 {
+    move_heads(days, first, second, scratch, s, s + 1, lo, next);
     let r = advance(
         days,
         first,

@@ -2,17 +2,19 @@
 // spare: of each account one more than the supporters that it can lose before it must be looked at, at least; 0 while it waits for a look. What a look counts beyond k is to spare, so most losses cost no look.
 // queue: who rose, then who waits. An account leaves the front of those who wait when it is looked at, and if it rises takes a place behind those who rose.
 ghost use mathlib.Core.Path.{_≡_};
+ghost use mathlib.Core.Bool.{true, false, _&&_};
 ghost use Prim.Native.Nat.{ℕ, _+_, _≤_, _<_};
 ghost use mathlib.Core.List.{List};
 ghost use lib.ListN.{length, getD};
+ghost use lib.Dec.{leb, ltb};
 ghost use Rattle.rings.specs.Table.{tableOf};
-ghost use Rattle.rings.specs.Inner.Peeling.{query, guess, season, Ready, Span, Split, CoreTimesAre};
+ghost use Rattle.rings.specs.Inner.Peeling.{query, guess, season, Ready, Placed, Span, Split, CoreTimesAre};
 ghost use Rattle.rings.specs.Inner.Links.{Ahead};
-ghost use Rattle.rings.specs.Inner.Settling.{Days, Over, Noting, Glanced, Looked, Losing, Gated, Lessened, Leaving, Queued, Rising, Spare, Risen};
+ghost use Rattle.rings.specs.Inner.Settling.{Days, Over, Marking, Glanced, Looked, Losing, Lessened, Leaving, Queued, Rising, Spare, Risen};
 use crate::links::entry;
-use crate::links::first_place;
 use crate::links::other;
 use crate::links::put;
+use crate::links::wide;
 use crate::peel::is_fresh;
 use crate::peel::peel;
 use crate::times::greater;
@@ -46,6 +48,20 @@ struct Standing {
     walked: usize,
 }
 
+// 1 where the test holds, else 0.
+fn one(test: bool) -> u16
+    ensures { λ r. ⌜ (test ≡ true → r ≡ 1) × (test ≡ false → r ≡ 0) ⌝ }
+{
+    if test { 1 } else { 0 }
+}
+
+// The first of two numbers where the test holds, else the second.
+fn pick(test: bool, x: u16, y: u16) -> u16
+    ensures { λ r. ⌜ (test ≡ true → r ≡ x) × (test ≡ false → r ≡ y) ⌝ }
+{
+    if test { x } else { y }
+}
+
 // A row dated on this day, and all later ones, can change nothing: they support on no day up to c, and either enough do already, or they lie behind the range or behind the day above.
 fn is_over(day: u16, c: u16, stop: u16, above: u16, k: u16, count: u16) -> bool
     ensures { λ r. ⌜ Over day c stop above k count r ⌝ }
@@ -65,36 +81,19 @@ fn is_over(day: u16, c: u16, stop: u16, above: u16, k: u16, count: u16) -> bool
     false
 }
 
-// One row more, which supports from day z on.
-fn note(z: u16, c: u16, count: u16, above: u16, more: u16) -> Noted
+// One row more, which supports from day z on if it is fresh. Sums and choices and no branch: which way a row goes no processor foresees.
+fn note(fresh: bool, z: u16, c: u16, count: u16, above: u16, more: u16) -> Noted
     requires { ⌜ (count < 16384) × (more < 16384) ⌝ }
-    ensures { λ r. ⌜ Noting z c count above more (r .count) (r .above) (r .more) ⌝ }
+    ensures { λ r. ⌜ Marking fresh z c count above more (r .count) (r .above) (r .more) ⌝ }
 {
-    if z <= c {
-        return Noted {
-            count: count + 1,
-            above: above,
-            more: more,
-        };
-    }
-    if z < above {
-        return Noted {
-            count: count,
-            above: z,
-            more: 1,
-        };
-    }
-    if z == above {
-        return Noted {
-            count: count,
-            above: above,
-            more: more + 1,
-        };
-    }
+    let within = fresh & (z <= c);
+    let later = fresh & (c < z);
+    let nearer = later & (z < above);
+    let level = later & (z == above);
     Noted {
-        count: count,
-        above: above,
-        more: more,
+        count: count + one(within),
+        above: pick(nearer, z, above),
+        more: pick(nearer, 1, more + one(level)),
     }
 }
 
@@ -135,15 +134,15 @@ fn look_at(
             };
         }
         p += 1;
-        if is_fresh(links, n, lo, j) {
-            let a = entry(first, j);
-            let b = entry(second, j);
-            let v = other(a, b, u);
-            let seen = note(greater(times[v], day), c, count, above, more);
-            count = seen.count;
-            above = seen.above;
-            more = seen.more;
-        }
+        let fresh = is_fresh(links, n, lo, j);
+        let a = entry(first, j);
+        let b = entry(second, j);
+        let v = other(a, b, u);
+        let z = greater(times[v], day);
+        let seen = note(fresh, z, c, count, above, more);
+        count = seen.count;
+        above = seen.above;
+        more = seen.more;
     }
     Found {
         count: count,
@@ -228,53 +227,27 @@ fn look(
     }
 }
 
-// v loses a supporter. With none to spare it goes to the end of the queue; 4,097 says that there was no place.
-fn lose(spare: &mut [u16], queue: &mut [u16], tail: usize, v: usize) -> usize
-    requires { ⌜ (length (now spare) ≡ 4096) × (length (now queue) ≡ 4096) × (v < 4096) ⌝ }
-    ensures { λ r. ⌜ Losing v tail (now (spare .entry)) (now (queue .entry)) (now (spare .exit)) (now (queue .exit)) r ⌝ }
+// An account whose time is z had a supporter with the time old by a row of this day, and has it no more when that has the time new.
+fn is_lost(z: u16, day: u16, old: u16, new: u16) -> bool
+    ensures { λ r. ⌜ r ≡ ((leb old z && leb day z) && ltb z new) ⌝ }
+{
+    (old <= z) & (day <= z) & (z < new)
+}
+
+// v loses a supporter where the test holds. It is put at the end of the queue, and the end moves on if it has none to spare now: no branch, as in a look.
+fn lose(spare: &mut [u16], queue: &mut [u16], tail: usize, v: usize, test: bool) -> usize
+    requires { ⌜ (length (now spare) ≡ 4096) × (length (now queue) ≡ 4096) × (v < 4096) × (tail < 4096) ⌝ }
+    ensures { λ r. ⌜ Losing test v tail (now (spare .entry)) (now (queue .entry)) (now (spare .exit)) (now (queue .exit)) r ⌝ }
 {
     let n = spare[v];
-    if n == 0 {
-        return tail;
-    }
-    spare[v] = n - 1;
-    if 1 < n {
-        return tail;
-    }
-    if 4096 <= tail {
-        return 4097;
-    }
-    queue[tail] = v as u16;
-    tail + 1
+    let less = test & (0 < n);
+    let last = test & (n == 1);
+    spare[v] = n - one(less);
+    put(queue, tail, v);
+    tail + wide(one(last))
 }
 
-// v, whose time is z, loses a supporter that had the time old and has the time new, if by the day of their row it was one.
-fn lose_by(
-    spare: &mut [u16],
-    queue: &mut [u16],
-    tail: usize,
-    v: usize,
-    z: u16,
-    day: u16,
-    old: u16,
-    new: u16,
-) -> usize
-    requires { ⌜ (length (now spare) ≡ 4096) × (length (now queue) ≡ 4096) × (v < 4096) ⌝ }
-    ensures { λ r. ⌜ Gated v z day old new tail (now (spare .entry)) (now (queue .entry)) (now (spare .exit)) (now (queue .exit)) r ⌝ }
-{
-    if z < old {
-        return tail;
-    }
-    if z < day {
-        return tail;
-    }
-    if new <= z {
-        return tail;
-    }
-    lose(spare, queue, tail, v)
-}
-
-// The rise of u takes a supporter from each that it supported till now. A row dated on the new time or later takes none.
+// The rise of u takes a supporter from each that it supported till now. A row dated on the new time or later takes none. 4,097 says that the queue has no place left.
 fn lose_others(
     days: &[u16],
     first: &[u16],
@@ -295,7 +268,7 @@ fn lose_others(
 ) -> usize
     requires { ⌜ Ready (now days) (now first) (now second) (now links) (season k start stop lo) ⌝ }
     requires { ⌜ (u < 4096) × (length (now times) ≡ 4096) × (length (now spare) ≡ 4096) × (length (now queue) ≡ 4096) × Ahead (tableOf (now days) (now first) (now second)) u lo from ⌝ }
-    ensures { λ r. ⌜ Lessened (tableOf (now (days .entry)) (now (first .entry)) (now (second .entry))) (guess (now (times .entry))) lo u (length (now (days .entry))) old new (now (spare .entry)) (now (spare .exit)) × Queued tail (now (spare .entry)) (now (queue .entry)) r (now (spare .exit)) (now (queue .exit)) ⌝ }
+    ensures { λ r. ⌜ (r ≤ 4096 → Lessened (tableOf (now (days .entry)) (now (first .entry)) (now (second .entry))) (guess (now (times .entry))) lo u (length (now (days .entry))) old new (now (spare .entry)) (now (spare .exit)) × Queued tail (now (spare .entry)) (now (queue .entry)) r (now (spare .exit)) (now (queue .exit))) ⌝ }
 {
     let n = days.len();
     let last = entry(links, u);
@@ -307,13 +280,16 @@ fn lose_others(
         if new <= day {
             return end;
         }
-        p += 1;
-        if is_fresh(links, n, lo, j) {
-            let a = entry(first, j);
-            let b = entry(second, j);
-            let v = other(a, b, u);
-            end = lose_by(spare, queue, end, v, times[v], day, old, new);
+        if 4096 <= end {
+            return 4097;
         }
+        p += 1;
+        let fresh = is_fresh(links, n, lo, j);
+        let a = entry(first, j);
+        let b = entry(second, j);
+        let v = other(a, b, u);
+        let lost = is_lost(times[v], day, old, new);
+        end = lose(spare, queue, end, v, fresh & lost);
     }
     end
 }
@@ -341,7 +317,7 @@ fn settle_account(
     ensures { λ r. ⌜ (r .walked ≤ 98304) × (r .tail ≤ 4096 → (xs : List ℕ) → Rising (tableOf (now (days .entry)) (now (first .entry)) (now (second .entry))) (query k) stop start xs (now (times .entry)) (now (spare .entry)) (now (queue .entry)) head tail risen → Rising (tableOf (now (days .entry)) (now (first .entry)) (now (second .entry))) (query k) stop start xs (now (times .exit)) (now (spare .exit)) (now (queue .exit)) (head + 1) (r .tail) (r .risen)) ⌝ }
 {
     let u = entry(queue, head);
-    let from = first_place(days, first, second, links, u, lo);
+    let from = entry(links, 4096 + u);
     let old = times[u];
     let seen = look(
         days,
@@ -456,7 +432,7 @@ fn settle(
     risen
 }
 
-// Row j leaves: by it each of its accounts has lost the other, if it was a supporter by the row's day.
+// Row j leaves: by it each of its accounts has lost the other, if it was a supporter by the row's day. 4,097 says that the queue has no place left.
 fn leave_row(
     days: &[u16],
     first: &[u16],
@@ -472,21 +448,24 @@ fn leave_row(
     spare: &mut [u16],
     queue: &mut [u16],
 ) -> usize
-    requires { ⌜ Ready (now days) (now first) (now second) (now links) (season k s te lo) ⌝ }
+    requires { ⌜ Placed (now days) (now first) (now second) (now links) (season k s te lo) ⌝ }
     requires { ⌜ (j < length (now days)) × (length (now times) ≡ 4096) × Days te (now times) × (length (now spare) ≡ 4096) × (length (now queue) ≡ 4096) ⌝ }
-    ensures { λ r. ⌜ Queued tail (now (spare .entry)) (now (queue .entry)) r (now (spare .exit)) (now (queue .exit)) × ((sp : List ℕ) → Leaving (tableOf (now (days .entry)) (now (first .entry)) (now (second .entry))) (guess (now (times .entry))) lo j sp (now (spare .entry)) → Leaving (tableOf (now (days .entry)) (now (first .entry)) (now (second .entry))) (guess (now (times .entry))) lo (j + 1) sp (now (spare .exit))) ⌝ }
+    ensures { λ r. ⌜ (r ≤ 4096 → Queued tail (now (spare .entry)) (now (queue .entry)) r (now (spare .exit)) (now (queue .exit)) × ((sp : List ℕ) → Leaving (tableOf (now (days .entry)) (now (first .entry)) (now (second .entry))) (guess (now (times .entry))) lo j sp (now (spare .entry)) → Leaving (tableOf (now (days .entry)) (now (first .entry)) (now (second .entry))) (guess (now (times .entry))) lo (j + 1) sp (now (spare .exit)))) ⌝ }
 {
-    let n = days.len();
-    if is_fresh(links, n, lo, j) {
-        let a = entry(first, j);
-        let b = entry(second, j);
-        let x = times[a];
-        let y = times[b];
-        let day = days[j];
-        let one = lose_by(spare, queue, tail, a, x, day, y, 65535);
-        return lose_by(spare, queue, one, b, y, day, x, 65535);
+    if 4095 <= tail {
+        return 4097;
     }
-    tail
+    let n = days.len();
+    let fresh = is_fresh(links, n, lo, j);
+    let a = entry(first, j);
+    let b = entry(second, j);
+    let x = times[a];
+    let y = times[b];
+    let day = days[j];
+    let by_a = is_lost(x, day, y, 65535);
+    let by_b = is_lost(y, day, x, 65535);
+    let mid = lose(spare, queue, tail, a, fresh & by_a);
+    lose(spare, queue, mid, b, fresh & by_b)
 }
 
 // The rows of the first day leave: the end of the queue of those who lost a supporter and had none to spare.
@@ -504,9 +483,9 @@ fn leave_rows(
     spare: &mut [u16],
     queue: &mut [u16],
 ) -> usize
-    requires { ⌜ Ready (now days) (now first) (now second) (now links) (season k s te lo) ⌝ }
+    requires { ⌜ Placed (now days) (now first) (now second) (now links) (season k s te lo) ⌝ }
     requires { ⌜ (lo ≤ next) × (next ≤ length (now days)) × (length (now times) ≡ 4096) × Days te (now times) × (length (now spare) ≡ 4096) × (length (now queue) ≡ 4096) ⌝ }
-    ensures { λ r. ⌜ Queued 0 (now (spare .entry)) (now (queue .entry)) r (now (spare .exit)) (now (queue .exit)) × Leaving (tableOf (now (days .entry)) (now (first .entry)) (now (second .entry))) (guess (now (times .entry))) lo next (now (spare .entry)) (now (spare .exit)) ⌝ }
+    ensures { λ r. ⌜ (r ≤ 4096 → Queued 0 (now (spare .entry)) (now (queue .entry)) r (now (spare .exit)) (now (queue .exit)) × Leaving (tableOf (now (days .entry)) (now (first .entry)) (now (second .entry))) (guess (now (times .entry))) lo next (now (spare .entry)) (now (spare .exit))) ⌝ }
 {
     let mut tail = 0;
     let mut j = lo;
@@ -592,7 +571,7 @@ pub fn begin(
     spare_none(spare);
 }
 
-// From the core times at s to those at the day after it, with a list of the accounts whose times are others; the number of its entries. Where settling grows dear the start is peeled afresh, so that none costs more than a constant times its rows.
+// From the core times at s to those at the day after it, where the heads stand already, with a list of the accounts whose times are others; the number of its entries. Where settling grows dear the start is peeled afresh, so that none costs more than a constant times its rows.
 pub fn advance(
     days: &[u16],
     first: &[u16],
@@ -608,7 +587,7 @@ pub fn advance(
     spare: &mut [u16],
     queue: &mut [u16],
 ) -> usize
-    requires { ⌜ Ready (now days) (now first) (now second) (now links) (season k s te lo) ⌝ }
+    requires { ⌜ Ready (now days) (now first) (now second) (now links) (season k (s + 1) te next) ⌝ }
     requires { ⌜ (s ≤ te) × (te ≤ 1024) × Split (now days) s lo × Split (now days) (s + 1) next × Split (now days) (te + 1) end ⌝ }
     requires { ⌜ CoreTimesAre (now days) (now first) (now second) (season k s te lo) (now times) × Spare (tableOf (now days) (now first) (now second)) (query k) s (now times) (now spare) × (length (now queue) ≡ 4096) ⌝ }
     ensures { λ r. ⌜ CoreTimesAre (now (days .entry)) (now (first .entry)) (now (second .entry)) (season k (s + 1) te next) (now (times .exit)) × Spare (tableOf (now (days .entry)) (now (first .entry)) (now (second .entry))) (query k) (s + 1) (now (times .exit)) (now (spare .exit)) × Risen (now (times .entry)) (now (times .exit)) (now (queue .exit)) r ⌝ }

@@ -16,6 +16,7 @@ use crate::checks::is_start;
 use crate::links::clear;
 use crate::links::entry;
 use crate::links::link;
+use crate::links::move_heads;
 use crate::peel::peel;
 use crate::refusal::Verdict;
 use crate::table::rows_before;
@@ -118,6 +119,7 @@ fn find_times(
     let mut left = [0u16; 4096];
     let mut queue = [0u16; 4096];
     link(days, first, second, scratch);
+    move_heads(days, first, second, scratch, 0, s, 0, lo);
     peel(
         days,
         first,

@@ -8,7 +8,8 @@
 --     Times        x is a lower bound of the core times, closed at the fallen; no core time that is still open passes e
 --     Fall         all of it
 --     Season       what is peeled
---     Ready        what every step works on: an accepted table, its links, and the setting
+--     Ready        what every step works on: an accepted table, its links with the heads at the first day, and the setting
+--     Placed       the same where no walk begins at the heads
 --     Split        the rows before a day
 --     Span         the rows of a window, as a first row and an end
 --     Counted      d holds the fresh rows of each account below a row
@@ -141,7 +142,14 @@ season k s e lo = record { k = k; start = s; end = e; lo = lo }
 
 pub record Ready (d f s links : List ℕ) (p : Season) : Type 0 where
   pub sound : Sound d f s
-  pub linked : Linked (tableOf d f s) links
+  pub linked : Linked (tableOf d f s) (p .start) links
+  pub setting : Setting (tableOf d f s) (query (p .k)) (p .start) (p .end) (p .lo)
+
+-- the same where the heads may stand elsewhere
+pub record Placed (d f s links : List ℕ) (p : Season) : Type 0 where
+  pub sound : Sound d f s
+  pub day : ℕ
+  pub linked : Linked (tableOf d f s) day links
   pub setting : Setting (tableOf d f s) (query (p .k)) (p .start) (p .end) (p .lo)
 
 -- the states for the season p of the table of three columns

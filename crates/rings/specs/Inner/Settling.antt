@@ -6,10 +6,10 @@
 --     Days                  each time is a day of the range or never
 --     Settling              x as a list of times, with the spare supporters
 --     Over                  no later row can change what a walk has found
---     Seen, Noting          what a walk over the rows of u has found: how many support it at c, the least day above c on which one more may, and how many more then; one row more
+--     Seen, Noting, Marking what a walk over the rows of u has found: how many support it at c, the least day above c on which one more may, and how many more then; one row more
 --     Glanced               a walk has counted enough, or has seen all rows
 --     Least, Looked         y is the least day from c on with k supporters, or never; what a look at u answers
---     Losing, Gated         v loses a supporter; it does if it has it by the day of their row
+--     Losing                v loses a supporter, or does not
 --     Lessened              a rise of u takes a supporter from each that it supported till now
 --     Leaving               so does each row that leaves
 --     Queued                who lost the last spare supporter by that waits at the end of the queue
@@ -76,6 +76,11 @@ pub data Noting (z c n above more n′ above′ more′ : ℕ) : Type 0 where
   level : c < z → z ≡ above → n′ ≡ n → above′ ≡ above → more′ ≡ more + 1 → Noting z c n above more n′ above′ more′
   farther : c < z → above ≤ z → n′ ≡ n → above′ ≡ above → more′ ≡ more → Noting z c n above more n′ above′ more′
 
+-- the same if the row is the first of its pair, as y says; else nothing
+pub data Marking (y : Bool) (z c n above more n′ above′ more′ : ℕ) : Type 0 where
+  stale : y ≡ false → n′ ≡ n → above′ ≡ above → more′ ≡ more → Marking y z c n above more n′ above′ more′
+  counts : y ≡ true → Noting z c n above more n′ above′ more′ → Marking y z c n above more n′ above′ more′
+
 pub data Glanced (t : Table) (x : ℕ → ℕ) (lo hi c u m k n above more : ℕ) : Type 0 where
   full : k ≤ n → n ≤ backers t x lo c u m → Glanced t x lo hi c u m k n above more
   seen : Seen t x lo hi c u m n above more → Glanced t x lo hi c u m k n above more
@@ -92,17 +97,14 @@ pub record Looked (t : Table) (x : ℕ → ℕ) (s k hi c u y spare : ℕ) : Typ
 
 -- ---- losses
 
--- v loses a supporter: the queue has tail entries, then r; 4,097 says that it had no place left
-pub data Losing (v tail : ℕ) (sp ws sp′ ws′ : List ℕ) (r : ℕ) : Type 0 where
-  waits : getD sp v 0 ≡ 0 → sp′ ≡ sp → ws′ ≡ ws → r ≡ tail → Losing v tail sp ws sp′ ws′ r
-  spares : 1 < getD sp v 0 → sp′ ≡ set sp v (getD sp v 0 - 1) → ws′ ≡ ws → r ≡ tail → Losing v tail sp ws sp′ ws′ r
-  opens : getD sp v 0 ≡ 1 → sp′ ≡ set sp v (getD sp v 0 - 1) → tail < 4096 → ws′ ≡ set ws tail v → r ≡ tail + 1 → Losing v tail sp ws sp′ ws′ r
-  full : sp′ ≡ set sp v (getD sp v 0 - 1) → 4096 ≤ tail → ws′ ≡ ws → r ≡ 4097 → Losing v tail sp ws sp′ ws′ r
-
--- v, whose time is z, had a supporter from old on by a row of this day, and has it from new on
-pub data Gated (v z day old new tail : ℕ) (sp ws sp′ ws′ : List ℕ) (r : ℕ) : Type 0 where
-  shut : (old ≤ z → day ≤ z → z < new → ⊥) → sp′ ≡ sp → ws′ ≡ ws → r ≡ tail → Gated v z day old new tail sp ws sp′ ws′ r
-  lost : Losing v tail sp ws sp′ ws′ r → Gated v z day old new tail sp ws sp′ ws′ r
+-- v loses a supporter if y says so, and has `left` to spare then. It stands at the end of the queue, which moves on where that was the last
+pub record Losing (y : Bool) (v tail : ℕ) (sp ws sp′ ws′ : List ℕ) (r : ℕ) : Type 0 where
+  pub left : ℕ
+  pub stored : sp′ ≡ set sp v left
+  pub less : left ≤ getD sp v 0
+  pub lost : y ≡ true → left ≤ getD sp v 0 - 1
+  pub queued : ws′ ≡ set ws tail v
+  pub ended : ((r ≡ tail) × (left ≡ 0 → getD sp v 0 ≡ 0)) ⊎ (r ≡ tail + 1)
 
 -- u rose from old to new: each other account of a first row of a pair, of those below b, has one to spare less if it lost u by that
 pub record Lessened (t : Table) (x : ℕ → ℕ) (lo u b old new : ℕ) (sp₀ sp : List ℕ) : Type 0 where

@@ -1,7 +1,7 @@
 -- From one start to the next, row by row. Behind the links the scratch keeps a time for each row, so that a row whose time changes is seen as it changes.
 --     timeOf t sc j           the time kept for row j
---     Kept t q hi s sc        those are the row times at s
---     Turning t q hi s sc     each is the row's time at s or at the day after it
+--     Kept t q hi s sc        those are the row times at s, and the heads stand at s
+--     Turning t q hi s sc     each is the row's time at s or at the day after it, where the heads stand
 --     Renewed t q hi s sc j   that of row j is its time at the day after s
 --     Passed                  the rows below m are renewed
 --     Walked                  so are the rows of u from next to b that are dated before the time y of u
@@ -33,11 +33,11 @@ unfoldable pub timeOf : Table → List ℕ → ℕ → ℕ
 timeOf t sc j = getD sc (8192 + 3 * size t + j) 0
 
 pub record Kept (t : Table) (q : Query) (hi s : ℕ) (sc : List ℕ) : Type 0 where
-  pub linked : Linked t sc
+  pub linked : Linked t s sc
   pub times : (j : ℕ) → j < size t → timeOf t sc j ≡ rowTime t q hi s j
 
 pub record Turning (t : Table) (q : Query) (hi s : ℕ) (sc : List ℕ) : Type 0 where
-  pub linked : Linked t sc
+  pub linked : Linked t (s + 1) sc
   pub either : (j : ℕ) → j < size t → (timeOf t sc j ≡ rowTime t q hi s j) ⊎ (timeOf t sc j ≡ rowTime t q hi (s + 1) j)
 
 abbrev pub Renewed : Table → Query → ℕ → ℕ → List ℕ → ℕ → Type 0

@@ -1,3 +1,5 @@
+use lib.ListN.{length}
+use mathlib.Core.Path.{_≡_, sym, _∙_}
 use Rattle.rings.proofs.LossLaws.{queued-start, queued-then, leaving-start, leaving-last}
 use Rattle.rings.specs.Inner.Settling.{Leaving, Queued}
 use Rattle.rings.specs.Inner.Peeling.{guess}
@@ -13,18 +15,18 @@ use Rattle.rings.proofs.settle.leave_rows.Lts as lts
 use Rattle.rings.proofs.settle.leave_row.Reads as leave-row-reads
 
 abbrev Inv-loop : tie.InvT-loop
-Inv-loop days first second links k s te lo next times spare₀ queue₀ tail₀ j₀ spare queue tail j = (j ≤ next) × Queued 0 spare₀ queue₀ tail spare queue × Leaving (tableOf days first second) (guess times) lo j spare₀ spare
+Inv-loop days first second links k s te lo next times spare₀ queue₀ tail₀ j₀ spare queue tail j = (j ≤ next) × (length spare ≡ 4096) × (length queue ≡ 4096) × (tail ≤ 4096 → Queued 0 spare₀ queue₀ tail spare queue × Leaving (tableOf days first second) (guess times) lo j spare₀ spare)
 
 abbrev μ-loop : tie.MeasureT-loop
 μ-loop days first second links k s te lo next times spare₀ queue₀ tail₀ j₀ spare queue tail j = next - j
 
 -- src/settle.rt:462:5
 loop-holds : tie.Need-loop-holds Inv-loop μ-loop
-loop-holds c = (c .before .before .before .before .before .before .before .pre .1 .0, queued-start _ _ _ (c .before .before .before .before .before .before .before .pre .1 .5), leaving-start _ _ _ _ _ (c .before .before .before .before .before .before .before .pre .0 .setting) _ (c .before .before .before .before .before .before .before .pre .1 .2) (c .before .before .before .before .before .before .before .pre .1 .3) _ (c .before .before .before .before .before .before .before .pre .1 .4))
+loop-holds c = (c .before .before .before .before .before .before .before .pre .1 .0, c .before .before .before .before .before .before .before .pre .1 .4, c .before .before .before .before .before .before .before .pre .1 .5, λ h. (queued-start _ _ _ (c .before .before .before .before .before .before .before .pre .1 .5), leaving-start _ _ _ _ _ (c .before .before .before .before .before .before .before .pre .0 .setting) _ (c .before .before .before .before .before .before .before .pre .1 .2) (c .before .before .before .before .before .before .before .pre .1 .3) _ (c .before .before .before .before .before .before .before .pre .1 .4)))
 
 -- src/settle.rt:463:9
 leave-row-requires : tie.Need-leave-row-requires Inv-loop μ-loop
-leave-row-requires c κs = (c .before .before .before .before .before .before .before .before .before .before .before .pre .0, (omega (arith, c .before .before .loop-test .taken, c .before .before .before .before .before .before .before .before .before .before .before .pre .1 .1), c .before .before .before .before .before .before .before .before .before .before .before .pre .1 .2, c .before .before .before .before .before .before .before .before .before .before .before .pre .1 .3, c .before .before .before .loop .inv .2 .long, c .before .before .before .loop .inv .1 .long))
+leave-row-requires c κs = (c .before .before .before .before .before .before .before .before .before .before .before .pre .0, (omega (arith, c .before .before .loop-test .taken, c .before .before .before .before .before .before .before .before .before .before .before .pre .1 .1), c .before .before .before .before .before .before .before .before .before .before .before .pre .1 .2, c .before .before .before .before .before .before .before .before .before .before .before .pre .1 .3, c .before .before .before .loop .inv .1, c .before .before .before .loop .inv .2))
 
 -- src/settle.rt:478:9
 add-j : tie.Need-add-j Inv-loop μ-loop
@@ -36,19 +38,19 @@ loop-less c = omega (arith, c .before .before .before .before .before .before .b
 
 -- src/settle.rt:462:5
 loop-again : tie.Need-loop-again Inv-loop μ-loop
-loop-again c = (omega (arith, c .before .before .before .before .before .before .before .loop-test .taken), queued-then (c .before .before .before .before .before .before .before .before .loop .inv .1) (c .before .before .before .before .leave-row .ensures .0), c .before .before .before .before .leave-row .ensures .1 _ (c .before .before .before .before .before .before .before .before .loop .inv .2))
+loop-again c = (omega (arith, c .before .before .before .before .before .before .before .loop-test .taken), (c .before .before .before .before .leave-row .kept .1 .1 .1 .1 .1 .1 .1 .1 .1 .1 .1 .0 ∙ c .before .before .before .before .before .before .before .before .loop .inv .1), (c .before .before .before .before .leave-row .kept .1 .1 .1 .1 .1 .1 .1 .1 .1 .1 .1 .1 .0 ∙ c .before .before .before .before .before .before .before .before .loop .inv .2), λ h. (queued-then (c .before .before .before .before .before .before .before .before .loop .inv .3 (omega (arith, c .before .before .before .before .leave-row .ensures h .0 .grows h, h)) .0) (c .before .before .before .before .leave-row .ensures h .0), c .before .before .before .before .leave-row .ensures h .1 _ (c .before .before .before .before .before .before .before .before .loop .inv .3 (omega (arith, c .before .before .before .before .leave-row .ensures h .0 .grows h, h)) .1)))
 
 -- src/settle.rt:442:1
 same-length : tie.Need-same-length Inv-loop μ-loop
-same-length c = c .before .loop .inv .2 .long ∙ sym (c .before .before .before .before .before .before .before .before .before .pre .1 .4)
+same-length c = c .before .loop .inv .1 ∙ sym (c .before .before .before .before .before .before .before .before .before .pre .1 .4)
 
 -- src/settle.rt:442:1
 same-length-2 : tie.Need-same-length-2 Inv-loop μ-loop
-same-length-2 c = c .before .loop .inv .1 .long ∙ sym (c .before .before .before .before .before .before .before .before .before .pre .1 .5)
+same-length-2 c = c .before .loop .inv .2 ∙ sym (c .before .before .before .before .before .before .before .before .before .pre .1 .5)
 
 -- src/settle.rt:442:1
 returns : tie.Need-returns Inv-loop μ-loop
-returns c = (c .before .loop .inv .1, leaving-last (c .before .loop .inv .2) (c .before .loop .inv .0) (c .loop-test .left))
+returns c = λ h. let i = c .before .loop .inv .3 h in (i .0, leaving-last (i .1) (c .before .loop .inv .0) (c .loop-test .left))
 
 pub leave-rows-spec : {M : Type 1} → statement M
 leave-rows-spec =

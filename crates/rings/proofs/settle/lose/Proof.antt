@@ -1,79 +1,67 @@
 use mathlib.Core.Path.{refl}
-use Rattle.rings.specs.Inner.Settling.{Losing}
 use native.Mathlib.Omega.{arith}
+use Rattle.rings.proofs.LookLaws.{by-most}
+use Rattle.rings.proofs.LossLaws.{losing, under}
 use borrow.Author.Needs.{needs}
 use Rattle.rings.proofs.settle.lose.Statement.{statement}
 use Rattle.rings.proofs.settle.lose.Tie as tie
 use Rattle.rings.proofs.settle.lose.Reads as reads
 use Rattle.rings.proofs.settle.lose.Lts as lts
+use Rattle.rings.proofs.links.put.Reads as put-reads
+use Rattle.rings.proofs.links.wide.Reads as wide-reads
+use Rattle.rings.proofs.settle.one.Reads as one-reads
 
--- src/settle.rt:189:13
+-- src/settle.rt:243:13
 mul-n : tie.Need-mul-n
 mul-n c = search needs
 
--- src/settle.rt:189:13
+-- src/settle.rt:243:13
 slice-read-n : tie.Need-slice-read-n
 slice-read-n c = search needs
 
--- src/settle.rt:191:9
-returns : tie.Need-returns
-returns c = Losing.waits (c .if1 .taken) refl refl refl
+-- src/settle.rt:246:20
+one-requires : tie.Need-one-requires
+one-requires c κs = search needs
 
--- src/settle.rt:193:16
+-- src/settle.rt:246:16
 sub-spare : tie.Need-sub-spare
-sub-spare c = search needs
+sub-spare c = under (c .before .before .before .before .args .test) _ (c .one .ensures)
 
--- src/settle.rt:193:5
+-- src/settle.rt:246:5
 mul-spare : tie.Need-mul-spare
 mul-spare c = search needs
 
--- src/settle.rt:193:5
+-- src/settle.rt:246:5
 slice-write-spare : tie.Need-slice-write-spare
 slice-write-spare c = search needs
 
--- src/settle.rt:195:9
+-- src/settle.rt:247:5
+put-requires : tie.Need-put-requires
+put-requires c κs = search needs
+
+-- src/settle.rt:248:17
+one-requires-2 : tie.Need-one-requires-2
+one-requires-2 c κs = search needs
+
+-- src/settle.rt:248:12
+wide-requires : tie.Need-wide-requires
+wide-requires c κs = search needs
+
+-- src/settle.rt:248:5
+add-result : tie.Need-add-result
+add-result c = omega (arith, c .before .before .before .before .before .before .before .before .before .before .pre .3, c .wide .ensures, by-most (c .before .one2 .ensures))
+
+-- src/settle.rt:239:1
 same-length : tie.Need-same-length
 same-length c = search needs
 
--- src/settle.rt:195:9
-returns-2 : tie.Need-returns-2
-returns-2 c = Losing.spares (c .if2 .taken) refl refl refl
-
--- src/settle.rt:198:9
+-- src/settle.rt:239:1
 same-length-2 : tie.Need-same-length-2
 same-length-2 c = search needs
 
--- src/settle.rt:198:9
-returns-3 : tie.Need-returns-3
-returns-3 c = Losing.full refl (c .if3 .taken) refl refl
-
--- src/settle.rt:200:19
-cast-queue : tie.Need-cast-queue
-cast-queue c = search needs
-
--- src/settle.rt:200:5
-mul-queue : tie.Need-mul-queue
-mul-queue c = search needs
-
--- src/settle.rt:200:5
-slice-write-queue : tie.Need-slice-write-queue
-slice-write-queue c = search needs
-
--- src/settle.rt:201:5
-add-result : tie.Need-add-result
-add-result c = search needs
-
--- src/settle.rt:185:1
-same-length-3 : tie.Need-same-length-3
-same-length-3 c = search needs
-
--- src/settle.rt:185:1
-same-length-4 : tie.Need-same-length-4
-same-length-4 c = search needs
-
--- src/settle.rt:185:1
-returns-4 : tie.Need-returns-4
-returns-4 c = Losing.opens (omega (arith, c .before .before .if1 .left, c .before .if2 .left)) refl (c .if3 .left) refl refl
+-- src/settle.rt:239:1
+returns : tie.Need-returns
+returns c = losing _ _ _ _ _ (c .before .before .before .before .before .before .one .ensures) (c .before .one2 .ensures) refl (c .before .before .before .before .put .ensures) (c .wide .ensures)
 
 pub lose-spec : {M : Type 1} → statement M
 lose-spec =
@@ -81,18 +69,14 @@ lose-spec =
     (tie.spec
     mul-n
     slice-read-n
-    returns
+    one-requires
     sub-spare
     mul-spare
     slice-write-spare
-    same-length
-    returns-2
-    same-length-2
-    returns-3
-    cast-queue
-    mul-queue
-    slice-write-queue
+    put-requires
+    one-requires-2
+    wide-requires
     add-result
-    same-length-3
-    same-length-4
-    returns-4)
+    same-length
+    same-length-2
+    returns)

@@ -1,34 +1,42 @@
-use mathlib.Core.Path.{refl}
-use Rattle.rings.specs.Inner.Settling.{Noting}
+use native.Mathlib.Omega.{arith}
+use Rattle.rings.proofs.LookLaws.{by-most, marked}
 use borrow.Author.Needs.{needs}
 use Rattle.rings.proofs.settle.note.Statement.{statement}
 use Rattle.rings.proofs.settle.note.Tie as tie
 use Rattle.rings.proofs.settle.note.Reads as reads
 use Rattle.rings.proofs.settle.note.Lts as lts
+use Rattle.rings.proofs.settle.one.Reads as one-reads
+use Rattle.rings.proofs.settle.pick.Reads as pick-reads
 
--- src/settle.rt:75:20
-add-t7 : tie.Need-add-t7
-add-t7 c = search needs
+-- src/settle.rt:95:24
+one-requires : tie.Need-one-requires
+one-requires c κs = search needs
 
--- src/settle.rt:74:9
+-- src/settle.rt:95:16
+add-t13 : tie.Need-add-t13
+add-t13 c = omega (arith, c .before .pre .0, by-most (c .one .ensures))
+
+-- src/settle.rt:96:16
+pick-requires : tie.Need-pick-requires
+pick-requires c κs = search needs
+
+-- src/settle.rt:97:38
+one-requires-2 : tie.Need-one-requires-2
+one-requires-2 c κs = search needs
+
+-- src/settle.rt:97:31
+add-pick : tie.Need-add-pick
+add-pick c = omega (arith, c .before .before .before .pre .1, by-most (c .one2 .ensures))
+
+-- src/settle.rt:97:15
+pick-requires-2 : tie.Need-pick-requires-2
+pick-requires-2 c κs = search needs
+
+-- src/settle.rt:86:1
 returns : tie.Need-returns
-returns c = Noting.back (c .if1 .taken) refl refl refl
-
--- src/settle.rt:81:9
-returns-2 : tie.Need-returns-2
-returns-2 c = Noting.nearer (c .before .if1 .left) (c .if2 .taken) refl refl refl
-
--- src/settle.rt:91:19
-add-t8 : tie.Need-add-t8
-add-t8 c = search needs
-
--- src/settle.rt:88:9
-returns-3 : tie.Need-returns-3
-returns-3 c = Noting.level (c .before .before .if1 .left) (c .if3 .taken) refl refl refl
-
--- src/settle.rt:69:1
-returns-4 : tie.Need-returns-4
-returns-4 c = Noting.farther (c .before .before .if1 .left) (c .before .if2 .left) refl refl refl
+returns c = marked _ _ _ _ _ _ (c .before .before .before .one .ensures) (c .before .before .pick .ensures) (c .before .one2 .ensures) (c .pick2 .ensures)
 
 pub note-spec : {M : Type 1} → statement M
-note-spec = tie.close (tie.spec add-t7 returns returns-2 add-t8 returns-3 returns-4)
+note-spec =
+    tie.close
+    (tie.spec one-requires add-t13 pick-requires one-requires-2 add-pick pick-requires-2 returns)

@@ -1,115 +1,121 @@
-use Rattle.rings.proofs.SettleLaws.{account-same, account-rise}
-use mathlib.Core.Path.{sym, _∙_}
 use native.Mathlib.Omega.{arith}
+use mathlib.Core.Path.{sym, _∙_}
+use Rattle.rings.proofs.SettleLaws.{account-same, account-rise}
+use lib.ListN.{length-set}
+use Rattle.rings.proofs.AlongLaws.{ahead-of}
 use borrow.Author.Needs.{needs}
 use Rattle.rings.proofs.settle.settle_account.Statement.{statement}
 use Rattle.rings.proofs.settle.settle_account.Tie as tie
 use Rattle.rings.proofs.settle.settle_account.Reads as reads
 use Rattle.rings.proofs.settle.settle_account.Lts as lts
 use Rattle.rings.proofs.links.entry.Reads as entry-reads
-use Rattle.rings.proofs.links.first_place.Reads as first-place-reads
 use Rattle.rings.proofs.links.put.Reads as put-reads
 use Rattle.rings.proofs.settle.look.Reads as look-reads
 use Rattle.rings.proofs.settle.lose_others.Reads as lose-others-reads
 
--- src/settle.rt:343:9
+-- src/settle.rt:319:9
 entry-requires : tie.Need-entry-requires
 entry-requires c κs = search needs
 
--- src/settle.rt:344:9
-first-place-requires : tie.Need-first-place-requires
-first-place-requires c κs = (c .before .before .before .before .before .before .before .before .before .pre .0 .sound, (c .before .before .before .before .before .before .before .before .before .pre .0 .linked, (omega (arith, c .entry .ensures, c .before .before .before .before .before .before .before .before .before .pre .1 .7))))
+-- src/settle.rt:320:29
+add-entry : tie.Need-add-entry
+add-entry c = omega (arith, c .entry .ensures, c .before .before .before .before .before .before .before .before .before .pre .1 .7)
 
--- src/settle.rt:345:15
+-- src/settle.rt:320:9
+entry-requires-2 : tie.Need-entry-requires-2
+entry-requires-2 c κs = omega (arith, c .entry .ensures, c .before .before .before .before .before .before .before .before .before .pre .1 .7, c .before .before .before .before .before .before .before .before .before .pre .0 .linked .long)
+
+-- src/settle.rt:321:15
 mul-old : tie.Need-mul-old
 mul-old c = search needs
 
--- src/settle.rt:345:15
+-- src/settle.rt:321:15
 slice-read-old : tie.Need-slice-read-old
 slice-read-old c = search needs
 
--- src/settle.rt:346:9
+-- src/settle.rt:322:9
 look-requires : tie.Need-look-requires
-look-requires c κs = (c .before .before .before .before .before .before .before .before .before .before .before .before .pre .0, ((omega (arith, c .before .before .before .entry .ensures, c .before .before .before .before .before .before .before .before .before .before .before .before .pre .1 .7)), c .before .before .before .before .before .before .before .before .before .before .before .before .pre .1 .4, c .before .before .before .before .before .before .before .before .before .before .before .before .pre .1 .8, c .before .before .before .before .before .before .before .before .before .before .before .before .pre .1 .0, c .before .before .first-place .ensures))
+look-requires c κs = (c .before .before .before .before .before .before .before .before .before .before .before .before .pre .0, ((omega (arith, c .before .before .before .entry .ensures, c .before .before .before .before .before .before .before .before .before .before .before .before .pre .1 .7)), c .before .before .before .before .before .before .before .before .before .before .before .before .pre .1 .4, c .before .before .before .before .before .before .before .before .before .before .before .before .pre .1 .8, c .before .before .before .before .before .before .before .before .before .before .before .before .pre .1 .0, (ahead-of _ _ _ _ (c .before .before .before .before .before .before .before .before .before .before .before .before .pre .0 .sound) (c .before .before .before .before .before .before .before .before .before .before .before .before .pre .0 .linked) (omega (arith, c .before .before .before .entry .ensures, c .before .before .before .before .before .before .before .before .before .before .before .before .pre .1 .7)) (c .before .before .before .before .before .before .before .before .before .before .before .before .pre .0 .setting .from-lo) (c .before .before .entry2 .ensures))))
 
--- src/settle.rt:362:9
+-- src/settle.rt:338:9
 same-length : tie.Need-same-length
 same-length c = search needs
 
--- src/settle.rt:362:9
+-- src/settle.rt:338:9
 same-length-2 : tie.Need-same-length-2
 same-length-2 c = search needs
 
--- src/settle.rt:362:9
+-- src/settle.rt:338:9
 returns : tie.Need-returns
 returns c = (c .before .look .ensures .1, λ h. absurd (omega (arith, h)))
 
--- src/settle.rt:368:5
+-- src/settle.rt:344:5
 mul-spare : tie.Need-mul-spare
 mul-spare c = search needs
 
--- src/settle.rt:368:5
+-- src/settle.rt:344:5
 slice-write-spare : tie.Need-slice-write-spare
 slice-write-spare c = search needs
 
--- src/settle.rt:370:9
+-- src/settle.rt:346:9
 same-length-3 : tie.Need-same-length-3
 same-length-3 c = search needs
 
--- src/settle.rt:370:9
+-- src/settle.rt:346:9
 same-length-4 : tie.Need-same-length-4
 same-length-4 c = search needs
 
--- src/settle.rt:370:9
+-- src/settle.rt:346:9
 same-length-5 : tie.Need-same-length-5
 same-length-5 c = search needs
 
--- src/settle.rt:370:9
+-- src/settle.rt:346:9
 returns-2 : tie.Need-returns-2
 returns-2 c = (c .before .before .look .ensures .1, λ h xs Z. account-same _ _ _ _ _ (c .before .before .before .before .before .before .before .before .before .before .before .before .before .before .before .pre .0 .setting) (Z .settling) (omega (arith, c .before .before .before .before .before .before .entry .ensures, c .before .before .before .before .before .before .before .before .before .before .before .before .before .before .before .pre .1 .7)) (c .before .before .look .ensures .0 (c .before .if1 .left)) (Z .waiting) (sym (c .before .before .before .before .before .before .entry .ensures)) (Z .behind) (Z .risen) (c .before .before .before .before .before .before .before .before .before .before .before .before .before .before .before .pre .1 .1) (c .before .before .before .before .before .before .before .before .before .before .before .before .before .before .before .pre .1 .2) (c .if2 .taken))
 
--- src/settle.rt:376:5
+-- src/settle.rt:352:5
 mul-times : tie.Need-mul-times
 mul-times c = search needs
 
--- src/settle.rt:376:5
+-- src/settle.rt:352:5
 slice-write-times : tie.Need-slice-write-times
 slice-write-times c = search needs
 
--- src/settle.rt:377:5
+-- src/settle.rt:353:5
 put-requires : tie.Need-put-requires
 put-requires c κs = search needs
 
--- src/settle.rt:378:9
+-- src/settle.rt:354:9
 lose-others-requires : tie.Need-lose-others-requires
-lose-others-requires c κs = (c .before .before .before .before .before .before .before .before .before .before .before .before .before .before .before .before .before .before .before .before .before .before .pre .0, ((omega (arith, c .before .before .before .before .before .before .before .before .before .before .before .before .before .entry .ensures, c .before .before .before .before .before .before .before .before .before .before .before .before .before .before .before .before .before .before .before .before .before .before .pre .1 .7)), search (needs, c .before .before .before .before .before .before .before .before .before .before .before .before .before .before .before .before .before .before .before .before .before .before .pre .1 .4), search (needs, c .before .before .before .before .before .before .before .before .before .before .before .before .before .before .before .before .before .before .before .before .before .before .pre .1 .5), c .before .before .before .before .before .put .kept .0 ∙ c .before .before .before .before .before .before .before .before .before .before .before .before .before .before .before .before .before .before .before .before .before .before .pre .1 .6, c .before .before .before .before .before .before .before .before .before .before .before .before .first-place .ensures))
+lose-others-requires c κs = (c .before .before .before .before .before .before .before .before .before .before .before .before .before .before .before .before .before .before .before .before .before .before .pre .0, ((omega (arith, c .before .before .before .before .before .before .before .before .before .before .before .before .before .entry .ensures, c .before .before .before .before .before .before .before .before .before .before .before .before .before .before .before .before .before .before .before .before .before .before .pre .1 .7)), search (needs, c .before .before .before .before .before .before .before .before .before .before .before .before .before .before .before .before .before .before .before .before .before .before .pre .1 .4), search (needs, c .before .before .before .before .before .before .before .before .before .before .before .before .before .before .before .before .before .before .before .before .before .before .pre .1 .5), c .before .before .before .before .before .put .kept .0 ∙ c .before .before .before .before .before .before .before .before .before .before .before .before .before .before .before .before .before .before .before .before .before .before .pre .1 .6, (ahead-of _ _ _ _ (c .before .before .before .before .before .before .before .before .before .before .before .before .before .before .before .before .before .before .before .before .before .before .pre .0 .sound) (c .before .before .before .before .before .before .before .before .before .before .before .before .before .before .before .before .before .before .before .before .before .before .pre .0 .linked) (omega (arith, c .before .before .before .before .before .before .before .before .before .before .before .before .before .entry .ensures, c .before .before .before .before .before .before .before .before .before .before .before .before .before .before .before .before .before .before .before .before .before .before .pre .1 .7)) (c .before .before .before .before .before .before .before .before .before .before .before .before .before .before .before .before .before .before .before .before .before .before .pre .0 .setting .from-lo) (c .before .before .before .before .before .before .before .before .before .before .before .before .entry2 .ensures))))
 
--- src/settle.rt:397:16
+-- src/settle.rt:373:16
 add-t24 : tie.Need-add-t24
 add-t24 c = omega (arith, c .before .before .before .before .before .before .before .before .before .before .before .before .before .before .before .before .before .before .before .before .before .before .before .before .before .before .before .pre .1 .1, c .before .before .before .before .before .before .before .before .before .before .before .before .before .before .before .before .before .before .before .before .before .before .before .before .before .before .before .pre .1 .2, c .before .before .before .before .before .before .before .before .before .before .before .before .before .before .before .before .before .before .before .before .before .before .before .before .before .before .before .pre .1 .3)
 
--- src/settle.rt:322:1
+-- src/settle.rt:298:1
 same-length-6 : tie.Need-same-length-6
 same-length-6 c = search needs
 
--- src/settle.rt:322:1
+-- src/settle.rt:298:1
 same-length-7 : tie.Need-same-length-7
-same-length-7 c = c .before .before .before .before .lose-others .ensures .0 .long ∙ sym (c .before .before .before .before .before .before .before .before .before .before .before .before .before .before .before .before .before .before .before .before .before .before .before .before .before .before .before .pre .1 .5)
+same-length-7 c = c .before .before .before .before .lose-others .kept .1 .1 .1 .1 .1 .1 .1 .1 .1 .1 .1 .1 .1 .1 .0 ∙ length-set (c .before .before .before .before .before .before .before .before .before .before .before .before .before .before .before .before .before .before .before .before .before .before .before .before .before .before .before .args .spare .now) (c .before .before .before .before .before .before .before .before .before .before .before .before .before .before .before .before .before .before .entry .result) (c .before .before .before .before .before .before .before .before .before .before .before .before .before .before .look .result .spare)
 
--- src/settle.rt:322:1
+-- src/settle.rt:298:1
 same-length-8 : tie.Need-same-length-8
 same-length-8 c = search needs
 
--- src/settle.rt:322:1
+-- src/settle.rt:298:1
 returns-3 : tie.Need-returns-3
-returns-3 c = (c .before .before .before .before .before .before .before .before .before .before .before .before .before .before .look .ensures .1, λ h xs Z. account-rise _ _ _ _ _ (c .before .before .before .before .before .before .before .before .before .before .before .before .before .before .before .before .before .before .before .before .before .before .before .before .before .before .before .pre .0 .setting) (Z .settling) (omega (arith, c .before .before .before .before .before .before .before .before .before .before .before .before .before .before .before .before .before .before .entry .ensures, c .before .before .before .before .before .before .before .before .before .before .before .before .before .before .before .before .before .before .before .before .before .before .before .before .before .before .before .pre .1 .7)) (c .before .before .before .before .before .before .before .before .before .before .before .before .before .before .look .ensures .0 (c .before .before .before .before .before .before .before .before .before .before .before .before .before .if1 .left)) (Z .waiting) (sym (c .before .before .before .before .before .before .before .before .before .before .before .before .before .before .before .before .before .before .entry .ensures)) (Z .behind) (Z .risen) (c .before .before .before .before .before .before .before .before .before .before .before .before .before .before .before .before .before .before .before .before .before .before .before .before .before .before .before .pre .1 .1) (c .before .before .before .before .before .before .before .before .before .before .before .before .before .before .before .before .before .before .before .before .before .before .before .before .before .before .before .pre .1 .2) (c .before .before .before .before .before .before .before .before .before .before .put .ensures) (c .before .before .before .before .lose-others .ensures .0) (c .before .before .before .before .lose-others .ensures .1) h)
+returns-3 c = (c .before .before .before .before .before .before .before .before .before .before .before .before .before .before .look .ensures .1, λ h xs Z. account-rise _ _ _ _ _ (c .before .before .before .before .before .before .before .before .before .before .before .before .before .before .before .before .before .before .before .before .before .before .before .before .before .before .before .pre .0 .setting) (Z .settling) (omega (arith, c .before .before .before .before .before .before .before .before .before .before .before .before .before .before .before .before .before .before .entry .ensures, c .before .before .before .before .before .before .before .before .before .before .before .before .before .before .before .before .before .before .before .before .before .before .before .before .before .before .before .pre .1 .7)) (c .before .before .before .before .before .before .before .before .before .before .before .before .before .before .look .ensures .0 (c .before .before .before .before .before .before .before .before .before .before .before .before .before .if1 .left)) (Z .waiting) (sym (c .before .before .before .before .before .before .before .before .before .before .before .before .before .before .before .before .before .before .entry .ensures)) (Z .behind) (Z .risen) (c .before .before .before .before .before .before .before .before .before .before .before .before .before .before .before .before .before .before .before .before .before .before .before .before .before .before .before .pre .1 .1) (c .before .before .before .before .before .before .before .before .before .before .before .before .before .before .before .before .before .before .before .before .before .before .before .before .before .before .before .pre .1 .2) (c .before .before .before .before .before .before .before .before .before .before .put .ensures) (c .before .before .before .before .lose-others .ensures h .0) (c .before .before .before .before .lose-others .ensures h .1) h)
 
 pub settle-account-spec : {M : Type 1} → statement M
 settle-account-spec =
     tie.close
     (tie.spec
     entry-requires
-    first-place-requires
+    add-entry
+    entry-requires-2
     mul-old
     slice-read-old
     look-requires

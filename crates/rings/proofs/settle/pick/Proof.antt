@@ -1,0 +1,17 @@
+use mathlib.Core.Path.{refl}
+use Rattle.rings.proofs.WordLaws.{clash}
+use Rattle.rings.proofs.settle.pick.Statement.{statement}
+use Rattle.rings.proofs.settle.pick.Tie as tie
+use Rattle.rings.proofs.settle.pick.Reads as reads
+use Rattle.rings.proofs.settle.pick.Lts as lts
+
+-- src/settle.rt:58:1
+returns : tie.Need-returns
+returns c = (λ e. refl, λ e. clash (c .if1 .taken) e)
+
+-- src/settle.rt:58:1
+returns-2 : tie.Need-returns-2
+returns-2 c = (λ e. clash e (c .if1 .left), λ e. refl)
+
+pub pick-spec : {M : Type 1} → statement M
+pick-spec = tie.close (tie.spec returns returns-2)
