@@ -60,7 +60,7 @@ linked-by {t} L E H =
 head-first : (t : Table) (u p : ℕ) → p ≡ placeOf t u → Head t u 0 p
 head-first t u p e = record { from = omega arith; to = let g = place-step t u in omega arith; before = λ i l k h. absurd (omega arith) }
 
-pub linked-first : {t : Table} {sc : List ℕ} → Book t (size t) (size t) sc → Linked t 0 sc
+pub linked-first : {t : Table} {sc : List ℕ} → Book t (size t) sc → Linked t 0 sc
 linked-first {t} {sc} B = record { long = B .long; cursors = B .cursors; heads = λ u l. head-first t u (getD sc (4096 + u) 0) (B .starts u l); book = B .book; pairs = B .pairs }
 
 pub linked-later : {t : Table} {a b : ℕ} {sc : List ℕ} → Linked t a sc → a ≤ b → Linked t b sc

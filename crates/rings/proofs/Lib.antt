@@ -9,6 +9,7 @@ pub mod CheckLaws
 pub mod TableLaws
 pub mod PairLaws
 pub mod LinkLaws
+pub mod SlotLaws
 pub mod BookLaws
 pub mod FallLaws
 pub mod AlongLaws
