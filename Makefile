@@ -30,14 +30,14 @@ list: kit
 
 test: kit layout proofs refusals hosts verdict
 
-# The proofs hold for one kit. Another may prove them too, but nobody has looked.
+# The kits of the file KIT have proved this repository. Another may too, but nobody has looked.
 kit:
-	@command -v $(RT) >/dev/null || { echo "kit: no $(RT) in the PATH; the kit wanted is: $$(cat KIT)"; exit 1; }
-	@found=$$($(RT) version); pinned=$$(cat KIT); \
-	if [ "$$found" != "$$pinned" ]; then \
-	    echo "kit: another kit than the one pinned"; \
+	@command -v $(RT) >/dev/null || { echo "kit: no $(RT) in the PATH; the kits wanted are those of the file KIT:"; cat KIT; exit 1; }
+	@found=$$($(RT) version); \
+	if ! grep -qxF -- "$$found" KIT; then \
+	    echo "kit: another kit than those of the file KIT"; \
 	    echo "kit: found   $$found"; \
-	    echo "kit: pinned  $$pinned (file KIT)"; \
+	    sed 's/^/kit: listed  /' KIT; \
 	    exit 1; \
 	fi; \
 	echo "kit: $$found"
