@@ -18,7 +18,7 @@ use lib.Seq.{getD-set-same, getD-set-other}
 use lib.Dec.{leb, eqb}
 use borrow.Author.Tests.{leb-true, leb-false, eqb-true, eqb-false, eq-eqb, ne-eqb}
 use Rattle.rings.specs.Words.{at}
-use Rattle.rings.specs.Table.{Table, tableOf, size, firstOf, secondOf}
+use Rattle.rings.specs.Table.{Table, tableOf, firstOf, secondOf}
 use Rattle.rings.specs.Ring.{joins}
 use Rattle.rings.specs.Inner.Sound.{Sound}
 use Rattle.rings.specs.Inner.Links.{pairBefore, earlier, slot, slotOf, slotBefore, Emptied, Chained, Pairing}

@@ -1,5 +1,4 @@
 use Rattle.rings.proofs.DayLaws.{placed-of, span-after}
-use Rattle.rings.proofs.DayLaws.{ready-of, span-after}
 use Rattle.rings.proofs.SettleLaws.{core-days, split-rises, settle-start, all-risen}
 use mathlib.Core.Path.{_∙_}
 use native.Mathlib.Omega.{arith}

@@ -1,5 +1,5 @@
 use native.Mathlib.Omega.{arith}
-use mathlib.Core.Path.{refl, sym, _∙_}
+use mathlib.Core.Path.{refl}
 use Rattle.rings.proofs.LossLaws.{losing-less, queued-start, queued-losing, losing-on, leaving-row, first-is, second-is, day-of, first-small, second-small, is-first}
 use borrow.Author.Needs.{needs}
 use Rattle.rings.proofs.settle.leave_row.Statement.{statement}

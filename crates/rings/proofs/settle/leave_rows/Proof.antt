@@ -4,9 +4,7 @@ use Rattle.rings.proofs.LossLaws.{queued-start, queued-then, leaving-st
 use Rattle.rings.specs.Inner.Settling.{Leaving, Queued}
 use Rattle.rings.specs.Inner.Peeling.{guess}
 use Rattle.rings.specs.Table.{tableOf}
-use mathlib.Core.Path.{sym, _∙_}
 use Prim.Native.Nat.{_-_, _≤_}
-use native.Mathlib.Nat.{le-refl}
 use native.Mathlib.Omega.{arith}
 use Rattle.rings.proofs.settle.leave_rows.Statement.{statement}
 use Rattle.rings.proofs.settle.leave_rows.Tie as tie
