@@ -1,7 +1,7 @@
 -- The loops over the ends of a start and over the starts of a range, and the call (src/list.rt).
 --     progress-start, progress-next, progress-end, enter-lengths     entries counted, summed up and written, one after the other
 --     sum-next, ends-none, ends-skip, ends-one, ends-end, start-as     the ends of a start
---     rest-first, rest-next, rest-end                 the starts of a range
+--     rest-first, rest-next, rest-end, rest-quiet     the starts of a range
 --     room-most, room-counted                         what `has_room` returns
 --     find-refused, find-done                         what `find_rings` returns
 --     list-refused, list-done                         and `list_rings`
@@ -10,15 +10,16 @@ use Prim.Native.Nat.{ℕ, zero, suc, _+_, _-_, _≤_, _<_}
 use native.Mathlib.Numerals.{add-one}
 use native.Mathlib.Omega.{arith}
 use mathlib.Core.Path.{_≡_, refl, sym, _∙_, ap, subst}
-use mathlib.Core.Logic.{⊎-elim}
+use mathlib.Core.Logic.{_⊎_, ⊎-elim}
 use mathlib.Core.Bool.{Bool, true, false}
 use mathlib.Core.List.{List, [], _∷_, _++_, append-assoc, append-nil, map}
-use lib.ListN.{length, getD, set, drop, replicate, length-append, length-map, length-drop, length-set}
+use lib.ListN.{length, getD, set, drop, replicate, length-append, length-map, length-drop, length-set, length-replicate, getD-replicate}
 use lib.Seq.{take-all, take-nil, take-append-le}
 use lib.Dec.{leb, ltb, eqb}
-use borrow.Author.Tests.{leb-true, leb-false, le-leb, lt-ltb, le-ltb}
+use borrow.Author.Tests.{leb-true, leb-false, le-leb, lt-ltb, le-ltb, eq-eqb, ne-eqb}
 use Rattle.rings.specs.Words.{_and_, no, at, run, joined, kept, chosen}
 use Rattle.rings.specs.Table.{Table, size}
+use Rattle.rings.specs.CoreTimes.{never, rowTime}
 use Rattle.rings.specs.Windows.{Window, windowsFrom, windows}
 use Rattle.rings.specs.Refusals.{behindScratch}
 use Rattle.rings.specs.Buffers.{over, cleared, clearedIf, scratchOn}
@@ -29,7 +30,8 @@ use Rattle.rings.specs.declared.refusal.Refusal.{Refusal}
 use Rattle.rings.specs.declared.refusal.Refusal.the-variants.{BadWindow, BadLengths, NoRoom}
 use Rattle.rings.specs.declared.refusal.Verdict.{Verdict}
 use Rattle.rings.specs.declared.refusal.Verdict.the-variants.{Accepted, Refused}
-use Rattle.rings.proofs.WordLaws.{look, and-r}
+use Rattle.rings.proofs.WordLaws.{look, and-r, count-none, count-pos}
+use Rattle.rings.proofs.CoreTimeLaws.{row-time, row-past, row-later}
 use Rattle.rings.proofs.CallLaws.{shared, scratch-kept}
 use Rattle.listing.specs.Tight.{tight}
 use Rattle.listing.specs.Listing.{ListedRing, entryOf, listing, rowSum}
@@ -236,6 +238,36 @@ module _ (t : Table) (q : Query) where
   pub rest-end : (hi s : ℕ) → hi < s → restFrom t q hi s ≡ []
   unfolding restFrom joined run
   rest-end hi s h = let m : suc hi - s ≡ 0 = omega arith in ap (λ (n : ℕ). joined (run (startEntries t q hi) s n)) m
+
+  -- no row has a core time at s
+  abbrev Quiet : ℕ → ℕ → Type 0
+  Quiet hi s = (j : ℕ) → rowTime t q hi s j ≡ never
+
+  quiet-start : (hi s : ℕ) → hi ≤ 1024 → s ≤ hi → Quiet hi s → startEntries t q hi s ≡ []
+  quiet-start hi s top o Q = sym (entries-are t q hi s top counts least o) ∙ none-listed (replicate 1025 0) never s s 0 (hi + 1 - s) (omega arith)
+    where
+      counts : Timed t q hi s (size t) (replicate 1025 0)
+      counts = record { long = length-replicate {A = ℕ} 1025 0; each = λ e h. getD-replicate {A = ℕ} 1025 e 0 0 h ∙ sym (count-none (λ j. eqb (rowTime t q hi s j) e) (size t) (λ j l. ne-eqb (rowTime t q hi s j) e (λ y. let n = Q j in omega arith))) }
+
+      least : Earliest t q hi s never
+      least = record { lower = λ j h. let n = Q j in omega arith; reached = _⊎_.inl refl }
+
+  quiet-later : (hi s : ℕ) → hi < never → Quiet hi s → Quiet hi (s + 1)
+  quiet-later hi s fits Q j = ⊎-elim (λ n. n) (λ r. let a = r .1 in let b = Q j in let c : rowTime t q hi s j ≤ rowTime t q hi (s + 1) j = row-later t q hi fits (omega arith) j in absurd (omega arith)) (row-time t q hi (s + 1) j)
+
+  rest-none : (m hi s : ℕ) → hi ≤ 1024 → suc hi - s ≡ m → Quiet hi s → restFrom t q hi s ≡ []
+  rest-none zero hi s top e Q = rest-end hi s (omega arith)
+  rest-none (suc m) hi s top e Q = rest-next hi s (omega arith) ∙ (ap (λ (ls : List ListedRing). ls ++ restFrom t q hi (s + 1)) (quiet-start hi s top (omega arith) Q) ∙ rest-none m hi (s + 1) top (omega arith) (quiet-later hi s (omega arith) Q))
+
+  -- where no day of the range is a row's core time, no start from s on has an entry
+  pub rest-quiet : (hi s : ℕ) → hi ≤ 1024 → {xs : List ℕ} → Timed t q hi s (size t) xs → ((e : ℕ) → s ≤ e → e ≤ hi → getD xs e 0 ≡ 0) → restFrom t q hi s ≡ []
+  rest-quiet hi s top {xs} T z = rest-none (suc hi - s) hi s top refl quiet
+    where
+      quiet : Quiet hi s
+      quiet j =
+          ⊎-elim (λ n. n)
+          (λ r. ⊎-elim (λ y. row-past t q hi s j (leb-true (size t) j y)) (λ y. let a = T .each (rowTime t q hi s j) (let b = r .1 in omega arith) in let c = z (rowTime t q hi s j) (r .0) (r .1) in let d = count-pos (λ i. eqb (rowTime t q hi s i) (rowTime t q hi s j)) (size t) j (leb-false (size t) j y) (eq-eqb (rowTime t q hi s j) (rowTime t q hi s j) refl) in absurd (omega arith)) (look (leb (size t) j)))
+          (row-time t q hi s j)
 
 -- ---- the end of a pass
 
