@@ -7,6 +7,8 @@
 --     row-before, row-after, row-past     a row before s, after hi or outside the table has never
 --     ring-size                a ring has as many rows as have a core time of at most its end
 --     account-later, row-later            core times rise with the start
+--     account-never, row-never            so what has none has none later
+--     rows-quiet               where no account has a core time no row has one
 -- Assumes nothing.
 use Prim.Native.Nat.{ℕ, zero, suc, _+_, _-_, max, _≤_, _<_}
 use native.Mathlib.Nat.{le-refl, le-trans, le-antisymm, eq-or-lt-of-le}
@@ -196,3 +198,14 @@ module _ (t : Table) (q : Query) (hi : ℕ) where
         go (_⊎_.inr r) =
             row-reach-i s j (rowTime t q hi s′ j) (le-trans later (r .0)) (r .1)
             (in-grows t q j later (le-refl (rowTime t q hi s′ j)) (row-reach-e s′ fits j (rowTime t q hi s′ j) (r .1) (le-refl (rowTime t q hi s′ j))))
+
+    pub account-never : (u : ℕ) → accountTime t q hi s u ≡ never → accountTime t q hi s′ u ≡ never
+    account-never u e = let a = account-later u in let b = time-le {s = s′} {hi = hi} fits (account-time s′ u) in omega arith
+
+    pub row-never : (j : ℕ) → rowTime t q hi s j ≡ never → rowTime t q hi s′ j ≡ never
+    row-never j e = let a = row-later j in let b = time-le {s = s′} {hi = hi} fits (row-time s′ j) in omega arith
+
+  pub rows-quiet : hi < never → (s : ℕ) → ((u : ℕ) → u < 4096 → accountTime t q hi s u ≡ never) → (j : ℕ) → firstOf t j < 4096 → rowTime t q hi s j ≡ never
+  rows-quiet fits s quiet j l =
+      ⊎-elim (λ n. n) (λ r. let h = r .1 in let k = row-reach-e s fits j (rowTime t q hi s j) h (le-refl (rowTime t q hi s j)) in let a = account-reach-i s (firstOf t j) (rowTime t q hi s j) (r .0) h (met-first t q s (rowTime t q hi s j) j k) in let e = quiet (firstOf t j) l in absurd (omega arith))
+      (row-time s j)
