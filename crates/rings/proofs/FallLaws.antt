@@ -264,7 +264,7 @@ module _ (t : Table) (q : Query) (s hi lo : ℕ) (S : Setting t q s hi lo) where
         raised : (c : ℕ) → e ≤ c → (u : ℕ) → (c ≡ never) ⊎ (q .k ≤ supporters t (guess x) s c u) → (c ≡ never) ⊎ (q .k ≤ supporters t (guess (set x v e)) s c u)
         raised c h u = ⊎-elim _⊎_.inl (λ k. _⊎_.inr (le-trans k (supporters-mono t (guess x) (guess (set x v e)) s c u (guess-keeps c h))))
 
-    pub queue-fall : {head tail : ℕ} {walked : ℕ → Bool} {w : List ℕ} → length w ≡ 4096 → Queue head tail walked x w → Queue head (tail + 1) walked (set x v e) (set w tail v)
+    pub queue-fall : {head tail : ℕ} {walked : ℕ → Bool} {w : List ℕ} → 4096 ≤ length w → Queue head tail walked x w → Queue head (tail + 1) walked (set x v e) (set w tail v)
     queue-fall {head} {tail} {walked} {w} m Q =
         record {
           walked-fell = λ u h. let f = Q .walked-fell u h in (f .0, keep-fell u (f .1));
@@ -382,7 +382,7 @@ module _ (t : Table) (q : Query) (s hi lo : ℕ) (S : Setting t q s hi lo) where
         record {
           len-x = length-set x v e ∙ F .len-x;
           len-d = length-set d v (getD d v 0 - 1) ∙ F .len-d;
-          len-w = length-set w tail v ∙ F .len-w;
+          len-w = let a = length-set w tail v in let b = F .len-w in omega arith;
           walked = F .walked;
           live = without (F .live) j v;
           rows = R;

@@ -93,11 +93,11 @@ losing y v tail sp ws {a} {b} {m} A B es ew em =
         (λ k. ⊎-elim (λ o. ⊎-elim (λ e. clash (both k e) h) (λ e. let c = A .0 (both k o) in let i = ltb-true 0 (getD sp v 0) o in absurd (eqb-false (getD sp v 0) 1 e (omega arith))) (look (eqb (getD sp v 0) 1))) (λ o. let e = ltb-false 0 (getD sp v 0) o in omega arith) (look (ltb 0 (getD sp v 0))))
         (λ k. let c = A .1 (not-first (ltb 0 (getD sp v 0)) k) in omega arith) (look y)
 
-pub queued-start : (tail : ℕ) (sp ws : List ℕ) → length ws ≡ 4096 → Queued tail sp ws tail sp ws
+pub queued-start : (tail : ℕ) (sp ws : List ℕ) → length ws ≡ 4352 → Queued tail sp ws tail sp ws
 queued-start tail sp ws l = record { long = l; grows = λ h. le-refl tail; front = λ i h o. refl; waits = λ h u k z. _⊎_.inl z; small = λ i a b. absurd (omega arith) }
 
 -- an account stands at the end of the queue, or behind it, and the rest stays
-pub queued-losing : {y : Bool} {v tail r r′ : ℕ} {sp₀ ws₀ sp ws sp′ ws′ : List ℕ} → v < 4096 → r < 4096 → length sp ≡ 4096 → Queued tail sp₀ ws₀ r sp ws → Losing y v r sp ws sp′ ws′ r′ → Queued tail sp₀ ws₀ r′ sp′ ws′
+pub queued-losing : {y : Bool} {v tail r r′ : ℕ} {sp₀ ws₀ sp ws sp′ ws′ : List ℕ} → v < 4096 → r < 4352 → length sp ≡ 4096 → Queued tail sp₀ ws₀ r sp ws → Losing y v r sp ws sp′ ws′ r′ → Queued tail sp₀ ws₀ r′ sp′ ws′
 queued-losing {y} {v} {tail} {r} {r′} {sp₀} {ws₀} {sp} {ws} {sp′} {ws′} small room len Q L =
     record {
       long = ap length (L .queued) ∙ (length-set ws r v ∙ Q .long);
@@ -135,7 +135,7 @@ queued-then {a} {b} {c} {sp} {ws} {sp₁} {ws₁} {sp₂} {ws₂} P Q =
     record {
       long = Q .long;
       grows = λ h. let m = Q .grows h in let n = P .grows (omega arith) in omega arith;
-      front = λ i h o. Q .front i (⊎-elim (λ y. let n = P .grows (leb-true b 4096 y) in omega arith) (λ y. let n = leb-false b 4096 y in omega arith) (look (leb b 4096))) o ∙ P .front i h o;
+      front = λ i h o. Q .front i (⊎-elim (λ y. let n = P .grows (leb-true b 4352 y) in omega arith) (λ y. let n = leb-false b 4352 y in omega arith) (look (leb b 4352))) o ∙ P .front i h o;
       waits = λ h u l z.
           let m = Q .grows h in
           let n = P .grows (omega arith) in
@@ -186,7 +186,7 @@ module _ (d f g links : List ℕ) (r : Season) (R : Ready d f g links r) (xs : L
   abbrev tw : Table
   tw = tableOf d f g
 
-  pub wave-start : {p : ℕ} → length sp₀ ≡ 4096 → length ws₀ ≡ 4096 → Ahead tw u (r .lo) p → Wave d f g r xs u old new tail sp₀ ws₀ p tail sp₀ ws₀
+  pub wave-start : {p : ℕ} → length sp₀ ≡ 4096 → length ws₀ ≡ 4352 → Ahead tw u (r .lo) p → Wave d f g r xs u old new tail sp₀ ws₀ p tail sp₀ ws₀
   wave-start l m A = let B = begun A in record { b = B .b; along = B .along; done = lessened-start tw (guess xs) (r .lo) u old new sp₀ (B .b) (B .before) l; queued = queued-start tail sp₀ ws₀ m }
 
   module _ {p end last : ℕ} {sp ws : List ℕ} (W : Wave d f g r xs u old new tail sp₀ ws₀ p end sp ws) (ee : last ≡ placeOf tw (suc u)) where
@@ -218,7 +218,7 @@ module _ (d f g links : List ℕ) (r : Season) (R : Ready d f g links r) (xs : L
         pub wave-small : v < 4096
         wave-small = subst (λ (w : ℕ). w < 4096) (sym w-other) (other-small tw (query (r .k)) (r .start) (r .end) (r .lo) (R .setting) j u w-below (along-touch d f g links (R .sound) (R .linked) small (W .along) ee more ej))
 
-        pub wave-next : {y w : Bool} {z end′ : ℕ} {sp′ ws′ : List ℕ} → end < 4096 → y ≡ (leb (r .lo) j and leb (getD links (8192 + 2 * length d + j) 0) (r .lo)) → z ≡ getD xs v 0 → w ≡ ((leb old z && leb day z) && ltb z new) → Losing (y && w) v end sp ws sp′ ws′ end′ → Wave d f g r xs u old new tail sp₀ ws₀ (p + 1) end′ sp′ ws′
+        pub wave-next : {y w : Bool} {z end′ : ℕ} {sp′ ws′ : List ℕ} → end < 4352 → y ≡ (leb (r .lo) j and leb (getD links (8192 + 2 * length d + j) 0) (r .lo)) → z ≡ getD xs v 0 → w ≡ ((leb old z && leb day z) && ltb z new) → Losing (y && w) v end sp ws sp′ ws′ end′ → Wave d f g r xs u old new tail sp₀ ws₀ (p + 1) end′ sp′ ws′
         wave-next {y} {w} {z} room ey ez ew L =
             record {
               b = j + 1;

@@ -185,7 +185,7 @@ module _ (t : Table) (q : Query) (s hi lo : ℕ) (S : Setting t q s hi lo) {xs s
             (⊎-elim (λ e. subst (λ (v : ℕ). (guess xs′ v ≡ never) ⊎ (q .k + getD sp″ v 0 ≤ supporters t (guess xs′) s (guess xs′ v) v + 1)) (sym e) (own sp″ (let a = O .less u in let b = sp-here in omega arith))) (λ n. other sp″ O w l n h) (same-or w u));
       }
 
-  module _ {xs₀ ws : List ℕ} {head tail r : ℕ} (W : Waiting head tail sp ws) (front : getD ws head 0 ≡ u) (B : r ≤ head) (I : Risen xs₀ xs ws r) (here : head < tail) (room : tail ≤ 4096) where
+  module _ {xs₀ ws : List ℕ} {head tail r : ℕ} (W : Waiting head tail sp ws) (front : getD ws head 0 ≡ u) (B : r ≤ head) (I : Risen xs₀ xs ws r) (here : head < tail) (room : tail ≤ 4352) where
     -- who waits stands behind u
     behind : (w : ℕ) → w < 4096 → getD (set sp u m) w 0 ≡ 0 → Place ws (head + 1) tail w
     behind w l z = ⊎-elim (λ e. let a = at-place (set sp u m) e in let b = sp-here in let c = K .known in absurd (omega arith)) (λ n. go n (W .waits w l (sym (getD-set-other sp u w m 0 n) ∙ z))) (same-or w u)
@@ -209,7 +209,7 @@ module _ (t : Table) (q : Query) (s hi lo : ℕ) (S : Setting t q s hi lo) {xs s
         never-less : (j : ℕ) → j < size t → fresh t lo j ≡ true → touches t j u ≡ true → guess xs u ≤ guess xs′ (otherOf t j u) → guess xs′ (otherOf t j u) < y → ⊥
         never-less j k f h a c = let g = guess-at xs u (Z .long) small in omega arith
 
-    pub account-rise : {sp″ ws₁ ws″ : List ℕ} {end : ℕ} → ws₁ ≡ set ws r u → Lessened t (guess (set xs u y)) lo u (size t) (getD xs u 0) y (set sp u m) sp″ → Queued tail (set sp u m) ws₁ end sp″ ws″ → end ≤ 4096 → Rising t q hi s xs₀ (set xs u y) sp″ ws″ (head + 1) end (r + 1)
+    pub account-rise : {sp″ ws₁ ws″ : List ℕ} {end : ℕ} → ws₁ ≡ set ws r u → Lessened t (guess (set xs u y)) lo u (size t) (getD xs u 0) y (set sp u m) sp″ → Queued tail (set sp u m) ws₁ end sp″ ws″ → end ≤ 4352 → Rising t q hi s xs₀ (set xs u y) sp″ ws″ (head + 1) end (r + 1)
     unfolding xs′
     account-rise {sp″} {ws₁} {ws″} {end} ew O Q top =
         let up = Q .grows top in
@@ -297,7 +297,7 @@ module _ (d f g : List ℕ) (k s te lo : ℕ) (S : Setting (tableOf d f g) (quer
         let b = backers-are ts (query k) (s + 1) te next S′ (guess xs) c u in
         let m = count-split (backing ts (guess xs) lo c u) (backing ts (guess xs) next c u) next (length d) within (λ i h l o. backing-on c u i h o) in omega arith
 
-    pub settle-start : r ≤ 4096 → Rising ts (query k) te (s + 1) xs xs sp ws 0 r 0
+    pub settle-start : r ≤ 4352 → Rising ts (query k) te (s + 1) xs xs sp ws 0 r 0
     settle-start top =
         record {
           settling =
@@ -350,20 +350,20 @@ module _ (d f g : List ℕ) (k s te lo : ℕ) (S : Setting (tableOf d f g) (quer
 
 -- ---- lists written from the front
 
-pub record Filled (g : ℕ → ℕ) (n : ℕ) (xs : List ℕ) : Type 0 where
-  pub long : length xs ≡ 4096
+pub record Filled (g : ℕ → ℕ) (m n : ℕ) (xs : List ℕ) : Type 0 where
+  pub long : length xs ≡ m
   pub filled : (i : ℕ) → i < n → getD xs i 0 ≡ g i
 
-pub filled-start : (g : ℕ → ℕ) (xs : List ℕ) → length xs ≡ 4096 → Filled g 0 xs
+pub filled-start : (g : ℕ → ℕ) {m : ℕ} (xs : List ℕ) → length xs ≡ m → Filled g m 0 xs
 filled-start g xs l = record { long = l; filled = λ i h. absurd (not-suc-le-zero h) }
 
-pub filled-next : {g : ℕ → ℕ} {n z : ℕ} {xs ys : List ℕ} → Filled g n xs → n < 4096 → z ≡ g n → ys ≡ set xs n z → Filled g (n + 1) ys
-filled-next {g} {n} {z} {xs} F l e h =
-    subst (Filled g (n + 1)) (sym h)
+pub filled-next : {g : ℕ → ℕ} {m n z : ℕ} {xs ys : List ℕ} → Filled g m n xs → n < m → z ≡ g n → ys ≡ set xs n z → Filled g m (n + 1) ys
+filled-next {g} {m} {n} {z} {xs} F l e h =
+    subst (Filled g m (n + 1)) (sym h)
     (record {
       long = length-set xs n z ∙ F .long;
-      filled = λ i k. ⊎-elim (λ y. ap (λ (a : ℕ). getD (set xs n z) a 0) y ∙ (getD-set-same xs n z 0 (let m = F .long in omega arith) ∙ (e ∙ ap g (sym y)))) (λ y. getD-set-other xs n i z 0 (λ o. let w : i ≡ n = o in absurd (omega arith)) ∙ F .filled i y) (eq-or-lt-of-le (omega arith));
+      filled = λ i k. ⊎-elim (λ y. ap (λ (a : ℕ). getD (set xs n z) a 0) y ∙ (getD-set-same xs n z 0 (let o = F .long in omega arith) ∙ (e ∙ ap g (sym y)))) (λ y. getD-set-other xs n i z 0 (λ o. let w : i ≡ n = o in absurd (omega arith)) ∙ F .filled i y) (eq-or-lt-of-le (omega arith));
     })
 
-pub all-risen : {xs ys ws : List ℕ} → length ws ≡ 4096 → ((u : ℕ) → u < 4096 → getD ws u 0 ≡ u) → Risen xs ys ws 4096
-all-risen l h = record { long = l; within = le-refl 4096; small = λ i k. let e = h i k in omega arith; listed = λ u k n. record { place = u; from = omega arith; below = k; is = h u k } }
+pub all-risen : {xs ys ws : List ℕ} → length ws ≡ 4352 → ((u : ℕ) → u < 4096 → getD ws u 0 ≡ u) → Risen xs ys ws 4096
+all-risen l h = record { long = l; within = omega arith; small = λ i k. let e = h i k in omega arith; listed = λ u k n. record { place = u; from = omega arith; below = k; is = h u k } }

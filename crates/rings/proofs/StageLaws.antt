@@ -119,7 +119,7 @@ module _ (d f s links : List ℕ) (q : Season) (R : Ready d f s links q) where
       zero-c : getD x (secondOf t j) 0 ≡ 0
       zero-c = ap (λ (g : ℕ). getD x g 0) (sym c-is) ∙ (sym vc-is ∙ zc)
 
-      pub leave-room-a : ((a < 4096) × (length x ≡ 4096) × (length l ≡ 4096) × (length w ≡ 4096)) × (getD x a 0 ≡ 0 → (0 < getD l a 0) × (tail < 4096))
+      pub leave-room-a : ((a < 4096) × (length x ≡ 4096) × (length l ≡ 4096) × (4096 ≤ length w)) × (getD x a 0 ≡ 0 → (0 < getD l a 0) × (tail < 4096))
       leave-room-a =
           let k = a-small in (
             (omega arith, F .len-x, F .len-d, F .len-w),
@@ -136,10 +136,10 @@ module _ (d f s links : List ℕ) (q : Season) (R : Ready d f s links q) where
         one-is : one ≡ fallen x₁
         one-is = leave-tail t (query (q .k)) (q .start) (q .end) (q .lo) (R .setting) G e-day b f-is zero-a zero-c L′
 
-        pub leave-room-b : ((c < 4096) × (length x₁ ≡ 4096) × (length l₁ ≡ 4096) × (length w₁ ≡ 4096)) × (getD x₁ c 0 ≡ 0 → (0 < getD l₁ c 0) × (one < 4096))
+        pub leave-room-b : ((c < 4096) × (length x₁ ≡ 4096) × (length l₁ ≡ 4096) × (4096 ≤ length w₁)) × (getD x₁ c 0 ≡ 0 → (0 < getD l₁ c 0) × (one < 4096))
         leave-room-b =
             let k = b-small in (
-              (omega arith, n₁ ∙ F .len-x, n₂ ∙ F .len-d, n₃ ∙ F .len-w),
+              (omega arith, n₁ ∙ F .len-x, n₂ ∙ F .len-d, let o = F .len-w in omega arith),
               λ z. (
                 subst (λ (g : ℕ). 0 < getD l₁ g 0) (sym c-is) (leave-second-one t (query (q .k)) (q .start) (q .end) (q .lo) (R .setting) G e-day b f-is zero-a zero-c L′ (ap (λ (g : ℕ). getD x₁ g 0) (sym c-is) ∙ z)),
                 subst (λ (g : ℕ). g < 4096) (sym one-is) (room x₁ c (omega arith) z),
@@ -298,7 +298,7 @@ module _ (d f s links : List ℕ) (q : Season) (R : Ready d f s links q) where
 
   -- ---- the first state, and weed
 
-  pub fall-start : (x₀ : List ℕ) {x l w : List ℕ} {end : ℕ} → length x₀ ≡ 4096 → x ≡ replicate (length x₀) 0 → Counted t (q .lo) end l → length w ≡ 4096 → end ≤ length d → ((j : ℕ) → end ≤ j → j < length d → q .end < dayOf t j) → Falls 0 never end 0 0 x l w
+  pub fall-start : (x₀ : List ℕ) {x l w : List ℕ} {end : ℕ} → length x₀ ≡ 4096 → x ≡ replicate (length x₀) 0 → Counted t (q .lo) end l → 4096 ≤ length w → end ≤ length d → ((j : ℕ) → end ≤ j → j < length d → q .end < dayOf t j) → Falls 0 never end 0 0 x l w
   fall-start x₀ {x} {l} {w} {end} n ex C m within later =
       record {
         len-x = ap length ex ∙ (length-replicate {A = ℕ} (length x₀) 0 ∙ n);
@@ -396,7 +396,7 @@ module _ (d f s links : List ℕ) (q : Season) (R : Ready d f s links q) where
               state = record {
                 len-x = length-set x u never ∙ F .len-x;
                 len-d = F .len-d;
-                len-w = length-set w last u ∙ F .len-w;
+                len-w = let a = length-set w last u in let b = F .len-w in omega arith;
                 walked = F .walked;
                 live = F .live;
                 rows = F .rows;
@@ -419,7 +419,7 @@ module _ (d f s links : List ℕ) (q : Season) (R : Ready d f s links q) where
     unfolding dayOf at
     later-day = Sp .later
 
-    pub core-start : (x₀ : List ℕ) {x l w : List ℕ} → length x₀ ≡ 4096 → x ≡ replicate (length x₀) 0 → Counted t (q .lo) end l → length w ≡ 4096 → Falls 0 never end 0 0 x l w
+    pub core-start : (x₀ : List ℕ) {x l w : List ℕ} → length x₀ ≡ 4096 → x ≡ replicate (length x₀) 0 → Counted t (q .lo) end l → 4096 ≤ length w → Falls 0 never end 0 0 x l w
     core-start x₀ n ex C m = fall-start x₀ n ex C m (Sp .within) later-day
 
     pub fade-start : {tail : ℕ} {x l w : List ℕ} → Falls 4096 never end tail tail x l w → Fade d f s q end tail x l w

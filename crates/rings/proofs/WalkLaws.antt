@@ -111,7 +111,7 @@ module _ (d f s links : List ℕ) (q : Season) (R : Ready d f s links q) where
             v-small : v < 4096
             v-small = subst (λ (y : ℕ). y < 4096) (sym v-is) (next-small t (query (q .k)) (q .start) (q .end) (q .lo) (R .setting) (A .state) j row-from row-below row-touch row-none)
 
-            pub at-room : ((v < 4096) × (length x ≡ 4096) × (length l ≡ 4096) × (length w ≡ 4096)) × (getD x v 0 ≡ 0 → (0 < getD l v 0) × (last < 4096))
+            pub at-room : ((v < 4096) × (length x ≡ 4096) × (length l ≡ 4096) × (4096 ≤ length w)) × (getD x v 0 ≡ 0 → (0 < getD l v 0) × (last < 4096))
             at-room = (
               (v-small, A .state .state .len-x, A .state .state .len-d, A .state .state .len-w),
               λ z. (

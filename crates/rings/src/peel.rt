@@ -33,7 +33,7 @@ fn lose(
     left: &mut [u16],
     queue: &mut [u16],
 ) -> usize
-    requires { ⌜ (v < 4096) × (length (now times) ≡ 4096) × (length (now left) ≡ 4096) × (length (now queue) ≡ 4096) ⌝ }
+    requires { ⌜ (v < 4096) × (length (now times) ≡ 4096) × (length (now left) ≡ 4096) × (4096 ≤ length (now queue)) ⌝ }
     requires { ⌜ (getD (now times) v 0 ≡ 0 → (0 < getD (now left) v 0) × (tail < 4096)) ⌝ }
     ensures { λ r. ⌜ Lost k e tail v (now (times .entry)) (now (left .entry)) (now (queue .entry)) (now (times .exit)) (now (left .exit)) (now (queue .exit)) r ⌝ }
 {
@@ -329,7 +329,7 @@ pub fn core(
 ) -> usize
     requires { ⌜ Ready (now days) (now first) (now second) (now links) (season k start stop lo) ⌝ }
     requires { ⌜ Span (now days) stop lo end ⌝ }
-    requires { ⌜ (length (now times) ≡ 4096) × (length (now left) ≡ 4096) × (length (now queue) ≡ 4096) ⌝ }
+    requires { ⌜ (length (now times) ≡ 4096) × (length (now left) ≡ 4096) × (4096 ≤ length (now queue)) ⌝ }
     ensures { λ t. ⌜ Falling (now (days .entry)) (now (first .entry)) (now (second .entry)) (season k start stop lo) 4096 never end t t (now (times .exit)) (now (left .exit)) (now (queue .exit)) ⌝ }
 {
     clear(times);
@@ -385,7 +385,7 @@ pub fn peel(
 )
     requires { ⌜ Ready (now days) (now first) (now second) (now links) (season k start stop lo) ⌝ }
     requires { ⌜ Span (now days) stop lo end ⌝ }
-    requires { ⌜ (length (now times) ≡ 4096) × (length (now left) ≡ 4096) × (length (now queue) ≡ 4096) ⌝ }
+    requires { ⌜ (length (now times) ≡ 4096) × (length (now left) ≡ 4096) × (4096 ≤ length (now queue)) ⌝ }
     ensures { λ _. ⌜ CoreTimesAre (now (days .entry)) (now (first .entry)) (now (second .entry)) (season k start stop lo) (now (times .exit)) ⌝ }
 {
     let tail = core(

@@ -193,7 +193,7 @@ fn keep_risen(
     requires { ⌜ Ready (now days) (now first) (now second) (now scratch) (season k (s + 1) te next) ⌝ }
     requires { ⌜ Span (now days) te next end ⌝ }
     requires { ⌜ CoreTimesAre (now days) (now first) (now second) (season k (s + 1) te next) (now times) ⌝ }
-    requires { ⌜ (length (now list) ≡ 4096) × (r ≤ 4096) × ((i : ℕ) → i < r → getD (now list) i 0 < 4096) × (s ≤ te) × (te ≤ 1024) ⌝ }
+    requires { ⌜ (length (now list) ≡ 4352) × (r ≤ 4352) × ((i : ℕ) → i < r → getD (now list) i 0 < 4096) × (s ≤ te) × (te ≤ 1024) ⌝ }
     requires { ⌜ Turning (tableOf (now days) (now first) (now second)) (query k) te s (now scratch) × Passed (tableOf (now days) (now first) (now second)) (query k) te s next (now scratch) × Tallies (length (now days)) (length (now days)) (now scratch) (now counts) ⌝ }
     ensures { λ _. ⌜ Turning (tableOf (now (days .entry)) (now (first .entry)) (now (second .entry))) (query k) te s (now (scratch .exit)) × Passed (tableOf (now (days .entry)) (now (first .entry)) (now (second .entry))) (query k) te s next (now (scratch .exit)) × Through (tableOf (now (days .entry)) (now (first .entry)) (now (second .entry))) (query k) te s next (now (times .entry)) (now (list .entry)) r (now (scratch .exit)) × Tallies (length (now (days .entry))) (length (now (days .entry))) (now (scratch .exit)) (now (counts .exit)) ⌝ }
 {
@@ -236,7 +236,7 @@ pub fn first_start(
 )
     requires { ⌜ Ready (now days) (now first) (now second) (now scratch) (season k s te lo) ⌝ }
     requires { ⌜ Span (now days) te lo end × (te ≤ 1024) ⌝ }
-    requires { ⌜ (length (now times) ≡ 4096) × (length (now spare) ≡ 4096) × (length (now queue) ≡ 4096) × (length (now counts) ≡ 1025) ⌝ }
+    requires { ⌜ (length (now times) ≡ 4096) × (length (now spare) ≡ 4096) × (length (now queue) ≡ 4352) × (length (now counts) ≡ 1025) ⌝ }
     ensures { λ _. ⌜ Started (now (days .entry)) (now (first .entry)) (now (second .entry)) (now (scratch .exit)) (season k s te lo) (now (times .exit)) (now (spare .exit)) (now (counts .exit)) ⌝ }
 {
     begin(
@@ -276,7 +276,7 @@ pub fn next_start(
 )
     requires { ⌜ Started (now days) (now first) (now second) (now scratch) (season k s te lo) (now times) (now spare) (now counts) ⌝ }
     requires { ⌜ (s ≤ te) × (te ≤ 1024) × Split (now days) s lo × Split (now days) (s + 1) next × Split (now days) (te + 1) end ⌝ }
-    requires { ⌜ length (now queue) ≡ 4096 ⌝ }
+    requires { ⌜ length (now queue) ≡ 4352 ⌝ }
     ensures { λ _. ⌜ Started (now (days .entry)) (now (first .entry)) (now (second .entry)) (now (scratch .exit)) (season k (s + 1) te next) (now (times .exit)) (now (spare .exit)) (now (counts .exit)) ⌝ }
 {
     move_heads(days, first, second, scratch, s, s + 1, lo, next);

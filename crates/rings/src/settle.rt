@@ -1,6 +1,6 @@
 // Settling: how the core times of one start become those of the day after it. Times only rise. A look at an account finds the first day, from its time on, on which it has k supporters.
 // spare: of each account one more than the supporters that it can lose before it must be looked at, at least; 0 while it waits for a look. What a look counts beyond k is to spare, so most losses cost no look.
-// queue: who rose, then who waits. An account leaves the front of those who wait when it is looked at, and if it rises takes a place behind those who rose.
+// queue: who rose, then who waits. An account leaves the front of those who wait when it is looked at, and if it rises takes a place behind those who rose. It has 4,352 places, 256 more than there are accounts: where one ring of all accounts gives way, each rises once, and some few twice.
 ghost use mathlib.Core.Path.{_≡_};
 ghost use mathlib.Core.Bool.{true, false, _&&_};
 ghost use Prim.Native.Nat.{ℕ, _+_, _≤_, _<_};
@@ -236,7 +236,7 @@ fn is_lost(z: u16, day: u16, old: u16, new: u16) -> bool
 
 // v loses a supporter where the test holds. It is put at the end of the queue, and the end moves on if it has none to spare now: no branch, as in a look.
 fn lose(spare: &mut [u16], queue: &mut [u16], tail: usize, v: usize, test: bool) -> usize
-    requires { ⌜ (length (now spare) ≡ 4096) × (length (now queue) ≡ 4096) × (v < 4096) × (tail < 4096) ⌝ }
+    requires { ⌜ (length (now spare) ≡ 4096) × (length (now queue) ≡ 4352) × (v < 4096) × (tail < 4352) ⌝ }
     ensures { λ r. ⌜ Losing test v tail (now (spare .entry)) (now (queue .entry)) (now (spare .exit)) (now (queue .exit)) r ⌝ }
 {
     let n = spare[v];
@@ -247,7 +247,7 @@ fn lose(spare: &mut [u16], queue: &mut [u16], tail: usize, v: usize, test: bool)
     tail + wide(one(last))
 }
 
-// The rise of u takes a supporter from each that it supported till now. A row dated on the new time or later takes none. 4,097 says that the queue has no place left.
+// The rise of u takes a supporter from each that it supported till now. A row dated on the new time or later takes none. 4,353 says that the queue has no place left.
 fn lose_others(
     days: &[u16],
     first: &[u16],
@@ -267,8 +267,8 @@ fn lose_others(
     queue: &mut [u16],
 ) -> usize
     requires { ⌜ Ready (now days) (now first) (now second) (now links) (season k start stop lo) ⌝ }
-    requires { ⌜ (u < 4096) × (length (now times) ≡ 4096) × (length (now spare) ≡ 4096) × (length (now queue) ≡ 4096) × Ahead (tableOf (now days) (now first) (now second)) u lo from ⌝ }
-    ensures { λ r. ⌜ (r ≤ 4096 → Lessened (tableOf (now (days .entry)) (now (first .entry)) (now (second .entry))) (guess (now (times .entry))) lo u (length (now (days .entry))) old new (now (spare .entry)) (now (spare .exit)) × Queued tail (now (spare .entry)) (now (queue .entry)) r (now (spare .exit)) (now (queue .exit))) ⌝ }
+    requires { ⌜ (u < 4096) × (length (now times) ≡ 4096) × (length (now spare) ≡ 4096) × (length (now queue) ≡ 4352) × Ahead (tableOf (now days) (now first) (now second)) u lo from ⌝ }
+    ensures { λ r. ⌜ (r ≤ 4352 → Lessened (tableOf (now (days .entry)) (now (first .entry)) (now (second .entry))) (guess (now (times .entry))) lo u (length (now (days .entry))) old new (now (spare .entry)) (now (spare .exit)) × Queued tail (now (spare .entry)) (now (queue .entry)) r (now (spare .exit)) (now (queue .exit))) ⌝ }
 {
     let n = days.len();
     let last = entry(links, u);
@@ -280,8 +280,8 @@ fn lose_others(
         if new <= day {
             return end;
         }
-        if 4096 <= end {
-            return 4097;
+        if 4352 <= end {
+            return 4353;
         }
         p += 1;
         let fresh = is_fresh(links, n, lo, j);
@@ -294,7 +294,7 @@ fn lose_others(
     end
 }
 
-// A look at the account at the head of the queue. If its time rises, it is listed as risen, and who loses it waits. 4,097 for the queue's end says that the look gave up, or that the queue had no place.
+// A look at the account at the head of the queue. If its time rises, it is listed as risen, and who loses it waits. 4,353 for the queue's end says that the look gave up, or that the queue had no place.
 fn settle_account(
     days: &[u16],
     first: &[u16],
@@ -313,8 +313,8 @@ fn settle_account(
     queue: &mut [u16],
 ) -> Standing
     requires { ⌜ Ready (now days) (now first) (now second) (now links) (season k start stop lo) ⌝ }
-    requires { ⌜ (budget ≤ 65536) × (head < tail) × (tail ≤ 4096) × (risen ≤ head) × (length (now times) ≡ 4096) × (length (now spare) ≡ 4096) × (length (now queue) ≡ 4096) × (getD (now queue) head 0 < 4096) × Days stop (now times) ⌝ }
-    ensures { λ r. ⌜ (r .walked ≤ 98304) × (r .tail ≤ 4096 → (xs : List ℕ) → Rising (tableOf (now (days .entry)) (now (first .entry)) (now (second .entry))) (query k) stop start xs (now (times .entry)) (now (spare .entry)) (now (queue .entry)) head tail risen → Rising (tableOf (now (days .entry)) (now (first .entry)) (now (second .entry))) (query k) stop start xs (now (times .exit)) (now (spare .exit)) (now (queue .exit)) (head + 1) (r .tail) (r .risen)) ⌝ }
+    requires { ⌜ (budget ≤ 65536) × (head < tail) × (tail ≤ 4352) × (risen ≤ head) × (length (now times) ≡ 4096) × (length (now spare) ≡ 4096) × (length (now queue) ≡ 4352) × (getD (now queue) head 0 < 4096) × Days stop (now times) ⌝ }
+    ensures { λ r. ⌜ (r .walked ≤ 98304) × (r .tail ≤ 4352 → (xs : List ℕ) → Rising (tableOf (now (days .entry)) (now (first .entry)) (now (second .entry))) (query k) stop start xs (now (times .entry)) (now (spare .entry)) (now (queue .entry)) head tail risen → Rising (tableOf (now (days .entry)) (now (first .entry)) (now (second .entry))) (query k) stop start xs (now (times .exit)) (now (spare .exit)) (now (queue .exit)) (head + 1) (r .tail) (r .risen)) ⌝ }
 {
     let u = entry(queue, head);
     let from = entry(links, 4096 + u);
@@ -337,7 +337,7 @@ fn settle_account(
     if new == 0 {
         return Standing {
             risen: risen,
-            tail: 4097,
+            tail: 4353,
             walked: seen.walked,
         };
     }
@@ -376,7 +376,7 @@ fn settle_account(
     }
 }
 
-// Who waits is looked at, until nobody does: how many rose. 4,097 where that takes more rows than the budget allows, or more places than the queue has.
+// Who waits is looked at, until nobody does: how many rose. 4,353 where that takes more rows than the budget allows, or more places than the queue has.
 fn settle(
     days: &[u16],
     first: &[u16],
@@ -393,19 +393,19 @@ fn settle(
     queue: &mut [u16],
 ) -> usize
     requires { ⌜ Ready (now days) (now first) (now second) (now links) (season k start stop lo) ⌝ }
-    requires { ⌜ (budget ≤ 65536) × (length (now times) ≡ 4096) × (length (now spare) ≡ 4096) × (length (now queue) ≡ 4096) × (waiting ≤ 4096 → Rising (tableOf (now days) (now first) (now second)) (query k) stop start (now times) (now times) (now spare) (now queue) 0 waiting 0) ⌝ }
-    ensures { λ r. ⌜ (r ≤ 4096 → CoreTimesAre (now (days .entry)) (now (first .entry)) (now (second .entry)) (season k start stop lo) (now (times .exit)) × Spare (tableOf (now (days .entry)) (now (first .entry)) (now (second .entry))) (query k) start (now (times .exit)) (now (spare .exit)) × Risen (now (times .entry)) (now (times .exit)) (now (queue .exit)) r) ⌝ }
+    requires { ⌜ (budget ≤ 65536) × (length (now times) ≡ 4096) × (length (now spare) ≡ 4096) × (length (now queue) ≡ 4352) × (waiting ≤ 4352 → Rising (tableOf (now days) (now first) (now second)) (query k) stop start (now times) (now times) (now spare) (now queue) 0 waiting 0) ⌝ }
+    ensures { λ r. ⌜ (r ≤ 4352 → CoreTimesAre (now (days .entry)) (now (first .entry)) (now (second .entry)) (season k start stop lo) (now (times .exit)) × Spare (tableOf (now (days .entry)) (now (first .entry)) (now (second .entry))) (query k) start (now (times .exit)) (now (spare .exit)) × Risen (now (times .entry)) (now (times .exit)) (now (queue .exit)) r) ⌝ }
 {
     let mut head = 0;
     let mut tail = waiting;
     let mut risen = 0;
     let mut work: usize = 0;
     while head < tail {
-        if 4096 < tail {
-            return 4097;
+        if 4352 < tail {
+            return 4353;
         }
         if budget < work {
-            return 4097;
+            return 4353;
         }
         let now = settle_account(
             days,
@@ -432,7 +432,7 @@ fn settle(
     risen
 }
 
-// Row j leaves: by it each of its accounts has lost the other, if it was a supporter by the row's day. 4,097 says that the queue has no place left.
+// Row j leaves: by it each of its accounts has lost the other, if it was a supporter by the row's day. 4,353 says that the queue has no place left.
 fn leave_row(
     days: &[u16],
     first: &[u16],
@@ -449,11 +449,11 @@ fn leave_row(
     queue: &mut [u16],
 ) -> usize
     requires { ⌜ Placed (now days) (now first) (now second) (now links) (season k s te lo) ⌝ }
-    requires { ⌜ (j < length (now days)) × (length (now times) ≡ 4096) × Days te (now times) × (length (now spare) ≡ 4096) × (length (now queue) ≡ 4096) ⌝ }
-    ensures { λ r. ⌜ (r ≤ 4096 → Queued tail (now (spare .entry)) (now (queue .entry)) r (now (spare .exit)) (now (queue .exit)) × ((sp : List ℕ) → Leaving (tableOf (now (days .entry)) (now (first .entry)) (now (second .entry))) (guess (now (times .entry))) lo j sp (now (spare .entry)) → Leaving (tableOf (now (days .entry)) (now (first .entry)) (now (second .entry))) (guess (now (times .entry))) lo (j + 1) sp (now (spare .exit)))) ⌝ }
+    requires { ⌜ (j < length (now days)) × (length (now times) ≡ 4096) × Days te (now times) × (length (now spare) ≡ 4096) × (length (now queue) ≡ 4352) ⌝ }
+    ensures { λ r. ⌜ (r ≤ 4352 → Queued tail (now (spare .entry)) (now (queue .entry)) r (now (spare .exit)) (now (queue .exit)) × ((sp : List ℕ) → Leaving (tableOf (now (days .entry)) (now (first .entry)) (now (second .entry))) (guess (now (times .entry))) lo j sp (now (spare .entry)) → Leaving (tableOf (now (days .entry)) (now (first .entry)) (now (second .entry))) (guess (now (times .entry))) lo (j + 1) sp (now (spare .exit)))) ⌝ }
 {
-    if 4095 <= tail {
-        return 4097;
+    if 4351 <= tail {
+        return 4353;
     }
     let n = days.len();
     let fresh = is_fresh(links, n, lo, j);
@@ -484,8 +484,8 @@ fn leave_rows(
     queue: &mut [u16],
 ) -> usize
     requires { ⌜ Placed (now days) (now first) (now second) (now links) (season k s te lo) ⌝ }
-    requires { ⌜ (lo ≤ next) × (next ≤ length (now days)) × (length (now times) ≡ 4096) × Days te (now times) × (length (now spare) ≡ 4096) × (length (now queue) ≡ 4096) ⌝ }
-    ensures { λ r. ⌜ (r ≤ 4096 → Queued 0 (now (spare .entry)) (now (queue .entry)) r (now (spare .exit)) (now (queue .exit)) × Leaving (tableOf (now (days .entry)) (now (first .entry)) (now (second .entry))) (guess (now (times .entry))) lo next (now (spare .entry)) (now (spare .exit))) ⌝ }
+    requires { ⌜ (lo ≤ next) × (next ≤ length (now days)) × (length (now times) ≡ 4096) × Days te (now times) × (length (now spare) ≡ 4096) × (length (now queue) ≡ 4352) ⌝ }
+    ensures { λ r. ⌜ (r ≤ 4352 → Queued 0 (now (spare .entry)) (now (queue .entry)) r (now (spare .exit)) (now (queue .exit)) × Leaving (tableOf (now (days .entry)) (now (first .entry)) (now (second .entry))) (guess (now (times .entry))) lo next (now (spare .entry)) (now (spare .exit))) ⌝ }
 {
     let mut tail = 0;
     let mut j = lo;
@@ -524,8 +524,8 @@ fn spare_none(spare: &mut [u16])
 
 // Every account is listed.
 fn list_all(list: &mut [u16])
-    requires { ⌜ length (now list) ≡ 4096 ⌝ }
-    ensures { λ _. ⌜ (length (now (list .exit)) ≡ 4096) × ((u : ℕ) → u < 4096 → getD (now (list .exit)) u 0 ≡ u) ⌝ }
+    requires { ⌜ length (now list) ≡ 4352 ⌝ }
+    ensures { λ _. ⌜ (length (now (list .exit)) ≡ 4352) × ((u : ℕ) → u < 4096 → getD (now (list .exit)) u 0 ≡ u) ⌝ }
 {
     let mut u = 0;
     while u < 4096 {
@@ -551,7 +551,7 @@ pub fn begin(
 )
     requires { ⌜ Ready (now days) (now first) (now second) (now links) (season k s te lo) ⌝ }
     requires { ⌜ Span (now days) te lo end ⌝ }
-    requires { ⌜ (length (now times) ≡ 4096) × (length (now spare) ≡ 4096) × (length (now queue) ≡ 4096) ⌝ }
+    requires { ⌜ (length (now times) ≡ 4096) × (length (now spare) ≡ 4096) × (length (now queue) ≡ 4352) ⌝ }
     ensures { λ _. ⌜ CoreTimesAre (now (days .entry)) (now (first .entry)) (now (second .entry)) (season k s te lo) (now (times .exit)) × Spare (tableOf (now (days .entry)) (now (first .entry)) (now (second .entry))) (query k) s (now (times .exit)) (now (spare .exit)) ⌝ }
 {
     peel(
@@ -589,7 +589,7 @@ pub fn advance(
 ) -> usize
     requires { ⌜ Ready (now days) (now first) (now second) (now links) (season k (s + 1) te next) ⌝ }
     requires { ⌜ (s ≤ te) × (te ≤ 1024) × Split (now days) s lo × Split (now days) (s + 1) next × Split (now days) (te + 1) end ⌝ }
-    requires { ⌜ CoreTimesAre (now days) (now first) (now second) (season k s te lo) (now times) × Spare (tableOf (now days) (now first) (now second)) (query k) s (now times) (now spare) × (length (now queue) ≡ 4096) ⌝ }
+    requires { ⌜ CoreTimesAre (now days) (now first) (now second) (season k s te lo) (now times) × Spare (tableOf (now days) (now first) (now second)) (query k) s (now times) (now spare) × (length (now queue) ≡ 4352) ⌝ }
     ensures { λ r. ⌜ CoreTimesAre (now (days .entry)) (now (first .entry)) (now (second .entry)) (season k (s + 1) te next) (now (times .exit)) × Spare (tableOf (now (days .entry)) (now (first .entry)) (now (second .entry))) (query k) (s + 1) (now (times .exit)) (now (spare .exit)) × Risen (now (times .entry)) (now (times .exit)) (now (queue .exit)) r ⌝ }
 {
     let waiting = leave_rows(
@@ -622,7 +622,7 @@ pub fn advance(
         spare,
         queue,
     );
-    if risen <= 4096 {
+    if risen <= 4352 {
         return risen;
     }
     begin(

@@ -102,7 +102,7 @@ pub record Times (t : Table) (q : Query) (s hi e : ℕ) (x : List ℕ) : Type 0 
 pub record Fall (t : Table) (q : Query) (s hi lo b e r head tail : ℕ) (passed : ℕ → ℕ → Bool) (x d w : List ℕ) : Type 0 where
   pub len-x : length x ≡ 4096
   pub len-d : length d ≡ 4096
-  pub len-w : length w ≡ 4096
+  pub len-w : 4096 ≤ length w
   pub walked : ℕ → Bool
   pub live : ℕ → ℕ → Bool
   pub rows : Rows t lo r passed walked live

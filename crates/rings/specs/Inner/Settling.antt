@@ -12,7 +12,7 @@
 --     Losing                v loses a supporter, or does not
 --     Lessened              a rise of u takes a supporter from each that it supported till now
 --     Leaving               so does each row that leaves
---     Queued                who lost the last spare supporter by that waits at the end of the queue
+--     Queued                who lost the last spare supporter by that waits at the end of the queue, which has 4,352 places
 --     Waiting               who waits stands in the queue
 --     Risen                 the accounts whose times are others are among the first r of a list
 --     Rising                all of it, between two looks
@@ -119,22 +119,22 @@ pub record Leaving (t : Table) (x : ℕ → ℕ) (lo j : ℕ) (sp₀ sp : List �
 
 -- the queue had tail entries, and has r: who waits now did before, or is one of the new ones
 pub record Queued (tail : ℕ) (sp ws : List ℕ) (r : ℕ) (sp′ ws′ : List ℕ) : Type 0 where
-  pub long : length ws′ ≡ 4096
-  pub grows : r ≤ 4096 → tail ≤ r
-  pub front : (i : ℕ) → i < tail → i < 4096 → getD ws′ i 0 ≡ getD ws i 0
-  pub waits : r ≤ 4096 → (u : ℕ) → u < 4096 → getD sp′ u 0 ≡ 0 → (getD sp u 0 ≡ 0) ⊎ Place ws′ tail r u
-  pub small : (i : ℕ) → tail ≤ i → i < r → i < 4096 → getD ws′ i 0 < 4096
+  pub long : length ws′ ≡ 4352
+  pub grows : r ≤ 4352 → tail ≤ r
+  pub front : (i : ℕ) → i < tail → i < 4352 → getD ws′ i 0 ≡ getD ws i 0
+  pub waits : r ≤ 4352 → (u : ℕ) → u < 4096 → getD sp′ u 0 ≡ 0 → (getD sp u 0 ≡ 0) ⊎ Place ws′ tail r u
+  pub small : (i : ℕ) → tail ≤ i → i < r → i < 4352 → getD ws′ i 0 < 4096
 
 pub record Waiting (head tail : ℕ) (sp ws : List ℕ) : Type 0 where
-  pub long : length ws ≡ 4096
+  pub long : length ws ≡ 4352
   pub ordered : head ≤ tail
   pub waits : (u : ℕ) → u < 4096 → getD sp u 0 ≡ 0 → Place ws head tail u
   pub small : (i : ℕ) → head ≤ i → i < tail → getD ws i 0 < 4096
 
 -- from the times xs to ys: whose time is another is one of the first r of the list
 pub record Risen (xs ys ws : List ℕ) (r : ℕ) : Type 0 where
-  pub long : length ws ≡ 4096
-  pub within : r ≤ 4096
+  pub long : length ws ≡ 4352
+  pub within : r ≤ 4352
   pub small : (i : ℕ) → i < r → getD ws i 0 < 4096
   pub listed : (u : ℕ) → u < 4096 → (getD xs u 0 ≡ getD ys u 0 → ⊥) → Place ws 0 r u
 

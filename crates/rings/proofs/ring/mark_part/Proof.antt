@@ -31,7 +31,7 @@ slice-aggregate-core-3 c = search needs
 
 -- src/ring.rt:99:9
 core-requires : tie.Need-core-requires
-core-requires c κs = (ready-of (c .before .before .before .before .before .before .before .before .before .before .before .before .before .pre .0) (linked-later (c .before .before .before .before .before .before .link .ensures) (omega (arith, c .before .before .before .before .before .before .before .before .before .before .before .before .before .pre .1 .0 .1))) (c .before .before .before .before .before .before .before .before .before .before .before .before .before .pre .1 .0 .0) (c .before .before .before .before .before .before .before .before .before .before .before .before .before .pre .1 .0 .2) (c .before .before .before .before .before .before .before .before .before .before .before .before .before .pre .1 .1 .0), (span-of (c .before .before .before .before .before .before .before .before .before .before .before .before .before .pre .1 .0 .1) (c .before .before .before .before .before .before .before .before .before .before .before .before .before .pre .1 .1 .0) (c .before .before .before .before .before .before .before .before .before .before .before .before .before .pre .1 .1 .1), (refl, refl, refl)))
+core-requires c κs = (ready-of (c .before .before .before .before .before .before .before .before .before .before .before .before .before .pre .0) (linked-later (c .before .before .before .before .before .before .link .ensures) (omega (arith, c .before .before .before .before .before .before .before .before .before .before .before .before .before .pre .1 .0 .1))) (c .before .before .before .before .before .before .before .before .before .before .before .before .before .pre .1 .0 .0) (c .before .before .before .before .before .before .before .before .before .before .before .before .before .pre .1 .0 .2) (c .before .before .before .before .before .before .before .before .before .before .before .before .before .pre .1 .1 .0), (span-of (c .before .before .before .before .before .before .before .before .before .before .before .before .before .pre .1 .0 .1) (c .before .before .before .before .before .before .before .before .before .before .before .before .before .pre .1 .1 .0) (c .before .before .before .before .before .before .before .before .before .before .before .before .before .pre .1 .1 .1), (refl, refl, omega arith)))
 
 -- src/ring.rt:122:9
 slice-aggregate-mark-rows : tie.Need-slice-aggregate-mark-rows

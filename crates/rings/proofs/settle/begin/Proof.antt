@@ -1,3 +1,4 @@
+use native.Mathlib.Omega.{arith}
 use Rattle.rings.proofs.SettleLaws.{spare-ones}
 use borrow.Author.Needs.{needs}
 use Rattle.rings.proofs.settle.begin.Statement.{statement}
@@ -9,7 +10,7 @@ use Rattle.rings.proofs.settle.spare_none.Reads as spare-none-reads
 
 -- src/settle.rt:408:5
 peel-requires : tie.Need-peel-requires
-peel-requires c κs = search needs
+peel-requires c κs = (c .before .before .before .before .before .before .before .before .before .before .pre .0, (c .before .before .before .before .before .before .before .before .before .before .pre .1 .0, (c .before .before .before .before .before .before .before .before .before .before .pre .1 .1 .0, c .before .before .before .before .before .before .before .before .before .before .pre .1 .1 .1, omega (arith, c .before .before .before .before .before .before .before .before .before .before .pre .1 .1 .2))))
 
 -- src/settle.rt:422:5
 spare-none-requires : tie.Need-spare-none-requires

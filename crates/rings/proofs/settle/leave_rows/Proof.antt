@@ -13,7 +13,7 @@ use Rattle.rings.proofs.settle.leave_rows.Lts as lts
 use Rattle.rings.proofs.settle.leave_row.Reads as leave-row-reads
 
 abbrev Inv-loop : tie.InvT-loop
-Inv-loop days first second links k s te lo next times spare₀ queue₀ tail₀ j₀ spare queue tail j = (j ≤ next) × (length spare ≡ 4096) × (length queue ≡ 4096) × (tail ≤ 4096 → Queued 0 spare₀ queue₀ tail spare queue × Leaving (tableOf days first second) (guess times) lo j spare₀ spare)
+Inv-loop days first second links k s te lo next times spare₀ queue₀ tail₀ j₀ spare queue tail j = (j ≤ next) × (length spare ≡ 4096) × (length queue ≡ 4352) × (tail ≤ 4352 → Queued 0 spare₀ queue₀ tail spare queue × Leaving (tableOf days first second) (guess times) lo j spare₀ spare)
 
 abbrev μ-loop : tie.MeasureT-loop
 μ-loop days first second links k s te lo next times spare₀ queue₀ tail₀ j₀ spare queue tail j = next - j

@@ -9,7 +9,7 @@ use Rattle.rings.proofs.settle.list_all.Lts as lts
 use Rattle.rings.proofs.links.put.Reads as put-reads
 
 abbrev Inv-loop : tie.InvT-loop
-Inv-loop list₀ u₀ list u = (u ≤ 4096) × Filled (λ (i : ℕ). i) u list
+Inv-loop list₀ u₀ list u = (u ≤ 4096) × Filled (λ (i : ℕ). i) 4352 u list
 
 abbrev μ-loop : tie.MeasureT-loop
 μ-loop list₀ u₀ list u = 4096 - u
@@ -32,7 +32,7 @@ loop-less c = omega (arith, c .before .before .before .before .loop-test .taken)
 
 -- src/settle.rt:382:5
 loop-again : tie.Need-loop-again Inv-loop μ-loop
-loop-again c = (omega (arith, c .before .before .before .before .loop-test .taken), filled-next (c .before .before .before .before .before .loop .inv .1) (c .before .before .before .before .loop-test .taken) refl (c .before .before .put .ensures))
+loop-again c = (omega (arith, c .before .before .before .before .loop-test .taken), filled-next (c .before .before .before .before .before .loop .inv .1) (omega (arith, c .before .before .before .before .loop-test .taken)) refl (c .before .before .put .ensures))
 
 -- src/settle.rt:377:1
 same-length : tie.Need-same-length Inv-loop μ-loop

@@ -14,10 +14,10 @@ use Rattle.rings.proofs.settle.settle.Lts as lts
 use Rattle.rings.proofs.settle.settle_account.Reads as settle-account-reads
 
 abbrev Inv-loop : tie.InvT-loop
-Inv-loop days first second links k start stop lo budget waiting times₀ spare₀ queue₀ head₀ tail₀ risen₀ work₀ times spare queue head tail risen work = (head ≤ 4096) × (length times ≡ 4096) × (length spare ≡ 4096) × (length queue ≡ 4096) × (tail ≤ 4096 → Rising (tableOf days first second) (query k) stop start times₀ times spare queue head tail risen) × (work ≤ budget + 98304)
+Inv-loop days first second links k start stop lo budget waiting times₀ spare₀ queue₀ head₀ tail₀ risen₀ work₀ times spare queue head tail risen work = (head ≤ 4352) × (length times ≡ 4096) × (length spare ≡ 4096) × (length queue ≡ 4352) × (tail ≤ 4352 → Rising (tableOf days first second) (query k) stop start times₀ times spare queue head tail risen) × (work ≤ budget + 98304)
 
 abbrev μ-loop : tie.MeasureT-loop
-μ-loop days first second links k start stop lo budget waiting times₀ spare₀ queue₀ head₀ tail₀ risen₀ work₀ times spare queue head tail risen work = 4097 - head
+μ-loop days first second links k start stop lo budget waiting times₀ spare₀ queue₀ head₀ tail₀ risen₀ work₀ times spare queue head tail risen work = 4353 - head
 
 -- src/settle.rt:377:5
 loop-holds : tie.Need-loop-holds Inv-loop μ-loop

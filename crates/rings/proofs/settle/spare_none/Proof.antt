@@ -9,7 +9,7 @@ use Rattle.rings.proofs.settle.spare_none.Lts as lts
 use Rattle.rings.proofs.links.put.Reads as put-reads
 
 abbrev Inv-loop : tie.InvT-loop
-Inv-loop spare₀ u₀ spare u = (u ≤ 4096) × Filled (λ (i : ℕ). 1) u spare
+Inv-loop spare₀ u₀ spare u = (u ≤ 4096) × Filled (λ (i : ℕ). 1) 4096 u spare
 
 abbrev μ-loop : tie.MeasureT-loop
 μ-loop spare₀ u₀ spare u = 4096 - u
