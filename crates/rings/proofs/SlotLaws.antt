@@ -85,9 +85,9 @@ pub record Seeking (d f s : List ℕ) (j p : ℕ) (sc : List ℕ) : Type 0 where
   pub hit : (i : ℕ) → p ≡ suc i → slotOf (tableOf d f s) i ≡ slotOf (tableOf d f s) j
   pub none : (i : ℕ) → p ≤ i → i < j → joins (tableOf d f s) i (firstOf (tableOf d f s) j) (secondOf (tableOf d f s) j) ≡ false
 
-pub slot-is : (a b : ℕ) → ((a * 37 + b) % 8192 ≡ slot a b) × ((a * 37 + b) % 8192 < 8192)
+pub slot-is : (a b : ℕ) → ((a * 1301 + b) % 8192 ≡ slot a b) × ((a * 1301 + b) % 8192 < 8192)
 unfolding slot
-slot-is a b = (refl, mod-lt (a * 37 + b) (omega arith))
+slot-is a b = (refl, mod-lt (a * 1301 + b) (omega arith))
 
 -- ---- chain_rows
 
