@@ -31,7 +31,7 @@ use Rattle.rings.specs.declared.refusal.Refusal.the-variants.{BadWindow, BadLen
 use Rattle.rings.specs.declared.refusal.Verdict.{Verdict}
 use Rattle.rings.specs.declared.refusal.Verdict.the-variants.{Accepted, Refused}
 use Rattle.rings.proofs.WordLaws.{look, and-r, count-none, count-pos}
-use Rattle.rings.proofs.CoreTimeLaws.{row-time, row-past, row-later}
+use Rattle.rings.proofs.CoreTimeLaws.{row-time, row-past, row-never}
 use Rattle.rings.proofs.CallLaws.{shared, scratch-kept}
 use Rattle.listing.specs.Tight.{tight}
 use Rattle.listing.specs.Listing.{ListedRing, entryOf, listing, rowSum}
@@ -253,7 +253,7 @@ module _ (t : Table) (q : Query) where
       least = record { lower = λ j h. let n = Q j in omega arith; reached = _⊎_.inl refl }
 
   quiet-later : (hi s : ℕ) → hi < never → Quiet hi s → Quiet hi (s + 1)
-  quiet-later hi s fits Q j = ⊎-elim (λ n. n) (λ r. let a = r .1 in let b = Q j in let c : rowTime t q hi s j ≤ rowTime t q hi (s + 1) j = row-later t q hi fits (omega arith) j in absurd (omega arith)) (row-time t q hi (s + 1) j)
+  quiet-later hi s fits Q j = row-never t q hi fits (omega arith) j (Q j)
 
   rest-none : (m hi s : ℕ) → hi ≤ 1024 → suc hi - s ≡ m → Quiet hi s → restFrom t q hi s ≡ []
   rest-none zero hi s top e Q = rest-end hi s (omega arith)

@@ -21,7 +21,7 @@ use Rattle.rings.specs.Inner.Links.{otherOf, fresh}
 use Rattle.rings.specs.Inner.Support.{supports, supporters}
 use Rattle.rings.specs.Inner.Peeling.{Lost, Setting, Fell, Here, Rows, Place, fallen, Queue, guess, Times, Fall, nothing, passing, Walk}
 use Rattle.rings.specs.declared.Query.{Query}
-use Rattle.rings.proofs.WordLaws.{look, clash, and-i, and-l, and-r, or-l, or-r, or-e, no-i, no-e, same-truth, count-mono, count-less, count-same, count-le, count-none}
+use Rattle.rings.proofs.WordLaws.{look, clash, and-i, and-l, and-r, or-l, or-r, or-e, no-i, no-e, same-truth, count-mono, count-less, count-same, count-le, count-none, same-or}
 use Rattle.rings.proofs.RingLaws.{window-e, joins-touch, touch-cases, touch-first, touch-second, met-i, met-e, neighbour-e, ring-within, ring-degree}
 use Rattle.rings.proofs.PairLaws.{Partner, count-inject, count-drop, other-first, other-second, joins-other, joins-same, joins-swap, joins-ends, fresh-e, fresh-one, first-fresh}
 use Rattle.rings.proofs.FixpointLaws.{supports-i, supports-e, Lower, Closed, fixpoint, closed-met}
@@ -30,9 +30,6 @@ use Rattle.rings.proofs.FixpointLaws.{supports-i, supports-e, Lower, Cl
 
 pub fell-look : (x : List ℕ) (u : ℕ) → (getD x u 0 ≡ 0) ⊎ Fell x u
 fell-look x u = ⊎-elim (λ h. _⊎_.inl (eqb-true (getD x u 0) 0 h)) (λ h. _⊎_.inr (eqb-false (getD x u 0) 0 h)) (look (eqb (getD x u 0) 0))
-
-pub same-or : (u v : ℕ) → (u ≡ v) ⊎ (u ≡ v → ⊥)
-same-or u v = ⊎-elim (λ h. _⊎_.inl (eqb-true u v h)) (λ h. _⊎_.inr (eqb-false u v h)) (look (eqb u v))
 
 fell-other : (x : List ℕ) (u v e : ℕ) → (u ≡ v → ⊥) → Fell (set x v e) u → Fell x u
 fell-other x u v e n f z = f (getD-set-other x v u e 0 n ∙ z)

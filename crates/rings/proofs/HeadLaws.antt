@@ -23,10 +23,9 @@ use Rattle.rings.specs.Ring.{touches}
 use Rattle.rings.specs.Inner.Sound.{Sound}
 use Rattle.rings.specs.Inner.Links.{rank, placeOf, Book, Head, Linked, Ahead}
 use Rattle.rings.specs.Inner.Peeling.{Split}
-use Rattle.rings.proofs.WordLaws.{look}
+use Rattle.rings.proofs.WordLaws.{look, same-or}
 use Rattle.rings.proofs.RingLaws.{touch-first, touch-second}
 use Rattle.rings.proofs.LinkLaws.{rank-less, places-most, place-step, entry-below}
-use Rattle.rings.proofs.FallLaws.{same-or}
 use Rattle.rings.proofs.AlongLaws.{ahead-of}
 
 -- what lies outside the heads is as before

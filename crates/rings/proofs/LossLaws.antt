@@ -26,10 +26,10 @@ use Rattle.rings.specs.Inner.Links.{pickOther, otherOf, placeOf, fresh, 
 use Rattle.rings.specs.Inner.Peeling.{Setting, Season, Ready, Place, query, guess}
 use Rattle.rings.specs.Inner.Settling.{value, backing, backers, Days, Losing, Lessened, Leaving, Queued}
 use Rattle.rings.specs.declared.Query.{Query}
-use Rattle.rings.proofs.WordLaws.{look, clash, and-l, count-none}
+use Rattle.rings.proofs.WordLaws.{look, clash, and-l, count-none, same-or}
 use Rattle.rings.proofs.RingLaws.{touch-cases}
 use Rattle.rings.proofs.PairLaws.{other-first, other-second, fresh-e}
-use Rattle.rings.proofs.FallLaws.{same-or, guess-at, other-small}
+use Rattle.rings.proofs.FallLaws.{guess-at, other-small}
 use Rattle.rings.proofs.AlongLaws.{Along, begun, along-out, along-row, along-touch, along-none, along-next, along-fresh, along-other}
 use Rattle.rings.proofs.LookLaws.{By, by-most, both, not-first, backing-e, backers-yes, backers-no}
 

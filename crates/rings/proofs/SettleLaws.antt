@@ -25,12 +25,12 @@ use Rattle.rings.specs.Inner.Support.{supports, supporters}
 use Rattle.rings.specs.Inner.Peeling.{Setting, season, query, guess, Place, Split, CoreTimesAre}
 use Rattle.rings.specs.Inner.Settling.{backing, backers, Days, Settling, Least, Looked, Lessened, Leaving, Queued, Waiting, Risen, Rising, Spare}
 use Rattle.rings.specs.declared.Query.{Query}
-use Rattle.rings.proofs.WordLaws.{look, clash, count-mono, tally-yes, tally-no}
+use Rattle.rings.proofs.WordLaws.{look, clash, count-mono, tally-yes, tally-no, same-or}
 use Rattle.rings.proofs.RingLaws.{joins-touch, joins-cases, met-e}
 use Rattle.rings.proofs.PairLaws.{joins-other, joins-same, joins-swap, fresh-e, fresh-i, first-fresh}
 use Rattle.rings.proofs.FixpointLaws.{supports-e, supports-i, Lower, Closed, enough, fixpoint, times-closed, lower-next}
 use Rattle.rings.proofs.CoreTimeLaws.{account-time}
-use Rattle.rings.proofs.FallLaws.{same-or, guess-at, guess-far, touch-small}
+use Rattle.rings.proofs.FallLaws.{guess-at, guess-far, touch-small}
 use Rattle.rings.proofs.LookLaws.{backing-e, backing-i, backers-are}
 use Rattle.rings.proofs.LossLaws.{at-place, in-list}
 

@@ -16,13 +16,13 @@ use mathlib.Core.List.{List}
 use lib.ListN.{length, getD, set, length-set}
 use lib.Seq.{getD-set-same, getD-set-other}
 use lib.Dec.{leb, eqb}
-use borrow.Author.Tests.{leb-true, leb-false, eqb-true, eqb-false, eq-eqb, ne-eqb}
+use borrow.Author.Tests.{leb-true, leb-false, eqb-true, eq-eqb, ne-eqb}
 use Rattle.rings.specs.Words.{at}
 use Rattle.rings.specs.Table.{Table, tableOf, firstOf, secondOf}
 use Rattle.rings.specs.Ring.{joins}
 use Rattle.rings.specs.Inner.Sound.{Sound}
 use Rattle.rings.specs.Inner.Links.{pairBefore, earlier, slot, slotOf, slotBefore, Emptied, Chained, Pairing}
-use Rattle.rings.proofs.WordLaws.{look, clash}
+use Rattle.rings.proofs.WordLaws.{look, clash, same-or}
 use Rattle.rings.proofs.RingLaws.{joins-cases}
 use Rattle.rings.proofs.PairLaws.{joins-ends, before-yes, before-no}
 
@@ -48,9 +48,6 @@ pub emptying-end : {h : ℕ} {sc₀ sc : List ℕ} → Emptying h sc₀ sc → 8
 emptying-end E l = record { long = E .long; low = λ p k. E .low p (omega arith); high = E .high }
 
 -- ---- the last row with a slot
-
-same-or : (u v : ℕ) → (u ≡ v) ⊎ (u ≡ v → ⊥)
-same-or u v = ⊎-elim (λ y. _⊎_.inl (eqb-true u v y)) (λ y. _⊎_.inr (eqb-false u v y)) (look (eqb u v))
 
 slot-yes : (t : Table) (h n : ℕ) → slotOf t n ≡ h → slotBefore t h (suc n) ≡ suc n
 unfolding slotBefore

@@ -18,10 +18,10 @@ use Rattle.rings.specs.Ring.{touches}
 use Rattle.rings.specs.CoreTimes.{never}
 use Rattle.rings.specs.Inner.Links.{fresh}
 use Rattle.rings.specs.Inner.Peeling.{Lost, fallen, Season, Ready, query, Falling, Walking, Counted, Fade, Span, CoreTimesAre}
-use Rattle.rings.proofs.WordLaws.{look, clash, and-i, and-l, and-r, no-i, no-e, same-truth, count-same, count-none, count-pos, count-le}
+use Rattle.rings.proofs.WordLaws.{look, clash, and-i, and-l, and-r, no-i, no-e, same-truth, count-same, count-none, count-pos, count-le, same-or}
 use Rattle.rings.proofs.RingLaws.{touch-cases, touch-first, touch-second}
 use Rattle.rings.proofs.PairLaws.{count-drop}
-use Rattle.rings.proofs.FallLaws.{fell-look, same-or, room, times-fall, queue-fall, fall-lower, walk-start, leave-stale, leave-fell, leave-first-one, leave-tail, leave-second-one, leave-both, next-day, fall-times}
+use Rattle.rings.proofs.FallLaws.{fell-look, room, times-fall, queue-fall, fall-lower, walk-start, leave-stale, leave-fell, leave-first-one, leave-tail, leave-second-one, leave-both, next-day, fall-times}
 
 -- nobody has fallen exactly where all times are 0
 fallen-none : (x : List ℕ) → ((u : ℕ) → u < 4096 → getD x u 0 ≡ 0) → fallen x ≡ 0

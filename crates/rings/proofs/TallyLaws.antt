@@ -22,9 +22,8 @@ use Rattle.rings.specs.Table.{Table, size}
 use Rattle.rings.specs.CoreTimes.{never, rowTime}
 use Rattle.rings.specs.Inner.Turning.{timeOf, Kept, IsTime, Adding, Removing, Tallies, Timed}
 use Rattle.rings.specs.declared.Query.{Query}
-use Rattle.rings.proofs.WordLaws.{tally-yes, tally-no, count-le, count-less, count-same, count-pos}
+use Rattle.rings.proofs.WordLaws.{tally-yes, tally-no, count-le, count-less, count-same, count-pos, same-or}
 use Rattle.rings.proofs.PairLaws.{count-drop}
-use Rattle.rings.proofs.FallLaws.{same-or}
 
 -- ---- one row more, one fewer
 

@@ -9,8 +9,8 @@ use mathlib.Core.Bool.{Bool, true, false, true≢false}
 use mathlib.Core.List.{List}
 use lib.ListN.{length, getD, List·getD-eq-default}
 use lib.Seq.{ext-getD}
-use borrow.Author.Tests.{leb-true, leb-false}
-use lib.Dec.{leb}
+use borrow.Author.Tests.{leb-true, leb-false, eqb-true, eqb-false}
+use lib.Dec.{leb, eqb}
 use Rattle.rings.specs.Words.{_and_, _or_, no, at, marked, some, every, tally, count, run}
 
 -- ---- truth values
@@ -18,6 +18,9 @@ use Rattle.rings.specs.Words.{_and_, _or_, no, at, marked, some, every, 
 pub look : (b : Bool) → (b ≡ true) ⊎ (b ≡ false)
 look true = _⊎_.inl refl
 look false = _⊎_.inr refl
+
+pub same-or : (u v : ℕ) → (u ≡ v) ⊎ (u ≡ v → ⊥)
+same-or u v = ⊎-elim (λ h. _⊎_.inl (eqb-true u v h)) (λ h. _⊎_.inr (eqb-false u v h)) (look (eqb u v))
 
 pub clash : {C : Type 0} {b : Bool} → b ≡ true → b ≡ false → C
 clash p q = absurd (true≢false (sym p ∙ q))
