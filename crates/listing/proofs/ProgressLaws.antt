@@ -1,12 +1,15 @@
 -- The loops over the ends of a start and over the starts of a range, and the call (src/list.rt).
 --     progress-start, progress-next, progress-end, enter-lengths     entries counted, summed up and written, one after the other
---     sum-next, ends-none, ends-skip, ends-one, ends-end, start-as     the ends of a start
---     rest-first, rest-next, rest-end, rest-quiet     the starts of a range
+--     uncounted-start, uncounted-next, counted-one, counted-none     days without a count: `first_counted`
+--     sum-next, ends-none, ends-from, ends-skip, ends-one, ends-end, start-as     the ends of a start
+--     rest-first, rest-next, rest-end     the starts of a range
+--     TimesFrom, from-start, from-counted, from-next, from-uncounted, rest-quiet     no row has a core time before low
 --     room-most, room-counted                         what `has_room` returns
 --     find-refused, find-done                         what `find_rings` returns
 --     list-refused, list-done                         and `list_rings`
 -- Assumes nothing.
 use Prim.Native.Nat.{ℕ, zero, suc, _+_, _-_, _≤_, _<_}
+use native.Mathlib.Nat.{le-refl, le-trans, eq-or-lt-of-le}
 use native.Mathlib.Numerals.{add-one}
 use native.Mathlib.Omega.{arith}
 use mathlib.Core.Path.{_≡_, refl, sym, _∙_, ap, subst}
@@ -31,17 +34,17 @@ use Rattle.rings.specs.declared.refusal.Refusal.the-variants.{BadWindow, BadLen
 use Rattle.rings.specs.declared.refusal.Verdict.{Verdict}
 use Rattle.rings.specs.declared.refusal.Verdict.the-variants.{Accepted, Refused}
 use Rattle.rings.proofs.WordLaws.{look, and-r, count-none, count-pos}
-use Rattle.rings.proofs.CoreTimeLaws.{row-time, row-past, row-never}
+use Rattle.rings.proofs.CoreTimeLaws.{row-time, row-past, row-later}
 use Rattle.rings.proofs.CallLaws.{shared, scratch-kept}
 use Rattle.listing.specs.Tight.{tight}
 use Rattle.listing.specs.Listing.{ListedRing, entryOf, listing, rowSum}
 use Rattle.listing.specs.ListingCall.{listingChecks, summed, listingAnswer, ringColumn, listingStarts, listingEnds, listingRows, listingScratch}
 use Rattle.listing.specs.LongestList.{longest, daysOf}
-use Rattle.listing.specs.Inner.{startEntries, restFrom, Earliest, sumOf, countEntries, Entering, columnOf, Progress}
-use Rattle.rings.specs.Inner.Turning.{Timed}
+use Rattle.listing.specs.Inner.{startEntries, restFrom, Earliest, sumOf, countEntries, Uncounted, FirstCounted, Entering, columnOf, Progress}
+use Rattle.rings.specs.Inner.Counting.{Timed}
 use Rattle.listing.specs.declared.Listed.{Listed}
 use Rattle.listing.proofs.CountLaws.{listing-most}
-use Rattle.listing.proofs.StartLaws.{entries-are}
+use Rattle.listing.proofs.StartLaws.{listed-no, entries-are}
 
 -- ---- a column
 
@@ -148,6 +151,21 @@ pub enter-lengths : {room n s e total : ℕ} {u v w u′ v′ w′ : List ℕ} �
 enter-lengths (Entering.pass h i) = (ap length (i .0), ap length (i .1), ap length (i .2))
 enter-lengths {n = n} {s = s} {e = e} {total = total} {u = u} {v = v} {w = w} (Entering.one h i) = (ap length (i .0) ∙ length-set u n s, ap length (i .1) ∙ length-set v n e, ap length (i .2) ∙ length-set w n total)
 
+-- ---- days without a count
+
+pub uncounted-start : (xs : List ℕ) (low : ℕ) → Uncounted xs low low
+uncounted-start xs low = record { order = le-refl low; none = λ e a b. absurd (omega arith) }
+
+pub uncounted-next : {xs : List ℕ} {low day : ℕ} → Uncounted xs low day → getD xs day 0 ≡ 0 → Uncounted xs low (day + 1)
+uncounted-next {xs} {low} {day} U z =
+    record { order = let o = U .order in omega arith; none = λ e a b. ⊎-elim (λ y. ap (λ (d : ℕ). getD xs d 0) y ∙ z) (λ l. U .none e a l) (eq-or-lt-of-le (omega arith)) }
+
+pub counted-one : {xs : List ℕ} {low hi day : ℕ} → Uncounted xs low day → day ≤ hi → (getD xs day 0 ≡ 0 → ⊥) → FirstCounted xs low hi day
+counted-one U o h = record { before = U; to = omega arith; counted = λ a z. h z }
+
+pub counted-none : {xs : List ℕ} {low hi day : ℕ} → Uncounted xs low day → day ≤ hi + 1 → hi < day → FirstCounted xs low hi day
+counted-none U o h = record { before = U; to = o; counted = λ a z. absurd (omega arith) }
+
 -- ---- the ends of a start
 
 days-next : (te e : ℕ) → e ≤ te → te + 1 - e ≡ suc (te + 1 - (e + 1))
@@ -191,6 +209,21 @@ none-listed xs least s e total (suc m) h =
 
 pub ends-none : (xs : List ℕ) (least s te : ℕ) → te < least → s ≤ te → {room n sum : ℕ} {goal : List ListedRing} (rest : List ListedRing) {x y z u v w : List ℕ} → Progress room goal (countEntries xs least s s 0 (te + 1 - s) ++ rest) n sum x y z u v w → Progress room goal rest n sum x y z u v w
 ends-none xs least s te h o rest P = progress-as (ap (λ (ls : List ListedRing). ls ++ rest) (none-listed xs least s s 0 (te + 1 - s) (omega arith))) P
+
+-- days without a count have no entry and add no row
+none-counted : (xs : List ℕ) (least s te low m e : ℕ) → low ≤ te → e + m ≡ low → Uncounted xs e low → countEntries xs least s e 0 (te + 1 - e) ≡ countEntries xs least s low 0 (te + 1 - low)
+unfolding kept
+none-counted xs least s te low zero e o d U = let h : e ≡ low = omega arith in ap (λ (c : ℕ). countEntries xs least s c 0 (te + 1 - c)) h
+none-counted xs least s te low (suc m) e o d U =
+    let h : getD xs e 0 ≡ 0 = U .none e (le-refl e) (omega arith) in
+    let k : 0 + getD xs e 0 ≡ 0 = omega arith in
+    let l : e ≤ te = omega arith in
+    entries-next xs least s te e 0 l
+    ∙ (ap (λ (b : Bool). kept b (here xs least s te e 0 l) (later xs least s te e 0 l)) (sym (listed-no least e h))
+    ∙ (ap (λ (c : ℕ). countEntries xs least s (e + 1) c (te + 1 - (e + 1))) k ∙ none-counted xs least s te low m (e + 1) o (omega arith) (record { order = omega arith; none = λ i a b. U .none i (omega arith) b })))
+
+pub ends-from : (xs : List ℕ) (least s te low : ℕ) → low ≤ te → Uncounted xs s low → {room n sum : ℕ} {goal : List ListedRing} (rest : List ListedRing) {x y z u v w : List ℕ} → Progress room goal (countEntries xs least s s 0 (te + 1 - s) ++ rest) n sum x y z u v w → Progress room goal (countEntries xs least s low 0 (te + 1 - low) ++ rest) n sum x y z u v w
+ends-from xs least s te low o U rest P = let a = U .order in progress-as (ap (λ (ls : List ListedRing). ls ++ rest) (none-counted xs least s te low (low - s) s o (omega arith) U)) P
 
 pub ends-end : (xs : List ℕ) (least s te e total : ℕ) → te < e → {room n sum : ℕ} {goal : List ListedRing} (rest : List ListedRing) {x y z u v w : List ℕ} → Progress room goal (countEntries xs least s e total (te + 1 - e) ++ rest) n sum x y z u v w → Progress room goal rest n sum x y z u v w
 unfolding countEntries
@@ -239,35 +272,63 @@ module _ (t : Table) (q : Query) where
   unfolding restFrom joined run
   rest-end hi s h = let m : suc hi - s ≡ 0 = omega arith in ap (λ (n : ℕ). joined (run (startEntries t q hi) s n)) m
 
+  -- ---- no row has a core time at s before low
+
+  pub record TimesFrom (hi s low : ℕ) : Type 0 where
+    pub each : (j : ℕ) → low ≤ rowTime t q hi s j
+
+  pub from-start : (hi s : ℕ) → hi ≤ 1024 → s ≤ hi → TimesFrom hi s s
+  from-start hi s top o = record { each = λ j. ⊎-elim (λ n. omega arith) (λ r. r .0) (row-time t q hi s j) }
+
+  -- core times never fall
+  pub from-next : {hi s low : ℕ} → hi ≤ 1024 → TimesFrom hi s low → TimesFrom hi (s + 1) low
+  from-next top F = record { each = λ j. le-trans (F .each j) (row-later t q _ (omega arith) (omega arith) j) }
+
+  module _ (hi s : ℕ) (top : hi ≤ 1024) {xs : List ℕ} (T : Timed t q hi s (size t) xs) where
+    -- a day is counted if and only if it is a row's core time
+    time-counted : (j : ℕ) → rowTime t q hi s j < 1025 → getD xs (rowTime t q hi s j) 0 ≡ 0 → ⊥
+    time-counted j l z =
+        ⊎-elim (λ y. let n = row-past t q hi s j (leb-true (size t) j y) in omega arith)
+        (λ y. let a = T .each (rowTime t q hi s j) l in let c = count-pos (λ i. eqb (rowTime t q hi s i) (rowTime t q hi s j)) (size t) j (leb-false (size t) j y) (eq-eqb (rowTime t q hi s j) (rowTime t q hi s j) refl) in omega arith) (look (leb (size t) j))
+
+    no-time : (e : ℕ) → e < 1025 → ((j : ℕ) → rowTime t q hi s j ≡ e → ⊥) → getD xs e 0 ≡ 0
+    no-time e l h = T .each e l ∙ count-none (λ j. eqb (rowTime t q hi s j) e) (size t) (λ j k. ne-eqb (rowTime t q hi s j) e (h j))
+
+    module _ {low r : ℕ} (F : TimesFrom hi s low) (C : FirstCounted xs low hi r) where
+      -- nor before the first counted day from low on
+      pub from-counted : TimesFrom hi s r
+      from-counted =
+          record { each = λ j. ⊎-elim (λ y. leb-true r (rowTime t q hi s j) y) (λ y. let l = leb-false r (rowTime t q hi s j) y in let o = C .to in absurd (time-counted j (omega arith) (C .before .none (rowTime t q hi s j) (F .each j) l))) (look (leb r (rowTime t q hi s j))) }
+
+      -- which is not before s, where core times begin
+      pub from-uncounted : s ≤ hi → r ≤ hi → Uncounted xs s r
+      from-uncounted h o =
+          record {
+            order = ⊎-elim (λ y. leb-true s r y) (λ y. let l = leb-false s r y in absurd (C .counted o (no-time r (omega arith) (λ j e. let a = from-start hi s top h .each j in omega arith)))) (look (leb s r));
+            none = λ e a b. no-time e (omega arith) (λ j y. let c = from-counted .each j in omega arith);
+          }
+
   -- no row has a core time at s
-  abbrev Quiet : ℕ → ℕ → Type 0
-  Quiet hi s = (j : ℕ) → rowTime t q hi s j ≡ never
+  module _ {hi s low : ℕ} (top : hi ≤ 1024) (past : hi < low) (F : TimesFrom hi s low) where
+    quiet : (j : ℕ) → rowTime t q hi s j ≡ never
+    quiet j = ⊎-elim (λ n. n) (λ r. let a = F .each j in let b = r .1 in absurd (omega arith)) (row-time t q hi s j)
 
-  quiet-start : (hi s : ℕ) → hi ≤ 1024 → s ≤ hi → Quiet hi s → startEntries t q hi s ≡ []
-  quiet-start hi s top o Q = sym (entries-are t q hi s top counts least o) ∙ none-listed (replicate 1025 0) never s s 0 (hi + 1 - s) (omega arith)
-    where
-      counts : Timed t q hi s (size t) (replicate 1025 0)
-      counts = record { long = length-replicate {A = ℕ} 1025 0; each = λ e h. getD-replicate {A = ℕ} 1025 e 0 0 h ∙ sym (count-none (λ j. eqb (rowTime t q hi s j) e) (size t) (λ j l. ne-eqb (rowTime t q hi s j) e (λ y. let n = Q j in omega arith))) }
+    quiet-start : s ≤ hi → startEntries t q hi s ≡ []
+    quiet-start o = sym (entries-are t q hi s top counts least o) ∙ none-listed (replicate 1025 0) never s s 0 (hi + 1 - s) (omega arith)
+      where
+        counts : Timed t q hi s (size t) (replicate 1025 0)
+        counts = record { long = length-replicate {A = ℕ} 1025 0; each = λ e h. getD-replicate {A = ℕ} 1025 e 0 0 h ∙ sym (count-none (λ j. eqb (rowTime t q hi s j) e) (size t) (λ j l. ne-eqb (rowTime t q hi s j) e (λ y. let n = quiet j in omega arith))) }
 
-      least : Earliest t q hi s never
-      least = record { lower = λ j h. let n = Q j in omega arith; reached = _⊎_.inl refl }
+        least : Earliest t q hi s never
+        least = record { lower = λ j h. let n = quiet j in omega arith; reached = _⊎_.inl refl }
 
-  quiet-later : (hi s : ℕ) → hi < never → Quiet hi s → Quiet hi (s + 1)
-  quiet-later hi s fits Q j = row-never t q hi fits (omega arith) j (Q j)
+  rest-none : (m : ℕ) {hi s low : ℕ} → hi ≤ 1024 → hi < low → suc hi - s ≡ m → TimesFrom hi s low → restFrom t q hi s ≡ []
+  rest-none zero {hi} {s} top past e F = rest-end hi s (omega arith)
+  rest-none (suc m) {hi} {s} top past e F = rest-next hi s (omega arith) ∙ (ap (λ (ls : List ListedRing). ls ++ restFrom t q hi (s + 1)) (quiet-start top past F (omega arith)) ∙ rest-none m top past (omega arith) (from-next top F))
 
-  rest-none : (m hi s : ℕ) → hi ≤ 1024 → suc hi - s ≡ m → Quiet hi s → restFrom t q hi s ≡ []
-  rest-none zero hi s top e Q = rest-end hi s (omega arith)
-  rest-none (suc m) hi s top e Q = rest-next hi s (omega arith) ∙ (ap (λ (ls : List ListedRing). ls ++ restFrom t q hi (s + 1)) (quiet-start hi s top (omega arith) Q) ∙ rest-none m hi (s + 1) top (omega arith) (quiet-later hi s (omega arith) Q))
-
-  -- where no day of the range is a row's core time, no start from s on has an entry
-  pub rest-quiet : (hi s : ℕ) → hi ≤ 1024 → {xs : List ℕ} → Timed t q hi s (size t) xs → ((e : ℕ) → s ≤ e → e ≤ hi → getD xs e 0 ≡ 0) → restFrom t q hi s ≡ []
-  rest-quiet hi s top {xs} T z = rest-none (suc hi - s) hi s top refl quiet
-    where
-      quiet : Quiet hi s
-      quiet j =
-          ⊎-elim (λ n. n)
-          (λ r. ⊎-elim (λ y. row-past t q hi s j (leb-true (size t) j y)) (λ y. let a = T .each (rowTime t q hi s j) (let b = r .1 in omega arith) in let c = z (rowTime t q hi s j) (r .0) (r .1) in let d = count-pos (λ i. eqb (rowTime t q hi s i) (rowTime t q hi s j)) (size t) j (leb-false (size t) j y) (eq-eqb (rowTime t q hi s j) (rowTime t q hi s j) refl) in absurd (omega arith)) (look (leb (size t) j)))
-          (row-time t q hi s j)
+  -- where no row has a core time, no start from s on has an entry
+  pub rest-quiet : {hi s low : ℕ} → hi ≤ 1024 → hi < low → TimesFrom hi s low → restFrom t q hi s ≡ []
+  rest-quiet {hi} {s} top past F = rest-none (suc hi - s) top past refl F
 
 -- ---- the end of a pass
 

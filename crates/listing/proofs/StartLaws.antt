@@ -19,7 +19,7 @@ use Rattle.rings.specs.Ring.{ring, members}
 use Rattle.rings.specs.CoreTimes.{never, rowTime}
 use Rattle.rings.specs.Windows.{Window, windowsFrom}
 use Rattle.rings.specs.Inner.Peeling.{Season, Ready, Split, query}
-use Rattle.rings.specs.Inner.Turning.{Timed}
+use Rattle.rings.specs.Inner.Counting.{Timed}
 use Rattle.rings.specs.declared.Query.{Query}
 use Rattle.rings.proofs.WordLaws.{look, and-i, and-l, and-r, same-truth, tally-yes, tally-no, count-le, count-same, count-none, count-pos, count-some}
 use Rattle.rings.proofs.CoreTimeLaws.{row-time, row-past, ring-size}
@@ -123,9 +123,9 @@ module _ (t : Table) (q : Query) (hi s : ℕ) (top : hi ≤ 1024) {xs : List ℕ
   none-before o =
       sym (count-none (λ j. ltb (time j) s) (size t) (λ j l. ⊎-elim (λ n. le-ltb (time j) s (omega arith)) (λ d. le-ltb (time j) s (d .0)) (row-time t q hi s j)))
 
-  pub sum-small : size t ≤ 16384 → s ≤ hi → sumOf xs s (hi + 1 - s) ≤ 16384
+  pub sum-small : size t ≤ 16384 → (e : ℕ) → e ≤ hi → sumOf xs e (hi + 1 - e) ≤ 16384
   unfolding sumOf
-  sum-small most o = let r = from (hi + 1 - s) s 0 (omega arith) (none-before o) in omega arith
+  sum-small most e o = let r = from (hi + 1 - e) e (count (λ j. ltb (time j) e) (size t)) (omega arith) refl in omega arith
     where
       from : (m e total : ℕ) → e + m ≡ suc hi → total ≡ count (λ j. ltb (time j) e) (size t) → total + sumOf xs e m ≤ size t
       from zero e total h et = let a = count-le (λ j. ltb (time j) e) (size t) in omega arith

@@ -4,6 +4,8 @@
 --     Earliest t q hi s r      r is the least core time at s of the rows dated s, never if none has one
 --     sumOf xs e m             the sum of xs from e on, m numbers
 --     countEntries xs least s e total m    the entries of start s with an end from e on, m days, as the counts xs say; total rows have earlier core times
+--     Uncounted xs s low       no day from s on is counted in xs before low
+--     FirstCounted xs low hi r    r is the first day from low to hi that is counted in xs, hi + 1 if none is
 --     Entering                 an entry goes to place n of three columns, if n is below room
 --     columnOf part room ls old    a column after the entries ls, of which those below room were written
 --     Progress room goal rest  of the entries goal all but rest are counted, summed up and written
@@ -11,7 +13,7 @@ use Prim.Native.Nat.{ℕ, zero, suc, _+_, _-_, _≤_, _<_}
 use mathlib.Core.Path.{_≡_}
 use mathlib.Core.Logic.{_⊎_}
 use mathlib.Core.List.{List, [], _++_, map}
-use lib.ListN.{length, set, take}
+use lib.ListN.{length, getD, set, take}
 use lib.Dec.{leb, ltb}
 use Rattle.rings.specs.Words.{_and_, at, run, joined, kept, chosen}
 use Rattle.rings.specs.Table.{Table, dayOf}
@@ -46,6 +48,15 @@ unfoldable pub countEntries : List ℕ → ℕ → ℕ → ℕ → ℕ → ℕ �
 countEntries xs least s e total zero = []
 countEntries xs least s e total (suc m) =
     kept (ltb 0 (at xs e) and leb least e) (record { start = s; end = e; rows = total + at xs e }) (countEntries xs least s (suc e) (total + at xs e) m)
+
+pub record Uncounted (xs : List ℕ) (s low : ℕ) : Type 0 where
+  pub order : s ≤ low
+  pub none : (e : ℕ) → s ≤ e → e < low → getD xs e 0 ≡ 0
+
+pub record FirstCounted (xs : List ℕ) (low hi r : ℕ) : Type 0 where
+  pub before : Uncounted xs low r
+  pub to : r ≤ hi + 1
+  pub counted : r ≤ hi → getD xs r 0 ≡ 0 → ⊥
 
 pub data Entering (room n s e total : ℕ) (starts ends rows starts′ ends′ rows′ : List ℕ) : Type 0 where
   pass : room ≤ n → (starts′ ≡ starts) × (ends′ ≡ ends) × (rows′ ≡ rows) → Entering room n s e total starts ends rows starts′ ends′ rows′

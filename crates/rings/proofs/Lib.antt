@@ -26,10 +26,11 @@ pub mod PlaceLaws
 pub mod ClosingLaws
 pub mod LookLaws
 pub mod LossLaws
+pub mod SurgeLaws
 pub mod SettleLaws
 pub mod TurnLaws
-pub mod TallyLaws
-pub mod TreadLaws
+pub mod CountingLaws
+pub mod ShiftLaws
 pub mod PassLaws
 pub mod ArchiveLaws
 pub mod Demand2

@@ -5,7 +5,7 @@
 --     leaving-start, leaving-row, leaving-last                          the rows that leave
 --     first-is, second-is, day-of, first-small, second-small, is-first  what the code reads of a row
 -- Assumes nothing.
-use Prim.Native.Nat.{ℕ, suc, _+_, _-_, _*_, _≤_, _<_}
+use Prim.Native.Nat.{ℕ, suc, min, _+_, _-_, _*_, _≤_, _<_}
 use native.Mathlib.Nat.{le-refl, le-trans, le-antisymm, eq-or-lt-of-le}
 use native.Mathlib.Numerals.{add-one}
 use native.Mathlib.Omega.{arith}
@@ -30,7 +30,7 @@ use Rattle.rings.proofs.WordLaws.{look, clash, and-l, count-none, same-
 use Rattle.rings.proofs.RingLaws.{touch-cases}
 use Rattle.rings.proofs.PairLaws.{other-first, other-second, fresh-e}
 use Rattle.rings.proofs.FallLaws.{guess-at, other-small}
-use Rattle.rings.proofs.AlongLaws.{Along, begun, along-out, along-row, along-touch, along-none, along-next, along-fresh, along-other}
+use Rattle.rings.proofs.AlongLaws.{Along, Begun, along-out, along-row, along-touch, along-none, along-next, along-fresh, along-other}
 use Rattle.rings.proofs.LookLaws.{By, by-most, both, not-first, backing-e, backers-yes, backers-no}
 
 -- ---- losses
@@ -153,8 +153,8 @@ module _ (t : Table) (x : ℕ → ℕ) (lo u old new : ℕ) (sp₀ : List ℕ) w
 
   module _ {b : ℕ} {sp : List ℕ} (O : Lessened t x lo u b old new sp₀ sp) where
     -- what is left takes nothing
-    lessened-all : (m : ℕ) → ((i : ℕ) → b ≤ i → i < m → fresh t lo i ≡ true → touches t i u ≡ true → new ≤ dayOf t i) → Lessened t x lo u m old new sp₀ sp
-    lessened-all m late = record { long = O .long; less = O .less; lost = λ i k f h p o n. ⊎-elim (λ y. let c = late i (leb-true b i y) k f h in absurd (omega arith)) (λ y. O .lost i (leb-false b i y) f h p o n) (look (leb b i)) }
+    lessened-all : (m : ℕ) → ((i : ℕ) → b ≤ i → i < m → touches t i u ≡ true → dayOf t i ≤ x (otherOf t i u) → x (otherOf t i u) < new → ⊥) → Lessened t x lo u m old new sp₀ sp
+    lessened-all m late = record { long = O .long; less = O .less; lost = λ i k f h p o n. ⊎-elim (λ y. absurd (late i (leb-true b i y) k h o n)) (λ y. O .lost i (leb-false b i y) f h p o n) (look (leb b i)) }
 
     lessened-next : (j : ℕ) {y : Bool} {v tail r : ℕ} {ws sp′ ws′ : List ℕ} → ((i : ℕ) → b ≤ i → i < j → touches t i u ≡ false) → v ≡ otherOf t j u → v < 4096 → (fresh t lo j ≡ true → old ≤ x v → dayOf t j ≤ x v → x v < new → y ≡ true) → Losing y v tail sp ws sp′ ws′ r → Lessened t x lo u (j + 1) old new sp₀ sp′
     lessened-next j {y} {v} {sp′ = sp′} none ev small is-lost L =
@@ -175,9 +175,8 @@ module _ (t : Table) (x : ℕ → ℕ) (lo u old new : ℕ) (sp₀ : List ℕ) w
             let d = losing-less small (O .long) L .one (is-lost (subst (λ (c : ℕ). fresh t lo c ≡ true) q f) (omega arith) (omega arith) (omega arith)) in
             let a = at-place sp′ e in let c = at-place sp₀ e in let m = O .less v in omega arith
 
--- the rows of u before place p have been seen; the queue had tail entries, and has end
-pub record Wave (d f g : List ℕ) (r : Season) (xs : List ℕ) (u old new tail : ℕ) (sp₀ ws₀ : List ℕ) (p end : ℕ) (sp ws : List ℕ) : Type 0 where
-  pub b : ℕ
+-- the rows of u below b, which stand before place p, have been seen; the queue had tail entries, and has end
+pub record Wave (d f g : List ℕ) (r : Season) (xs : List ℕ) (u old new tail : ℕ) (sp₀ ws₀ : List ℕ) (b p end : ℕ) (sp ws : List ℕ) : Type 0 where
   pub along : Along (tableOf d f g) u b p
   pub done : Lessened (tableOf d f g) (guess xs) (r .lo) u b old new sp₀ sp
   pub queued : Queued tail sp₀ ws₀ end sp ws
@@ -186,28 +185,37 @@ module _ (d f g links : List ℕ) (r : Season) (R : Ready d f g links r) (xs : L
   abbrev tw : Table
   tw = tableOf d f g
 
-  pub wave-start : {p : ℕ} → length sp₀ ≡ 4096 → length ws₀ ≡ 4352 → Ahead tw u (r .lo) p → Wave d f g r xs u old new tail sp₀ ws₀ p tail sp₀ ws₀
-  wave-start l m A = let B = begun A in record { b = B .b; along = B .along; done = lessened-start tw (guess xs) (r .lo) u old new sp₀ (B .b) (B .before) l; queued = queued-start tail sp₀ ws₀ m }
+  pub wave-start : {p : ℕ} → length sp₀ ≡ 4096 → length ws₀ ≡ 4352 → (B : Begun tw u (r .lo) p) → Wave d f g r xs u old new tail sp₀ ws₀ (B .b) p tail sp₀ ws₀
+  wave-start l m B = record { along = B .along; done = lessened-start tw (guess xs) (r .lo) u old new sp₀ (B .b) (B .before) l; queued = queued-start tail sp₀ ws₀ m }
 
-  module _ {p end last : ℕ} {sp ws : List ℕ} (W : Wave d f g r xs u old new tail sp₀ ws₀ p end sp ws) (ee : last ≡ placeOf tw (suc u)) where
+  module _ {b p end last : ℕ} {sp ws : List ℕ} (W : Wave d f g r xs u old new tail sp₀ ws₀ b p end sp ws) (ee : last ≡ placeOf tw (suc u)) where
     pub wave-out : last ≤ p → Lessened tw (guess xs) (r .lo) u (length d) old new sp₀ sp × Queued tail sp₀ ws₀ end sp ws
-    wave-out h = (lessened-all tw (guess xs) (r .lo) u old new sp₀ (W .done) (length d) (λ i a k fr y. clash y (along-out d f g links (R .sound) (R .linked) small (W .along) ee h i a k)), W .queued)
+    wave-out h = (lessened-all tw (guess xs) (r .lo) u old new sp₀ (W .done) (length d) (λ i a k y p o. clash y (along-out d f g links (R .sound) (R .linked) small (W .along) ee h i a k)), W .queued)
 
     module _ (more : p < last) {j : ℕ} (ej : j ≡ getD links (8192 + p) 0) {day : ℕ} (ed : day ≡ getD d j 0) where
       w-below : j < length d
       w-below = along-row d f g links (R .sound) (R .linked) small (W .along) ee more ej
 
-      w-none : (i : ℕ) → W .b ≤ i → i < j → touches tw i u ≡ false
+      w-none : (i : ℕ) → b ≤ i → i < j → touches tw i u ≡ false
       w-none = along-none d f g links (R .sound) (R .linked) small (W .along) ee more ej
 
       w-day : day ≡ dayOf tw j
       unfolding dayOf at
       w-day = ed
 
-      pub wave-stop : new ≤ day → Lessened tw (guess xs) (r .lo) u (length d) old new sp₀ sp × Queued tail sp₀ ws₀ end sp ws
-      wave-stop h = (
+      -- a row of u from there on takes none: it is dated on the new time or later, or behind the range
+      pub wave-late : {until : ℕ} → until ≡ min new (r .end + 1) → until ≤ day → (i : ℕ) → b ≤ i → i < length d → touches tw i u ≡ true → (new ≤ dayOf tw i) ⊎ (r .end < dayOf tw i)
+      wave-late eu h i a k y =
+          ⊎-elim (λ z. let o = R .setting .rising j i (leb-true j i z) k in let e = w-day in ⊎-elim (λ m. let c = leb-true new (dayOf tw i) m in _⊎_.inl c) (λ m. let c = leb-false new (dayOf tw i) m in _⊎_.inr (omega arith)) (look (leb new (dayOf tw i))))
+          (λ z. clash y (w-none i a (leb-false j i z))) (look (leb j i))
+
+      pub wave-stop : Days (r .end) xs → new ≡ getD xs u 0 → {until : ℕ} → until ≡ min new (r .end + 1) → until ≤ day → Lessened tw (guess xs) (r .lo) u (length d) old new sp₀ sp × Queued tail sp₀ ws₀ end sp ws
+      wave-stop D en eu h = (
         lessened-all tw (guess xs) (r .lo) u old new sp₀ (W .done) (length d)
-            (λ i a k fr y. ⊎-elim (λ z. let o = R .setting .rising j i (leb-true j i z) k in let e = w-day in omega arith) (λ z. clash y (w-none i a (leb-false j i z))) (look (leb j i))),
+            (λ i a k y p o.
+            let v = other-small tw (query (r .k)) (r .start) (r .end) (r .lo) (R .setting) i u k y in
+            let gv = guess-at xs (otherOf tw i u) len v in
+            ⊎-elim (λ m. omega arith) (λ m. ⊎-elim (λ c. omega arith) (λ c. ⊎-elim (λ e. let g = R .setting .fits in omega arith) (λ e. omega arith) (D u small)) (D (otherOf tw i u) v)) (wave-late eu h i a k y)),
         W .queued,
       )
 
@@ -218,10 +226,9 @@ module _ (d f g links : List ℕ) (r : Season) (R : Ready d f g links r) (xs : L
         pub wave-small : v < 4096
         wave-small = subst (λ (w : ℕ). w < 4096) (sym w-other) (other-small tw (query (r .k)) (r .start) (r .end) (r .lo) (R .setting) j u w-below (along-touch d f g links (R .sound) (R .linked) small (W .along) ee more ej))
 
-        pub wave-next : {y w : Bool} {z end′ : ℕ} {sp′ ws′ : List ℕ} → end < 4352 → y ≡ (leb (r .lo) j and leb (getD links (8192 + 2 * length d + j) 0) (r .lo)) → z ≡ getD xs v 0 → w ≡ ((leb old z && leb day z) && ltb z new) → Losing (y && w) v end sp ws sp′ ws′ end′ → Wave d f g r xs u old new tail sp₀ ws₀ (p + 1) end′ sp′ ws′
+        pub wave-next : {y w : Bool} {z end′ : ℕ} {sp′ ws′ : List ℕ} → end < 4352 → y ≡ (leb (r .lo) j and leb (getD links (8192 + 2 * length d + j) 0) (r .lo)) → z ≡ getD xs v 0 → w ≡ ((leb old z && leb day z) && ltb z new) → Losing (y && w) v end sp ws sp′ ws′ end′ → Wave d f g r xs u old new tail sp₀ ws₀ (j + 1) (p + 1) end′ sp′ ws′
         wave-next {y} {w} {z} room ey ez ew L =
             record {
-              b = j + 1;
               along = along-next d f g links (R .sound) (R .linked) small (W .along) ee more ej;
               done = lessened-next tw (guess xs) (r .lo) u old new sp₀ (W .done) j w-none w-other wave-small lost L;
               queued = queued-losing wave-small room (W .done .long) (W .queued) L;

@@ -1,6 +1,7 @@
 -- Why settling is right (src/settle.rt), from the looks (LookLaws) and the losses (LossLaws).
 --     rise-lower, rise-own, rise-other, rise-keeps     u rises: no time passes the core times, u keeps its supporters, another loses u at most
 --     account-same, account-rise                       one account settles
+--     account-days, account-now, account-raised        what the loop over its rows asks of it
 --     split-rises, core-days, settle-start, settle-end from the core times at s, with those waiting who lost a supporter, to the core times at the next start, with nobody waiting
 --     spare-ones, all-risen                            after a peel nobody is known to have a supporter to spare, and any time may be another
 --     Filled, filled-start, filled-next                a list that is written from the front
@@ -24,6 +25,7 @@ use Rattle.rings.specs.Inner.Links.{otherOf, fresh}
 use Rattle.rings.specs.Inner.Support.{supports, supporters}
 use Rattle.rings.specs.Inner.Peeling.{Setting, season, query, guess, Place, Split, CoreTimesAre}
 use Rattle.rings.specs.Inner.Settling.{backing, backers, Days, Settling, Least, Looked, Lessened, Leaving, Queued, Waiting, Risen, Rising, Spare}
+use Rattle.rings.specs.Inner.Counting.{timeBy, Histogram, Raised}
 use Rattle.rings.specs.declared.Query.{Query}
 use Rattle.rings.proofs.WordLaws.{look, clash, count-mono, tally-yes, tally-no, same-or}
 use Rattle.rings.proofs.RingLaws.{joins-touch, joins-cases, met-e}
@@ -246,6 +248,22 @@ module _ (t : Table) (q : Query) (s hi lo : ℕ) (S : Setting t q s hi lo) {xs s
 
         later : {w : ℕ} → Place ws 0 r w → Place ws″ 0 (r + 1) w
         later p = let b = p .below in record { place = p .place; from = p .from; below = omega arith; is = before (p .place) b ∙ p .is }
+
+-- what the loop over its rows asks of an account that rose
+module _ (xs : List ℕ) {t : Table} {k s hi u y m : ℕ} (fits : hi < never) (long : length xs ≡ 4096) (small : u < 4096) (D : Days hi xs) (K : Looked t (guess xs) s k hi (getD xs u 0) u y m) where
+  pub account-days : Days hi (set xs u y)
+  account-days v l =
+      ⊎-elim (λ e. let g : getD (set xs u y) v 0 ≡ y = ap (λ (c : ℕ). getD (set xs u y) c 0) e ∙ getD-set-same xs u y 0 (omega arith) in ⊎-elim (λ o. _⊎_.inr (g ∙ o)) (λ o. let a = o .0 in _⊎_.inl (omega arith)) (K .least .enough))
+      (λ n. subst (λ (c : ℕ). (c ≤ hi) ⊎ (c ≡ never)) (sym (getD-set-other xs u v y 0 n)) (D v l)) (same-or v u)
+
+  pub account-now : y ≡ getD (set xs u y) u 0
+  account-now = sym (getD-set-same xs u y 0 (omega arith))
+
+  pub account-raised : {counts : List ℕ} → (y ≡ getD xs u 0 → ⊥) → hi ≤ 1024 → Histogram (timeBy t (guess xs) s hi) (size t) counts → Raised t s hi u (getD xs u 0) y (set xs u y) counts
+  account-raised n top T =
+      let a = K .least .from in
+      let up : getD xs u 0 < y = ⊎-elim (λ e. absurd (n (sym e))) (λ e. e) (eq-or-lt-of-le a) in
+      record { was = xs; long = long; then = refl; from = refl; up = up; day = ⊎-elim (λ e. e) (λ e. ⊎-elim (λ o. absurd (omega arith)) (λ o. let b = o .0 in absurd (omega arith)) (K .least .enough)) (D u small); top = top; counted = T }
 
 -- ---- the first and the last of a start
 

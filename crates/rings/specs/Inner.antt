@@ -7,3 +7,4 @@ pub mod Recalling
 pub mod Closing
 pub mod Settling
 pub mod Turning
+pub mod Counting

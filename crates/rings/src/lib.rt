@@ -1,6 +1,8 @@
 // Rings of a dated payment table.
 
 pub mod checks;
+pub mod choice;
+pub mod counts;
 pub mod links;
 pub mod peel;
 pub mod recalling;

@@ -10,7 +10,14 @@ ghost use lib.Dec.{leb, ltb};
 ghost use Rattle.rings.specs.Table.{tableOf};
 ghost use Rattle.rings.specs.Inner.Peeling.{query, guess, season, Ready, Placed, Span, Split, CoreTimesAre};
 ghost use Rattle.rings.specs.Inner.Links.{Ahead};
+ghost use Rattle.rings.specs.Inner.Counting.{timeBy, Histogram, Timed, Raised};
 ghost use Rattle.rings.specs.Inner.Settling.{Days, Over, Marking, Glanced, Looked, Losing, Lessened, Leaving, Queued, Rising, Spare, Risen};
+use crate::choice::lesser;
+use crate::choice::one;
+use crate::choice::pick;
+use crate::counts::count_times;
+use crate::counts::pay_counts;
+use crate::counts::take_count;
 use crate::links::entry;
 use crate::links::other;
 use crate::links::put;
@@ -46,20 +53,6 @@ struct Standing {
     risen: usize,
     tail: usize,
     walked: usize,
-}
-
-// 1 where the test holds, else 0.
-fn one(test: bool) -> u16
-    ensures { λ r. ⌜ (test ≡ true → r ≡ 1) × (test ≡ false → r ≡ 0) ⌝ }
-{
-    if test { 1 } else { 0 }
-}
-
-// The first of two numbers where the test holds, else the second.
-fn pick(test: bool, x: u16, y: u16) -> u16
-    ensures { λ r. ⌜ (test ≡ true → r ≡ x) × (test ≡ false → r ≡ y) ⌝ }
-{
-    if test { x } else { y }
 }
 
 // A row dated on this day, and all later ones, can change nothing: they support on no day up to c, and either enough do already, or they lie behind the range or behind the day above.
@@ -247,7 +240,7 @@ fn lose(spare: &mut [u16], queue: &mut [u16], tail: usize, v: usize, test: bool)
     tail + wide(one(last))
 }
 
-// The rise of u takes a supporter from each that it supported till now. A row dated on the new time or later takes none. 4,353 says that the queue has no place left.
+// The rise of u takes a supporter from each that it supported till now. A row dated on the new time or later, or behind the range, takes none. Where days are counted, each row whose time moves with it is taken off its day, and all of them are counted on the new one at the end. 4,353 says that the queue has no place left.
 fn lose_others(
     days: &[u16],
     first: &[u16],
@@ -265,19 +258,25 @@ fn lose_others(
     tail: usize,
     spare: &mut [u16],
     queue: &mut [u16],
+    counting: bool,
+    counts: &mut [u16],
 ) -> usize
     requires { ⌜ Ready (now days) (now first) (now second) (now links) (season k start stop lo) ⌝ }
-    requires { ⌜ (u < 4096) × (length (now times) ≡ 4096) × (length (now spare) ≡ 4096) × (length (now queue) ≡ 4352) × Ahead (tableOf (now days) (now first) (now second)) u lo from ⌝ }
-    ensures { λ r. ⌜ (r ≤ 4352 → Lessened (tableOf (now (days .entry)) (now (first .entry)) (now (second .entry))) (guess (now (times .entry))) lo u (length (now (days .entry))) old new (now (spare .entry)) (now (spare .exit)) × Queued tail (now (spare .entry)) (now (queue .entry)) r (now (spare .exit)) (now (queue .exit))) ⌝ }
+    requires { ⌜ (u < 4096) × (length (now times) ≡ 4096) × (length (now spare) ≡ 4096) × (length (now queue) ≡ 4352) × Ahead (tableOf (now days) (now first) (now second)) u lo from × Days stop (now times) × (new ≡ getD (now times) u 0) ⌝ }
+    requires { ⌜ (counting ≡ true → Raised (tableOf (now days) (now first) (now second)) start stop u old new (now times) (now counts)) ⌝ }
+    ensures { λ r. ⌜ (r ≤ 4352 → Lessened (tableOf (now (days .entry)) (now (first .entry)) (now (second .entry))) (guess (now (times .entry))) lo u (length (now (days .entry))) old new (now (spare .entry)) (now (spare .exit)) × Queued tail (now (spare .entry)) (now (queue .entry)) r (now (spare .exit)) (now (queue .exit)) × (counting ≡ true → Histogram (timeBy (tableOf (now (days .entry)) (now (first .entry)) (now (second .entry))) (guess (now (times .entry))) start stop) (length (now (days .entry))) (now (counts .exit)))) ⌝ }
 {
     let n = days.len();
     let last = entry(links, u);
+    let until = lesser(new, stop + 1);
     let mut p = from;
     let mut end = tail;
+    let mut moved = 0;
     while p < last {
         let j = entry(links, 8192 + p);
         let day = days[j];
-        if new <= day {
+        if until <= day {
+            pay_counts(counting, counts, new, moved);
             return end;
         }
         if 4352 <= end {
@@ -288,9 +287,14 @@ fn lose_others(
         let a = entry(first, j);
         let b = entry(second, j);
         let v = other(a, b, u);
-        let lost = is_lost(times[v], day, old, new);
+        let z = times[v];
+        let lost = is_lost(z, day, old, new);
         end = lose(spare, queue, end, v, fresh & lost);
+        let time = greater(greater(old, z), day);
+        let moves = (lo <= j) & (z < new);
+        moved = take_count(counting, counts, moves, time, moved);
     }
+    pay_counts(counting, counts, new, moved);
     end
 }
 
@@ -311,10 +315,14 @@ fn settle_account(
     times: &mut [u16],
     spare: &mut [u16],
     queue: &mut [u16],
+    counting: bool,
+    counts: &mut [u16],
 ) -> Standing
     requires { ⌜ Ready (now days) (now first) (now second) (now links) (season k start stop lo) ⌝ }
     requires { ⌜ (budget ≤ 65536) × (head < tail) × (tail ≤ 4352) × (risen ≤ head) × (length (now times) ≡ 4096) × (length (now spare) ≡ 4096) × (length (now queue) ≡ 4352) × (getD (now queue) head 0 < 4096) × Days stop (now times) ⌝ }
+    requires { ⌜ (counting ≡ true → (stop ≤ 1024) × Histogram (timeBy (tableOf (now days) (now first) (now second)) (guess (now times)) start stop) (length (now days)) (now counts)) ⌝ }
     ensures { λ r. ⌜ (r .walked ≤ 98304) × (r .tail ≤ 4352 → (xs : List ℕ) → Rising (tableOf (now (days .entry)) (now (first .entry)) (now (second .entry))) (query k) stop start xs (now (times .entry)) (now (spare .entry)) (now (queue .entry)) head tail risen → Rising (tableOf (now (days .entry)) (now (first .entry)) (now (second .entry))) (query k) stop start xs (now (times .exit)) (now (spare .exit)) (now (queue .exit)) (head + 1) (r .tail) (r .risen)) ⌝ }
+    ensures { λ r. ⌜ (r .tail ≤ 4352 → counting ≡ true → Histogram (timeBy (tableOf (now (days .entry)) (now (first .entry)) (now (second .entry))) (guess (now (times .exit))) start stop) (length (now (days .entry))) (now (counts .exit))) ⌝ }
 {
     let u = entry(queue, head);
     let from = entry(links, 4096 + u);
@@ -368,6 +376,8 @@ fn settle_account(
         tail,
         spare,
         queue,
+        counting,
+        counts,
     );
     Standing {
         risen: risen + 1,
@@ -391,10 +401,14 @@ fn settle(
     times: &mut [u16],
     spare: &mut [u16],
     queue: &mut [u16],
+    counting: bool,
+    counts: &mut [u16],
 ) -> usize
     requires { ⌜ Ready (now days) (now first) (now second) (now links) (season k start stop lo) ⌝ }
     requires { ⌜ (budget ≤ 65536) × (length (now times) ≡ 4096) × (length (now spare) ≡ 4096) × (length (now queue) ≡ 4352) × (waiting ≤ 4352 → Rising (tableOf (now days) (now first) (now second)) (query k) stop start (now times) (now times) (now spare) (now queue) 0 waiting 0) ⌝ }
+    requires { ⌜ (counting ≡ true → (stop ≤ 1024) × Histogram (timeBy (tableOf (now days) (now first) (now second)) (guess (now times)) start stop) (length (now days)) (now counts)) ⌝ }
     ensures { λ r. ⌜ (r ≤ 4352 → CoreTimesAre (now (days .entry)) (now (first .entry)) (now (second .entry)) (season k start stop lo) (now (times .exit)) × Spare (tableOf (now (days .entry)) (now (first .entry)) (now (second .entry))) (query k) start (now (times .exit)) (now (spare .exit)) × Risen (now (times .entry)) (now (times .exit)) (now (queue .exit)) r) ⌝ }
+    ensures { λ r. ⌜ (r ≤ 4352 → counting ≡ true → Histogram (timeBy (tableOf (now (days .entry)) (now (first .entry)) (now (second .entry))) (guess (now (times .exit))) start stop) (length (now (days .entry))) (now (counts .exit))) ⌝ }
 {
     let mut head = 0;
     let mut tail = waiting;
@@ -423,6 +437,8 @@ fn settle(
             times,
             spare,
             queue,
+            counting,
+            counts,
         );
         head += 1;
         tail = now.tail;
@@ -571,7 +587,7 @@ pub fn begin(
     spare_none(spare);
 }
 
-// From the core times at s to those at the day after it, where the heads stand already, with a list of the accounts whose times are others; the number of its entries. Where settling grows dear the start is peeled afresh, so that none costs more than a constant times its rows.
+// From the core times at s to those at the day after it, where the heads stand already, with a list of the accounts whose times are others; the number of its entries. Where days are counted, so are the row times: at entry without the rows dated s. Where settling grows dear the start is peeled afresh, so that none costs more than a constant times its rows.
 pub fn advance(
     days: &[u16],
     first: &[u16],
@@ -586,11 +602,15 @@ pub fn advance(
     times: &mut [u16],
     spare: &mut [u16],
     queue: &mut [u16],
+    counting: bool,
+    counts: &mut [u16],
 ) -> usize
     requires { ⌜ Ready (now days) (now first) (now second) (now links) (season k (s + 1) te next) ⌝ }
     requires { ⌜ (s ≤ te) × (te ≤ 1024) × Split (now days) s lo × Split (now days) (s + 1) next × Split (now days) (te + 1) end ⌝ }
     requires { ⌜ CoreTimesAre (now days) (now first) (now second) (season k s te lo) (now times) × Spare (tableOf (now days) (now first) (now second)) (query k) s (now times) (now spare) × (length (now queue) ≡ 4352) ⌝ }
+    requires { ⌜ (counting ≡ true → Histogram (timeBy (tableOf (now days) (now first) (now second)) (guess (now times)) (s + 1) te) (length (now days)) (now counts)) ⌝ }
     ensures { λ r. ⌜ CoreTimesAre (now (days .entry)) (now (first .entry)) (now (second .entry)) (season k (s + 1) te next) (now (times .exit)) × Spare (tableOf (now (days .entry)) (now (first .entry)) (now (second .entry))) (query k) (s + 1) (now (times .exit)) (now (spare .exit)) × Risen (now (times .entry)) (now (times .exit)) (now (queue .exit)) r ⌝ }
+    ensures { λ _. ⌜ (counting ≡ true → Timed (tableOf (now (days .entry)) (now (first .entry)) (now (second .entry))) (query k) te (s + 1) (length (now (days .entry))) (now (counts .exit))) ⌝ }
 {
     let waiting = leave_rows(
         days,
@@ -621,6 +641,8 @@ pub fn advance(
         times,
         spare,
         queue,
+        counting,
+        counts,
     );
     if risen <= 4352 {
         return risen;
@@ -638,6 +660,20 @@ pub fn advance(
         times,
         spare,
         queue,
+    );
+    count_times(
+        counting,
+        days,
+        first,
+        second,
+        links,
+        k,
+        s + 1,
+        te,
+        next,
+        end,
+        times,
+        counts,
     );
     list_all(queue);
     4096

@@ -8,11 +8,6 @@
 --     Through                 so are all such rows of the first i accounts of a list; xs are the times of the accounts
 --     Stays                   a row that was renewed is so still
 --     Turned                  the rows of u are renewed, and nothing else is lost
---     IsTime x                x is a day, or never
---     Adding, Removing        one row more with a time, and one fewer
---     Tallies n m sc xs       xs holds, for each day, how often it stands as the time of the first m of n rows
---     Timed t q hi s n xs     xs holds, for each day, how many of the first n rows have this core time at s
---     Started                 what a start hands on to the next: the links with the row times behind them, the times of the accounts, what they can spare, and the counts
 use Prim.Native.Nat.{ℕ, _+_, _-_, _*_, _≤_, _<_}
 use mathlib.Core.Path.{_≡_}
 use mathlib.Core.Logic.{_⊎_}
@@ -59,29 +54,3 @@ pub record Turned (t : Table) (q : Query) (hi s next u y : ℕ) (sc₀ sc : List
   pub turning : Turning t q hi s sc
   pub stays : Stays t q hi s sc₀ sc
   pub walked : Walked t q hi s next u y (size t) sc
-
-abbrev pub IsTime : ℕ → Type 0
-IsTime x = (x < 1025) ⊎ (x ≡ never)
-
-pub data Adding (time : ℕ) (xs xs′ : List ℕ) : Type 0 where
-  pass : time ≡ never → xs′ ≡ xs → Adding time xs xs′
-  one : (time ≡ never → ⊥) → xs′ ≡ set xs time (getD xs time 0 + 1) → Adding time xs xs′
-
-pub data Removing (time : ℕ) (xs xs′ : List ℕ) : Type 0 where
-  pass : time ≡ never → xs′ ≡ xs → Removing time xs xs′
-  one : (time ≡ never → ⊥) → xs′ ≡ set xs time (getD xs time 0 - 1) → Removing time xs xs′
-
-pub record Tallies (n m : ℕ) (sc xs : List ℕ) : Type 0 where
-  pub long : length xs ≡ 1025
-  pub each : (e : ℕ) → e < 1025 → getD xs e 0 ≡ count (λ j. eqb (getD sc (8192 + 3 * n + j) 0) e) m
-
-pub record Timed (t : Table) (q : Query) (hi s n : ℕ) (xs : List ℕ) : Type 0 where
-  pub long : length xs ≡ 1025
-  pub each : (e : ℕ) → e < 1025 → getD xs e 0 ≡ count (λ j. eqb (rowTime t q hi s j) e) n
-
-pub record Started (d f g sc : List ℕ) (p : Season) (times spare counts : List ℕ) : Type 0 where
-  pub ready : Ready d f g sc p
-  pub times-are : CoreTimesAre d f g p times
-  pub spares : Spare (tableOf d f g) (query (p .k)) (p .start) times spare
-  pub kept : Kept (tableOf d f g) (query (p .k)) (p .end) (p .start) sc
-  pub timed : Timed (tableOf d f g) (query (p .k)) (p .end) (p .start) (length d) counts

@@ -6,7 +6,7 @@ use Prim.Native.Nat.{ℕ, _+_, _-_, _*_, _≤_}
 use borrow.Author.Tests.{not-true, not-false}
 use Rattle.listing.specs.Listing.{ListedRing}
 use Rattle.listing.specs.Inner.{sumOf, countEntries, Progress}
-use Rattle.listing.proofs.ProgressLaws.{enter-lengths, sum-next, ends-none, ends-skip, ends-one, ends-end}
+use Rattle.listing.proofs.ProgressLaws.{enter-lengths, sum-next, ends-none, ends-from, ends-skip, ends-one, ends-end}
 use borrow.Author.Needs.{needs}
 use Rattle.listing.proofs.list.list_ends.Statement.{statement}
 use Rattle.listing.proofs.list.list_ends.Tie as tie
@@ -16,18 +16,18 @@ use Rattle.listing.proofs.list.enter.Reads as enter-reads
 use Rattle.listing.proofs.list.is_listed.Reads as is-listed-reads
 
 abbrev Inv-loop : tie.InvT-loop
-Inv-loop s te least room n sum counts starts₀ ends₀ rows₀ count₀ whole₀ total₀ e₀ starts ends rows count whole total e = (s ≤ e) × (e ≤ te + 1) × (count ≤ n + (e - s)) × (whole ≤ sum + (e - s) * 16384) × (total + sumOf counts e (te + 1 - e) ≤ 16384) × (length starts ≡ length starts₀) × (length ends ≡ length ends₀) × (length rows ≡ length rows₀) × ((goal rest : List ListedRing) (x y z : List ℕ) → Progress room goal (countEntries counts least s s 0 (te + 1 - s) ++ rest) n sum x y z starts₀ ends₀ rows₀ → Progress room goal (countEntries counts least s e total (te + 1 - e) ++ rest) count whole x y z starts ends rows)
+Inv-loop s te low least room n sum counts starts₀ ends₀ rows₀ count₀ whole₀ total₀ e₀ starts ends rows count whole total e = (low ≤ e) × (e ≤ te + 1) × (count ≤ n + (e - low)) × (whole ≤ sum + (e - low) * 16384) × (total + sumOf counts e (te + 1 - e) ≤ 16384) × (length starts ≡ length starts₀) × (length ends ≡ length ends₀) × (length rows ≡ length rows₀) × ((goal rest : List ListedRing) (x y z : List ℕ) → Progress room goal (countEntries counts least s s 0 (te + 1 - s) ++ rest) n sum x y z starts₀ ends₀ rows₀ → Progress room goal (countEntries counts least s e total (te + 1 - e) ++ rest) count whole x y z starts ends rows)
 
 abbrev μ-loop : tie.MeasureT-loop
-μ-loop s te least room n sum counts starts₀ ends₀ rows₀ count₀ whole₀ total₀ e₀ starts ends rows count whole total e = te + 1 - e
+μ-loop s te low least room n sum counts starts₀ ends₀ rows₀ count₀ whole₀ total₀ e₀ starts ends rows count whole total e = te + 1 - e
 
--- src/list.rt:125:9
+-- src/list.rt:128:9
 returns : tie.Need-returns Inv-loop μ-loop
-returns c = (omega arith, omega arith, λ goal rest x y z P. ends-none (c .before .before .before .before .before .args .counts .now) _ _ _ (c .if1 .taken) (c .before .before .before .before .before .pre .0 .0) rest P)
+returns c = (omega arith, omega arith, λ goal rest x y z P. ends-none (c .before .before .before .before .before .args .counts .now) _ _ _ (c .if1 .taken) (omega (arith, c .before .before .before .before .before .pre .0 .0, c .before .before .before .before .before .pre .0 .4 .order)) rest P)
 
 -- src/list.rt:134:5
 loop-holds : tie.Need-loop-holds Inv-loop μ-loop
-loop-holds c = (omega arith, omega (arith, c .before .before .before .before .before .pre .0 .0), omega arith, omega arith, omega (arith, c .before .before .before .before .before .pre .0 .3), refl, refl, refl, λ goal rest x y z P. P)
+loop-holds c = (omega arith, omega (arith, c .before .before .before .before .before .pre .0 .0), omega arith, omega arith, omega (arith, c .before .before .before .before .before .pre .0 .3), refl, refl, refl, λ goal rest x y z P. ends-from _ _ _ _ _ (c .before .before .before .before .before .pre .0 .0) (c .before .before .before .before .before .pre .0 .4) rest P)
 
 -- src/list.rt:135:28
 cast-added : tie.Need-cast-added Inv-loop μ-loop
@@ -89,19 +89,19 @@ loop-less-2 c = omega (arith, c .before .before .before .before .before .before 
 loop-again-2 : tie.Need-loop-again-2 Inv-loop μ-loop
 loop-again-2 c = (omega (arith, c .before .before .before .before .before .before .before .before .before .before .before .before .before .before .loop .inv .0), omega (arith, c .before .before .before .before .before .before .before .before .before .before .before .before .before .loop-test .taken), omega (arith, c .before .before .before .before .before .before .before .before .before .before .before .before .before .before .loop .inv .0, c .before .before .before .before .before .before .before .before .before .before .before .before .before .before .loop .inv .2), omega (arith, c .before .before .before .before .before .before .before .before .before .before .before .before .before .before .loop .inv .0, c .before .before .before .before .before .before .before .before .before .before .before .before .before .before .loop .inv .3, c .before .before .before .before .before .before .before .before .before .before .before .before .before .before .loop .inv .4, sum-next (c .before .before .before .before .before .before .before .before .before .before .before .before .before .before .before .before .before .before .before .before .args .counts .now) (c .before .before .before .before .before .before .before .before .before .before .before .before .before .before .before .before .before .before .before .before .args .te) (c .before .before .before .before .before .before .before .before .before .before .before .before .before .before .loop .e) (c .before .before .before .before .before .before .before .before .before .before .before .before .before .loop-test .taken)), omega (arith, c .before .before .before .before .before .before .before .before .before .before .before .before .before .before .loop .inv .4, sum-next (c .before .before .before .before .before .before .before .before .before .before .before .before .before .before .before .before .before .before .before .before .args .counts .now) (c .before .before .before .before .before .before .before .before .before .before .before .before .before .before .before .before .before .before .before .before .args .te) (c .before .before .before .before .before .before .before .before .before .before .before .before .before .before .loop .e) (c .before .before .before .before .before .before .before .before .before .before .before .before .before .loop-test .taken)), enter-lengths (c .before .before .before .before .before .before .enter .ensures) .0 ∙ c .before .before .before .before .before .before .before .before .before .before .before .before .before .before .loop .inv .5, enter-lengths (c .before .before .before .before .before .before .enter .ensures) .1 ∙ c .before .before .before .before .before .before .before .before .before .before .before .before .before .before .loop .inv .6, enter-lengths (c .before .before .before .before .before .before .enter .ensures) .2 ∙ c .before .before .before .before .before .before .before .before .before .before .before .before .before .before .loop .inv .7, λ goal rest x y z P. ends-one (c .before .before .before .before .before .before .before .before .before .before .before .before .before .before .before .before .before .before .before .before .args .counts .now) _ _ _ _ _ (c .before .before .before .before .before .before .before .before .before .before .before .before .before .loop-test .taken) (c .before .before .before .before .before .before .before .before .before .before .before .is-listed .ensures) rest (c .before .before .before .before .before .before .before .before .before .before .before .before .before .before .loop .inv .8 goal rest x y z P) (not-false _ (c .before .before .before .before .before .before .before .before .before .before .if2 .left)) (omega (arith, c .before .before .before .before .before .before .before .before .before .before .before .before .before .before .before .before .before .before .before .before .pre .1 .0, c .before .before .before .before .before .before .before .before .before .before .before .before .before .before .loop .inv .5)) (c .before .before .before .before .before .before .before .before .before .before .before .before .before .before .loop .inv .6 ∙ (c .before .before .before .before .before .before .before .before .before .before .before .before .before .before .before .before .before .before .before .before .pre .1 .1 ∙ sym (c .before .before .before .before .before .before .before .before .before .before .before .before .before .before .loop .inv .5))) (c .before .before .before .before .before .before .before .before .before .before .before .before .before .before .loop .inv .7 ∙ (c .before .before .before .before .before .before .before .before .before .before .before .before .before .before .before .before .before .before .before .before .pre .1 .2 ∙ sym (c .before .before .before .before .before .before .before .before .before .before .before .before .before .before .loop .inv .5))) (c .before .before .before .before .before .before .enter .ensures))
 
--- src/list.rt:108:1
+-- src/list.rt:110:1
 same-length : tie.Need-same-length Inv-loop μ-loop
 same-length c = c .before .loop .inv .5
 
--- src/list.rt:108:1
+-- src/list.rt:110:1
 same-length-2 : tie.Need-same-length-2 Inv-loop μ-loop
 same-length-2 c = c .before .loop .inv .6
 
--- src/list.rt:108:1
+-- src/list.rt:110:1
 same-length-3 : tie.Need-same-length-3 Inv-loop μ-loop
 same-length-3 c = c .before .loop .inv .7
 
--- src/list.rt:108:1
+-- src/list.rt:110:1
 returns-2 : tie.Need-returns-2 Inv-loop μ-loop
 returns-2 c = (omega (arith, c .before .loop .inv .1, c .before .loop .inv .2, c .before .before .before .before .before .before .before .pre .0 .1), omega (arith, c .before .loop .inv .1, c .before .loop .inv .3, c .before .before .before .before .before .before .before .pre .0 .1), λ goal rest x y z P. ends-end (c .before .before .before .before .before .before .before .args .counts .now) _ _ _ _ _ (c .loop-test .left) rest (c .before .loop .inv .8 goal rest x y z P))
 

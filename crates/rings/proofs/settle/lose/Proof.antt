@@ -9,7 +9,7 @@ use Rattle.rings.proofs.settle.lose.Reads as reads
 use Rattle.rings.proofs.settle.lose.Lts as lts
 use Rattle.rings.proofs.links.put.Reads as put-reads
 use Rattle.rings.proofs.links.wide.Reads as wide-reads
-use Rattle.rings.proofs.settle.one.Reads as one-reads
+use Rattle.rings.proofs.choice.one.Reads as one-reads
 
 -- src/settle.rt:243:13
 mul-n : tie.Need-mul-n

@@ -5,8 +5,8 @@ use Rattle.rings.proofs.settle.note.Statement.{statement}
 use Rattle.rings.proofs.settle.note.Tie as tie
 use Rattle.rings.proofs.settle.note.Reads as reads
 use Rattle.rings.proofs.settle.note.Lts as lts
-use Rattle.rings.proofs.settle.one.Reads as one-reads
-use Rattle.rings.proofs.settle.pick.Reads as pick-reads
+use Rattle.rings.proofs.choice.one.Reads as one-reads
+use Rattle.rings.proofs.choice.pick.Reads as pick-reads
 
 -- src/settle.rt:95:24
 one-requires : tie.Need-one-requires

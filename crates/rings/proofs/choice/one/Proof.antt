@@ -1,15 +1,15 @@
 use mathlib.Core.Path.{refl}
 use Rattle.rings.proofs.WordLaws.{clash}
-use Rattle.rings.proofs.settle.one.Statement.{statement}
-use Rattle.rings.proofs.settle.one.Tie as tie
-use Rattle.rings.proofs.settle.one.Reads as reads
-use Rattle.rings.proofs.settle.one.Lts as lts
+use Rattle.rings.proofs.choice.one.Statement.{statement}
+use Rattle.rings.proofs.choice.one.Tie as tie
+use Rattle.rings.proofs.choice.one.Reads as reads
+use Rattle.rings.proofs.choice.one.Lts as lts
 
--- src/settle.rt:51:1
+-- src/choice.rt:51:1
 returns : tie.Need-returns
 returns c = (λ e. refl, λ e. clash (c .if1 .taken) e)
 
--- src/settle.rt:51:1
+-- src/choice.rt:51:1
 returns-2 : tie.Need-returns-2
 returns-2 c = (λ e. clash e (c .if1 .left), λ e. refl)
 

@@ -1,52 +1,52 @@
 use native.Mathlib.Omega.{arith}
 use mathlib.Core.Path.{refl}
-use Rattle.rings.specs.Inner.Turning.Adding.{pass, one}
+use Rattle.rings.specs.Inner.Counting.Removing.{pass, one}
 use borrow.Author.Needs.{needs}
-use Rattle.rings.proofs.rows.add_count.Statement.{statement}
-use Rattle.rings.proofs.rows.add_count.Tie as tie
-use Rattle.rings.proofs.rows.add_count.Reads as reads
-use Rattle.rings.proofs.rows.add_count.Lts as lts
+use Rattle.rings.proofs.counts.drop_count.Statement.{statement}
+use Rattle.rings.proofs.counts.drop_count.Tie as tie
+use Rattle.rings.proofs.counts.drop_count.Reads as reads
+use Rattle.rings.proofs.counts.drop_count.Lts as lts
 
--- src/rows.rt:48:9
+-- src/rows.rt:60:9
 returns : tie.Need-returns
 returns c = pass (c .if1 .taken) refl
 
--- src/rows.rt:51:17
+-- src/rows.rt:63:17
 mul-counts : tie.Need-mul-counts
 mul-counts c = search needs
 
--- src/rows.rt:51:17
+-- src/rows.rt:63:17
 slice-read-counts : tie.Need-slice-read-counts
 slice-read-counts c = omega (arith, c .before .before .pre .0, (c .before .before .pre .1) (c .before .if1 .left) .0)
 
--- src/rows.rt:51:17
-add-counts : tie.Need-add-counts
-add-counts c = omega (arith, (c .before .before .pre .1) (c .before .if1 .left) .1)
+-- src/rows.rt:63:17
+sub-counts : tie.Need-sub-counts
+sub-counts c = omega (arith, (c .before .before .pre .1) (c .before .if1 .left) .1)
 
--- src/rows.rt:51:5
+-- src/rows.rt:63:5
 mul-counts-2 : tie.Need-mul-counts-2
 mul-counts-2 c = search needs
 
--- src/rows.rt:51:5
+-- src/rows.rt:63:5
 slice-write-counts : tie.Need-slice-write-counts
 slice-write-counts c = omega (arith, c .before .before .pre .0, (c .before .before .pre .1) (c .before .if1 .left) .0)
 
--- src/rows.rt:43:1
+-- src/rows.rt:55:1
 same-length : tie.Need-same-length
 same-length c = search needs
 
--- src/rows.rt:43:1
+-- src/rows.rt:55:1
 returns-2 : tie.Need-returns-2
 returns-2 c = one (c .before .if1 .left) refl
 
-pub add-count-spec : {M : Type 1} → statement M
-add-count-spec =
+pub drop-count-spec : {M : Type 1} → statement M
+drop-count-spec =
     tie.close
     (tie.spec
     returns
     mul-counts
     slice-read-counts
-    add-counts
+    sub-counts
     mul-counts-2
     slice-write-counts
     same-length

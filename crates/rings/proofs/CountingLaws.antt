@@ -1,0 +1,236 @@
+-- Day counts (src/counts.rt): how many rows have each day as their time.
+--     by-in, by-out, by-core, by-later, is-time   the time of a row by those of its accounts
+--     hist-start, hist-few, hist-next, hist-past, hist-same      the rows are counted one after the other
+--     hist-has, hist-drop     one row fewer: it has no time any more
+--     take-place, take-less, take-few, take-end    what `take_count` does
+--     owing-start, owing-same, owing-has, owing-room, owing-move, owing-end    rows that move to one day are taken off theirs first, and counted there at last
+-- Assumes nothing.
+use Prim.Native.Nat.{ℕ, zero, suc, max, _+_, _-_, _≤_, _<_}
+use native.Mathlib.Nat.{le-refl, eq-or-lt-of-le}
+use native.Mathlib.Numerals.{add-one}
+use native.Mathlib.Omega.{arith}
+use mathlib.Core.Path.{_≡_, refl, sym, _∙_, ap, subst}
+use mathlib.Core.Logic.{_⊎_, ⊎-elim}
+use mathlib.Core.Bool.{Bool, true, false}
+use mathlib.Core.List.{List}
+use lib.ListN.{length, getD, set, replicate, length-set, length-replicate, getD-replicate}
+use lib.Seq.{getD-set-same, getD-set-other, set-getD}
+use lib.Dec.{leb, eqb}
+use borrow.Author.Tests.{eq-eqb, ne-eqb, leb-true, leb-false, le-leb, lt-leb}
+use Rattle.rings.specs.Words.{_and_, count}
+use Rattle.rings.specs.Table.{Table, tableOf, size, dayOf, firstOf, secondOf, inWindow}
+use Rattle.rings.specs.CoreTimes.{never, accountTime, rowTime}
+use Rattle.rings.specs.Inner.Peeling.{Setting, query, season, guess, CoreTimesAre}
+use Rattle.rings.specs.Inner.Counting.{timeBy, IsTime, Histogram, owed, Owing, Adding, Removing, Taking}
+use Rattle.rings.proofs.WordLaws.{look, clash, and-i, and-l, and-r, tally-yes, tally-no, count-le, count-same, count-none, count-pos, same-or}
+use Rattle.rings.specs.declared.Query.{Query}
+use Rattle.rings.proofs.PairLaws.{count-drop}
+use Rattle.rings.proofs.CoreTimeLaws.{row-time, row-max, row-before, row-after}
+use Rattle.rings.proofs.FallLaws.{guess-at}
+
+-- ---- the time of a row by those of its accounts
+
+module _ (t : Table) (x : ℕ → ℕ) (s hi j : ℕ) where
+  pub by-in : s ≤ dayOf t j → dayOf t j ≤ hi → timeBy t x s hi j ≡ max (max (x (firstOf t j)) (x (secondOf t j))) (dayOf t j)
+  unfolding timeBy inWindow
+  by-in a b = ap (λ (c : Bool). elim c [ true ↦ max (max (x (firstOf t j)) (x (secondOf t j))) (dayOf t j) | false ↦ never ]) (and-i (le-leb s (dayOf t j) a) (le-leb (dayOf t j) hi b))
+
+  pub by-out : (dayOf t j < s) ⊎ (hi < dayOf t j) → timeBy t x s hi j ≡ never
+  unfolding timeBy inWindow
+  by-out o =
+      ⊎-elim (λ y. ⊎-elim (λ h. let a = leb-true s (dayOf t j) (and-l (leb s (dayOf t j)) (leb (dayOf t j) hi) y) in absurd (omega arith)) (λ h. let a = leb-true (dayOf t j) hi (and-r (leb s (dayOf t j)) (leb (dayOf t j) hi) y) in absurd (omega arith)) o)
+      (λ y. ap (λ (c : Bool). elim c [ true ↦ max (max (x (firstOf t j)) (x (secondOf t j))) (dayOf t j) | false ↦ never ]) y) (look (leb s (dayOf t j) and leb (dayOf t j) hi))
+
+-- where the times of the accounts are core times, so are those of the rows
+pub by-core : (d f g : List ℕ) (k s te lo : ℕ) → Setting (tableOf d f g) (query k) s te lo → {xs : List ℕ} → CoreTimesAre d f g (season k s te lo) xs → (j : ℕ) → j < length d → timeBy (tableOf d f g) (guess xs) s te j ≡ rowTime (tableOf d f g) (query k) te s j
+by-core d f g k s te lo S {xs} C j l =
+    ⊎-elim (λ y. ⊎-elim (λ z. inside (leb-true s (dayOf t j) y) (leb-true (dayOf t j) te z)) (λ z. let h = leb-false (dayOf t j) te z in by-out t (guess xs) s te j (_⊎_.inr h) ∙ sym (row-after t (query k) te s j h)) (look (leb (dayOf t j) te)))
+    (λ y. let h = leb-false s (dayOf t j) y in by-out t (guess xs) s te j (_⊎_.inl h) ∙ sym (row-before t (query k) te s j h)) (look (leb s (dayOf t j)))
+  where
+    t : Table
+    t = tableOf d f g
+
+    at : (u : ℕ) → u < 4096 → guess xs u ≡ accountTime t (query k) te s u
+    at u h = guess-at xs u (C .long) h ∙ C .times u h
+
+    inside : s ≤ dayOf t j → dayOf t j ≤ te → timeBy t (guess xs) s te j ≡ rowTime t (query k) te s j
+    inside a b =
+        let x = S .accounts j l in let y = S .small j l in
+        let m = at (firstOf t j) (omega arith) in let n = at (secondOf t j) y in
+        by-in t (guess xs) s te j a b ∙ ((let e : max (max (guess xs (firstOf t j)) (guess xs (secondOf t j))) (dayOf t j) ≡ max (max (accountTime t (query k) te s (firstOf t j)) (accountTime t (query k) te s (secondOf t j))) (dayOf t j) = omega arith in e) ∙ sym (row-max t (query k) te s (S .fits) j (record { row = l; from = a; to = b })))
+
+-- the day on which the window begins matters only to rows before it
+pub by-later : (t : Table) (x : ℕ → ℕ) (s hi j : ℕ) → s + 1 ≤ dayOf t j → timeBy t x (s + 1) hi j ≡ timeBy t x s hi j
+by-later t x s hi j h =
+    ⊎-elim (λ y. let a = leb-true (dayOf t j) hi y in by-in t x (s + 1) hi j h a ∙ sym (by-in t x s hi j (omega arith) a)) (λ y. let a = leb-false (dayOf t j) hi y in by-out t x (s + 1) hi j (_⊎_.inr a) ∙ sym (by-out t x s hi j (_⊎_.inr a))) (look (leb (dayOf t j) hi))
+
+pub is-time : (t : Table) (q : Query) (hi s j : ℕ) → hi ≤ 1024 → {x : ℕ} → x ≡ rowTime t q hi s j → IsTime x
+is-time t q hi s j top {x} e = ⊎-elim (λ y. _⊎_.inr (e ∙ y)) (λ y. let h = y .1 in _⊎_.inl (omega arith)) (row-time t q hi s j)
+
+-- ---- rows counted one after the other
+
+count-past : (p : ℕ → Bool) (m n : ℕ) → m ≤ n → ((i : ℕ) → m ≤ i → i < n → p i ≡ false) → count p n ≡ count p m
+unfolding count
+count-past p m zero l h = ap (count p) (let e : 0 ≡ m = omega arith in e)
+count-past p m (suc n) l h =
+    ⊎-elim (λ e. ap (count p) (sym e))
+    (λ k. tally-no (count p n) (h n (omega arith) (le-refl (suc n))) ∙ count-past p m n (omega arith) (λ i a b. h i a (omega arith))) (eq-or-lt-of-le l)
+
+module _ (g : ℕ → ℕ) where
+  abbrev has : ℕ → ℕ → Bool
+  has e j = eqb (g j) e
+
+  never-not : (e j : ℕ) → e < 1025 → g j ≡ never → has e j ≡ false
+  never-not e j l h = ne-eqb (g j) e (λ y. omega arith)
+
+  count-yes : (e n : ℕ) → has e n ≡ true → count (has e) (suc n) ≡ suc (count (has e) n)
+  unfolding count
+  count-yes e n h = tally-yes (count (has e) n) h
+
+  count-no : (e n : ℕ) → has e n ≡ false → count (has e) (suc n) ≡ count (has e) n
+  unfolding count
+  count-no e n h = tally-no (count (has e) n) h
+
+  pub hist-start : (n m : ℕ) {xs : List ℕ} → m ≡ 1025 → xs ≡ replicate m 0 → ((j : ℕ) → j < n → g j ≡ never) → Histogram g n xs
+  hist-start n m {xs} l e none =
+      record {
+        long = ap length e ∙ (length-replicate {A = ℕ} m 0 ∙ l);
+        each = λ a h. ap (λ (ys : List ℕ). getD ys a 0) e ∙ (getD-replicate m a 0 0 (omega arith) ∙ sym (count-none (has a) n (λ i k. never-not a i h (none i k))));
+      }
+
+  module _ {n : ℕ} {xs : List ℕ} (T : Histogram g n xs) where
+    pub hist-few : {v : ℕ} → n < 16384 → IsTime v → (length xs ≡ 1025) × ((v ≡ never → ⊥) → (v < 1025) × (getD xs v 0 + 1 < 65536))
+    hist-few {v} l i = (T .long, λ h. let k : v < 1025 = ⊎-elim (λ y. y) (λ y. absurd (h y)) i in (k, let a = T .each v k in let b = count-le (has v) n in omega arith))
+
+    pub hist-next : {v : ℕ} {xs′ : List ℕ} → v ≡ g n → Adding 1 v xs xs′ → Histogram g (n + 1) xs′
+    hist-next {v} {xs′} e A =
+        record {
+          long = added-long A ∙ T .long;
+          each = λ a h. subst (λ (i : ℕ). getD xs′ a 0 ≡ count (has a) i) (sym (add-one n)) (⊎-elim (λ y. here a h y) (λ y. else a h y) (same-or a v));
+        }
+      where
+        added-long : {m v : ℕ} {xs xs′ : List ℕ} → Adding m v xs xs′ → length xs′ ≡ length xs
+        added-long (Adding.pass h e) = ap length e
+        added-long {m} {v} {xs} (Adding.some h e) = ap length e ∙ length-set xs v (getD xs v 0 + m)
+
+        put-here : Adding 1 v xs xs′ → v < 1025 → getD xs′ v 0 ≡ getD xs v 0 + 1
+        put-here (Adding.pass h e) l = absurd (omega arith)
+        put-here (Adding.some h e) l = ap (λ (ys : List ℕ). getD ys v 0) e ∙ getD-set-same xs v (getD xs v 0 + 1) 0 (let o = T .long in omega arith)
+
+        put-else : Adding 1 v xs xs′ → (e : ℕ) → (e ≡ v → ⊥) → getD xs′ e 0 ≡ getD xs e 0
+        put-else (Adding.pass h i) e o = ap (λ (ys : List ℕ). getD ys e 0) i
+        put-else (Adding.some h i) e o = ap (λ (ys : List ℕ). getD ys e 0) i ∙ getD-set-other xs v e (getD xs v 0 + 1) 0 o
+
+        here : (a : ℕ) → a < 1025 → a ≡ v → getD xs′ a 0 ≡ count (has a) (suc n)
+        here a h y =
+            let x : getD xs′ a 0 ≡ getD xs a 0 + 1 = subst (λ (i : ℕ). getD xs′ i 0 ≡ getD xs i 0 + 1) (sym y) (put-here A (omega arith)) in
+            let w = T .each a h in
+            let z : count (has a) (suc n) ≡ suc (count (has a) n) = count-yes a n (eq-eqb (g n) a (sym (y ∙ e))) in omega arith
+
+        else : (a : ℕ) → a < 1025 → (a ≡ v → ⊥) → getD xs′ a 0 ≡ count (has a) (suc n)
+        else a h y = put-else A a y ∙ (T .each a h ∙ sym (count-no a n (ne-eqb (g n) a (λ z. y (sym z ∙ sym e)))))
+
+    -- the rows from n on have no time
+    pub hist-past : {m : ℕ} → n ≤ m → ((j : ℕ) → n ≤ j → j < m → g j ≡ never) → Histogram g m xs
+    hist-past {m} l none = record { long = T .long; each = λ e h. T .each e h ∙ sym (count-past (has e) n m l (λ i a b. never-not e i h (none i a b))) }
+
+pub hist-same : {g g′ : ℕ → ℕ} {n : ℕ} {xs : List ℕ} → ((j : ℕ) → j < n → g′ j ≡ g j) → Histogram g n xs → Histogram g′ n xs
+hist-same {g} {g′} {n} same T = record { long = T .long; each = λ e h. T .each e h ∙ sym (count-same (λ j. eqb (g′ j) e) (λ j. eqb (g j) e) n (λ j l. ap (λ (a : ℕ). eqb a e) (same j l))) }
+
+-- ---- rows that move to one day
+
+owed-here : (new m e : ℕ) → new ≡ e → owed new m e ≡ m
+unfolding owed
+owed-here new m e h = ap (λ (c : Bool). elim c [ true ↦ m | false ↦ 0 ]) (eq-eqb new e h)
+
+owed-else : (new m e : ℕ) → (new ≡ e → ⊥) → owed new m e ≡ 0
+unfolding owed
+owed-else new m e h = ap (λ (c : Bool). elim c [ true ↦ m | false ↦ 0 ]) (ne-eqb new e h)
+
+owed-none : (new e : ℕ) → owed new 0 e ≡ 0
+owed-none new e = ⊎-elim (λ y. owed-here new 0 e y) (λ y. owed-else new 0 e y) (same-or new e)
+
+pub owing-start : {g : ℕ → ℕ} {n new : ℕ} {xs : List ℕ} → Histogram g n xs → Owing g n new 0 xs
+owing-start {new = new} T = record { long = T .long; each = λ e h. let a = T .each e h in let b = owed-none new e in omega arith }
+
+module _ {g : ℕ → ℕ} {n new m : ℕ} {xs : List ℕ} (O : Owing g n new m xs) where
+  pub owing-same : {g′ : ℕ → ℕ} → ((j : ℕ) → j < n → g′ j ≡ g j) → Owing g′ n new m xs
+  owing-same {g′} same = record { long = O .long; each = λ e h. O .each e h ∙ sym (count-same (λ j. eqb (g′ j) e) (λ j. eqb (g j) e) n (λ j l. ap (λ (a : ℕ). eqb a e) (same j l))) }
+
+  -- a row that has another time than the new one is counted there
+  pub owing-has : {j time : ℕ} → j < n → g j ≡ time → time < 1025 → (new ≡ time → ⊥) → 1 ≤ getD xs time 0
+  owing-has {j} {time} l e h o = let a = O .each time h in let b = owed-else new m time o in let c : 0 < count (λ i. eqb (g i) time) n = count-pos (λ i. eqb (g i) time) n j l (eq-eqb (g j) time e) in omega arith
+
+  pub owing-room : n ≤ 16384 → (new < 1025) ⊎ (new ≡ never) → (length xs ≡ 1025) × ((new ≡ never → ⊥) → (new < 1025) × (getD xs new 0 + m < 65536))
+  owing-room most i = (O .long, λ h. let k : new < 1025 = ⊎-elim (λ y. y) (λ y. absurd (h y)) i in (k, let a = O .each new k in let b = owed-here new m new refl in let c = count-le (λ j. eqb (g j) new) n in omega arith))
+
+  pub owing-end : {xs′ : List ℕ} → Adding m new xs xs′ → Histogram g n xs′
+  owing-end {xs′} (Adding.pass h e) = record { long = ap length e ∙ O .long; each = λ a l. let x = O .each a l in let y = owed-else new m a (λ z. omega arith) in ap (λ (ys : List ℕ). getD ys a 0) e ∙ omega arith }
+  owing-end {xs′} (Adding.some h e) =
+      record {
+        long = ap length e ∙ (length-set xs new (getD xs new 0 + m) ∙ O .long);
+        each = λ a l. ap (λ (ys : List ℕ). getD ys a 0) e
+            ∙ ⊎-elim (λ y. let x = O .each a l in let z = owed-here new m a y in let w : getD (set xs new (getD xs new 0 + m)) a 0 ≡ getD xs new 0 + m = subst (λ (c : ℕ). getD (set xs new (getD xs new 0 + m)) c 0 ≡ getD xs new 0 + m) y (getD-set-same xs new (getD xs new 0 + m) 0 (let o = O .long in omega arith)) in let v : getD xs new 0 ≡ getD xs a 0 = ap (λ (c : ℕ). getD xs c 0) y in omega arith)
+            (λ y. getD-set-other xs new a (getD xs new 0 + m) 0 (λ z. y (sym z)) ∙ (let x = O .each a l in let z = owed-else new m a y in omega arith)) (same-or new a);
+      }
+
+  -- row j goes from its time to the new one
+  pub owing-move : {g′ : ℕ → ℕ} {j time : ℕ} → j < n → g j ≡ time → g′ j ≡ new → time < 1025 → (new ≡ time → ⊥) → ((i : ℕ) → (i ≡ j → ⊥) → g′ i ≡ g i) → {xs′ : List ℕ} → xs′ ≡ set xs time (getD xs time 0 - 1) → Owing g′ n new (m + 1) xs′
+  owing-move {g′} {j} {time} l e e′ small ne same {xs′} w =
+      record {
+        long = ap length w ∙ (length-set xs time (getD xs time 0 - 1) ∙ O .long);
+        each = λ a h. ⊎-elim (λ y. from a h y) (λ y. ⊎-elim (λ z. to a h z y) (λ z. else a h y z) (same-or new a)) (same-or a time);
+      }
+    where
+      others : (a i : ℕ) → (i ≡ j → ⊥) → eqb (g′ i) a ≡ eqb (g i) a
+      others a i o = ap (λ (c : ℕ). eqb c a) (same i o)
+
+      from : (a : ℕ) → a < 1025 → a ≡ time → getD xs′ a 0 + owed new (m + 1) a ≡ count (λ i. eqb (g′ i) a) n
+      from a h y =
+          let c : count (λ i. eqb (g i) a) n ≡ suc (count (λ i. eqb (g′ i) a) n) = count-drop (λ i. eqb (g i) a) (λ i. eqb (g′ i) a) n j l (eq-eqb (g j) a (e ∙ sym y)) (ne-eqb (g′ j) a (λ z. ne (sym e′ ∙ (z ∙ y)))) (others a) in
+          let x : getD xs′ a 0 ≡ getD xs a 0 - 1 = subst (λ (i : ℕ). getD xs′ i 0 ≡ getD xs i 0 - 1) (sym y) (ap (λ (ys : List ℕ). getD ys time 0) w ∙ getD-set-same xs time (getD xs time 0 - 1) 0 (let o = O .long in omega arith)) in
+          let z : new ≡ a → ⊥ = λ z. ne (z ∙ y) in
+          let p = owed-else new m a z in let q = owed-else new (m + 1) a z in let r = O .each a h in omega arith
+
+      to : (a : ℕ) → a < 1025 → new ≡ a → (a ≡ time → ⊥) → getD xs′ a 0 + owed new (m + 1) a ≡ count (λ i. eqb (g′ i) a) n
+      to a h y z =
+          let c : count (λ i. eqb (g′ i) a) n ≡ suc (count (λ i. eqb (g i) a) n) = count-drop (λ i. eqb (g′ i) a) (λ i. eqb (g i) a) n j l (eq-eqb (g′ j) a (e′ ∙ y)) (ne-eqb (g j) a (λ o. z (sym o ∙ e))) (λ i o. sym (others a i o)) in
+          let x : getD xs′ a 0 ≡ getD xs a 0 = ap (λ (ys : List ℕ). getD ys a 0) w ∙ getD-set-other xs time a (getD xs time 0 - 1) 0 z in
+          let p = owed-here new m a y in let q = owed-here new (m + 1) a y in let r = O .each a h in omega arith
+
+      else : (a : ℕ) → a < 1025 → (a ≡ time → ⊥) → (new ≡ a → ⊥) → getD xs′ a 0 + owed new (m + 1) a ≡ count (λ i. eqb (g′ i) a) n
+      else a h y z =
+          let c : count (λ i. eqb (g′ i) a) n ≡ count (λ i. eqb (g i) a) n = count-same (λ i. eqb (g′ i) a) (λ i. eqb (g i) a) n (λ i k. ⊎-elim (λ o. subst (λ (b : ℕ). eqb (g′ b) a ≡ eqb (g b) a) (sym o) (ne-eqb (g′ j) a (λ v. z (sym e′ ∙ v)) ∙ sym (ne-eqb (g j) a (λ v. y (sym v ∙ e))))) (λ o. others a i o) (same-or i j)) in
+          let x : getD xs′ a 0 ≡ getD xs a 0 = ap (λ (ys : List ℕ). getD ys a 0) w ∙ getD-set-other xs time a (getD xs time 0 - 1) 0 y in
+          let p = owed-else new m a z in let q = owed-else new (m + 1) a z in let r = O .each a h in omega arith
+
+-- ---- one row fewer
+
+module _ {g : ℕ → ℕ} {n : ℕ} {xs : List ℕ} (T : Histogram g n xs) {j v : ℕ} (l : j < n) (e : v ≡ g j) (i : IsTime v) where
+  day : (v ≡ never → ⊥) → v < 1025
+  day h = ⊎-elim (λ y. y) (λ y. absurd (h y)) i
+
+  pub hist-has : (length xs ≡ 1025) × ((v ≡ never → ⊥) → (v < 1025) × (1 ≤ getD xs v 0))
+  hist-has = (T .long, λ h. (day h, owing-has (owing-start {new = never} T) l (sym e) (day h) (λ y. h (sym y))))
+
+  -- the row has no time any more
+  pub hist-drop : {g′ : ℕ → ℕ} → g′ j ≡ never → ((a : ℕ) → (a ≡ j → ⊥) → g′ a ≡ g a) → {xs′ : List ℕ} → Removing v xs xs′ → Histogram g′ n xs′
+  hist-drop {g′} none same (Removing.pass h w) = hist-same (λ a k. ⊎-elim (λ o. subst (λ (c : ℕ). g′ c ≡ g c) (sym o) (none ∙ (sym h ∙ e))) (λ o. same a o) (same-or a j)) (subst (Histogram g n) (sym w) T)
+  hist-drop {g′} none same (Removing.one h w) = owing-end (owing-move (owing-start {new = never} T) l (sym e) none (day h) (λ y. h (sym y)) same w) (Adding.pass refl refl)
+
+-- ---- what `take_count` does
+
+module _ (xs : List ℕ) {test : Bool} {time e more : ℕ} (w : (test ≡ true → e ≡ time) × (test ≡ false → e ≡ 0)) (o : (test ≡ true → more ≡ 1) × (test ≡ false → more ≡ 0)) (ask : test ≡ true → (time < 1025) × (1 ≤ getD xs time 0)) where
+  pub take-place : length xs ≡ 1025 → e < length xs
+  take-place l = ⊎-elim (λ y. let a = w .0 y in let b = ask y .0 in omega arith) (λ y. let a = w .1 y in omega arith) (look test)
+
+  pub take-less : more ≤ getD xs e 0
+  take-less = ⊎-elim (λ y. let a : getD xs e 0 ≡ getD xs time 0 = ap (λ (c : ℕ). getD xs c 0) (w .0 y) in let b = ask y .1 in let c = o .0 y in omega arith) (λ y. let c = o .1 y in omega arith) (look test)
+
+  pub take-few : more ≤ 1
+  take-few = ⊎-elim (λ y. let c = o .0 y in omega arith) (λ y. let c = o .1 y in omega arith) (look test)
+
+  pub take-end : {m : ℕ} → Taking test time m xs (set xs e (getD xs e 0 - more)) (m + more)
+  take-end {m} =
+      ⊎-elim (λ y. Taking.one y (ap (λ (c : ℕ). set xs c (getD xs c 0 - more)) (w .0 y) ∙ ap (λ (c : ℕ). set xs time (getD xs time 0 - c)) (o .0 y)) (ap (λ (c : ℕ). m + c) (o .0 y)))
+      (λ y. Taking.none y (ap (λ (c : ℕ). set xs e (getD xs e 0 - c)) (o .1 y) ∙ (ap (set xs e) (let z : getD xs e 0 - 0 ≡ getD xs e 0 = omega arith in z) ∙ set-getD xs e 0)) (let z = o .1 y in omega arith)) (look test)

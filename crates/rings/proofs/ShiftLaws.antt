@@ -1,0 +1,264 @@
+-- The day counts while an account rises (src/settle.rt, lose_others): each of its rows whose time moves is taken off its day, and counted on the new one at last.
+--     mixed                   the times of the rows below b after the rise, of the others before it
+--     shift-start, shift-stay, shift-move, shift-out, shift-stop    the rows of u, one after the other
+--     shift-all, shift-asks, shift-row
+--     Shift, rise-start, rise-all, rise-asks, rise-row              the same in the state of the loop
+--     drop-from, drop-start, drop-asks, drop-next, drop-end    the rows of the first day leave
+-- Assumes nothing.
+use Prim.Native.Nat.{ℕ, max, _+_, _-_, _≤_, _<_}
+use native.Mathlib.Nat.{le-refl, eq-or-lt-of-le}
+use native.Mathlib.Omega.{arith}
+use mathlib.Core.Path.{_≡_, refl, sym, _∙_, ap, subst}
+use mathlib.Core.Logic.{_⊎_, ⊎-elim}
+use mathlib.Core.Bool.{Bool, true, false}
+use mathlib.Core.List.{List}
+use lib.ListN.{length, getD, set, length-set}
+use lib.Seq.{getD-set-same, getD-set-other}
+use lib.Dec.{ltb}
+use borrow.Author.Tests.{ltb-true, ltb-false, lt-ltb, le-ltb}
+use Rattle.rings.specs.Words.{at}
+use Rattle.rings.specs.Table.{Table, tableOf, size, dayOf, firstOf, secondOf, inWindow}
+use Rattle.rings.specs.Ring.{touches}
+use Rattle.rings.specs.CoreTimes.{never, rowTime}
+use Rattle.rings.specs.Inner.Links.{otherOf}
+use Rattle.rings.specs.Inner.Peeling.{Setting, query, season, guess, Split, CoreTimesAre}
+use Rattle.rings.specs.Inner.Counting.{timeBy, Histogram, Owing, Removing, Taking, Raised}
+use Rattle.rings.specs.declared.Query.{Query}
+use Rattle.rings.proofs.WordLaws.{look, clash, same-or}
+use Rattle.rings.proofs.RingLaws.{touch-cases, touch-first, touch-second}
+use Rattle.rings.proofs.PairLaws.{other-first, other-second}
+use Rattle.rings.proofs.CoreTimeLaws.{row-before}
+use Rattle.rings.proofs.FallLaws.{guess-at}
+use Rattle.rings.proofs.CountingLaws.{by-in, by-out, by-core, by-later, is-time, hist-same, hist-has, hist-drop, owing-start, owing-same, owing-has, owing-move}
+
+unfoldable pub mixed : (ℕ → ℕ) → (ℕ → ℕ) → ℕ → ℕ → ℕ
+mixed g g′ b j = elim (ltb j b) [ true ↦ g′ j | false ↦ g j ]
+
+module _ (g g′ : ℕ → ℕ) where
+  mixed-below : (b j : ℕ) → j < b → mixed g g′ b j ≡ g′ j
+  unfolding mixed
+  mixed-below b j h = ap (λ (c : Bool). elim c [ true ↦ g′ j | false ↦ g j ]) (lt-ltb j b h)
+
+  mixed-from : (b j : ℕ) → b ≤ j → mixed g g′ b j ≡ g j
+  unfolding mixed
+  mixed-from b j h = ap (λ (c : Bool). elim c [ true ↦ g′ j | false ↦ g j ]) (le-ltb j b h)
+
+  -- where both times are one, it does not matter which is taken
+  mixed-either : (b j : ℕ) → g j ≡ g′ j → mixed g g′ b j ≡ g j
+  mixed-either b j e = ⊎-elim (λ y. mixed-below b j (ltb-true j b y) ∙ sym e) (λ y. mixed-from b j (ltb-false j b y)) (look (ltb j b))
+
+-- u rises from old to new, and no other account does
+module _ (t : Table) (q : Query) (s hi lo : ℕ) (S : Setting t q s hi lo) (x x′ : ℕ → ℕ) (u old new : ℕ) (was : x u ≡ old) (now : x′ u ≡ new) (else : (v : ℕ) → (v ≡ u → ⊥) → x′ v ≡ x v) (up : old < new) where
+  abbrev before : ℕ → ℕ
+  before = timeBy t x s hi
+
+  abbrev after : ℕ → ℕ
+  after = timeBy t x′ s hi
+
+  -- a row of other accounts
+  not-mine : (j : ℕ) → touches t j u ≡ false → before j ≡ after j
+  unfolding timeBy
+  not-mine j h =
+      let a : x (firstOf t j) ≡ x′ (firstOf t j) = sym (else (firstOf t j) (λ e. clash (subst (λ (c : ℕ). touches t j c ≡ true) e (touch-first t j)) h)) in
+      let b : x (secondOf t j) ≡ x′ (secondOf t j) = sym (else (secondOf t j) (λ e. clash (subst (λ (c : ℕ). touches t j c ≡ true) e (touch-second t j)) h)) in
+      ap (λ (c : ℕ). elim (inWindow s hi (dayOf t j)) [ true ↦ max (max c (x (secondOf t j))) (dayOf t j) | false ↦ never ]) a
+      ∙ ap (λ (c : ℕ). elim (inWindow s hi (dayOf t j)) [ true ↦ max (max (x′ (firstOf t j)) c) (dayOf t j) | false ↦ never ]) b
+
+  record Mine (j : ℕ) : Type 0 where
+    first : before j ≡ max (max old (x′ (otherOf t j u))) (dayOf t j)
+    then : after j ≡ max (max new (x′ (otherOf t j u))) (dayOf t j)
+
+  -- a row of u in the range
+  mine : (j : ℕ) → j < size t → touches t j u ≡ true → lo ≤ j → dayOf t j ≤ hi → Mine j
+  mine j l k h o = ⊎-elim (λ e. one e) (λ e. two e) (touch-cases t j u k)
+    where
+      is-in : s ≤ dayOf t j
+      is-in = S .from-lo j l h
+
+      apart : firstOf t j < secondOf t j
+      apart = S .accounts j l
+
+      one : firstOf t j ≡ u → Mine j
+      one e =
+          let v : otherOf t j u ≡ secondOf t j = subst (λ (c : ℕ). otherOf t j c ≡ secondOf t j) e (other-first t j) in
+          let z : x′ (otherOf t j u) ≡ x (secondOf t j) = ap x′ v ∙ else (secondOf t j) (λ y. let p = apart in omega arith) in
+          let a : x (firstOf t j) ≡ old = ap x e ∙ was in
+          let b : x′ (firstOf t j) ≡ new = ap x′ e ∙ now in
+          let c : x′ (otherOf t j u) ≡ x′ (secondOf t j) = ap x′ v in
+          let m = by-in t x s hi j is-in o in let n = by-in t x′ s hi j is-in o in
+          record { first = m ∙ omega arith; then = n ∙ omega arith }
+
+      two : secondOf t j ≡ u → Mine j
+      two e =
+          let v : otherOf t j u ≡ firstOf t j = subst (λ (c : ℕ). otherOf t j c ≡ firstOf t j) e (other-second t j apart) in
+          let z : x′ (otherOf t j u) ≡ x (firstOf t j) = ap x′ v ∙ else (firstOf t j) (λ y. let p = apart in omega arith) in
+          let a : x (secondOf t j) ≡ old = ap x e ∙ was in
+          let b : x′ (secondOf t j) ≡ new = ap x′ e ∙ now in
+          let c : x′ (otherOf t j u) ≡ x′ (firstOf t j) = ap x′ v in
+          let m = by-in t x s hi j is-in o in let n = by-in t x′ s hi j is-in o in
+          record { first = m ∙ omega arith; then = n ∙ omega arith }
+
+  -- a row of u that keeps its time: it has left, or lies behind the range, or has the new time or a later one already
+  keeps : (j : ℕ) → j < size t → touches t j u ≡ true → (j < lo) ⊎ ((new ≤ x′ (otherOf t j u)) ⊎ ((new ≤ dayOf t j) ⊎ (hi < dayOf t j))) → before j ≡ after j
+  keeps j l k o = ⊎-elim (λ y. left y) (λ y. ⊎-elim (λ h. behind (ltb-true hi (dayOf t j) h)) (λ h. ⊎-elim (λ m. left (ltb-true j lo m)) (λ m. inside (ltb-false j lo m) (ltb-false hi (dayOf t j) h) y) (look (ltb j lo))) (look (ltb hi (dayOf t j)))) o
+    where
+      left : j < lo → before j ≡ after j
+      left h = let a = S .before-lo j h in by-out t x s hi j (_⊎_.inl a) ∙ sym (by-out t x′ s hi j (_⊎_.inl a))
+
+      behind : hi < dayOf t j → before j ≡ after j
+      behind h = by-out t x s hi j (_⊎_.inr h) ∙ sym (by-out t x′ s hi j (_⊎_.inr h))
+
+      inside : lo ≤ j → dayOf t j ≤ hi → (new ≤ x′ (otherOf t j u)) ⊎ ((new ≤ dayOf t j) ⊎ (hi < dayOf t j)) → before j ≡ after j
+      inside m h y = let M = mine j l k m h in let a = M .first in let b = M .then in ⊎-elim (λ c. omega arith) (λ c. ⊎-elim (λ d. omega arith) (λ d. absurd (omega arith)) c) y
+
+  -- the rows of u below b have been passed, and m of them moved
+  abbrev Shifting : ℕ → ℕ → List ℕ → Type 0
+  Shifting b m xs = (m ≤ b) × Owing (mixed before after b) (size t) new m xs
+
+  -- the rows of u below b have left
+  pub shift-start : (b : ℕ) → b ≤ size t → ((i : ℕ) → i < b → touches t i u ≡ true → i < lo) → {xs : List ℕ} → Histogram before (size t) xs → Shifting b 0 xs
+  shift-start b w early T = (
+    let z : 0 ≤ b = omega arith in z,
+    owing-same (owing-start T) (λ j l. ⊎-elim (λ y. mixed-either before after b j (⊎-elim (λ k. keeps j l k (_⊎_.inl (early j (ltb-true j b y) k))) (λ k. not-mine j k) (look (touches t j u)))) (λ y. mixed-from before after b j (ltb-false j b y)) (look (ltb j b))),
+  )
+
+  module _ {b m : ℕ} {xs : List ℕ} (O : Shifting b m xs) where
+    -- the rows from b on keep their times
+    pub shift-all : ((i : ℕ) → b ≤ i → i < size t → touches t i u ≡ true → (new ≤ dayOf t i) ⊎ (hi < dayOf t i)) → Owing after (size t) new m xs
+    shift-all late =
+        owing-same (O .1)
+        (λ j l. ⊎-elim (λ y. sym (mixed-below before after b j (ltb-true j b y)))
+        (λ y. sym (⊎-elim (λ k. keeps j l k (_⊎_.inr (_⊎_.inr (late j (ltb-false j b y) l k)))) (λ k. not-mine j k) (look (touches t j u))) ∙ sym (mixed-from before after b j (ltb-false j b y))) (look (ltb j b)))
+
+    module _ {j : ℕ} (from : b ≤ j) (l : j < size t) (k : touches t j u ≡ true) (none : (i : ℕ) → b ≤ i → i < j → touches t i u ≡ false) where
+      -- but for row j nothing is another by one step
+      step-else : (i : ℕ) → (i ≡ j → ⊥) → mixed before after (j + 1) i ≡ mixed before after b i
+      step-else i n =
+          ⊎-elim (λ y. mixed-below before after (j + 1) i (let a = ltb-true i b y in omega arith) ∙ sym (mixed-below before after b i (ltb-true i b y)))
+          (λ y. let a = ltb-false i b y in
+          ⊎-elim (λ z. let e = not-mine i (none i a (ltb-true i j z)) in mixed-either before after (j + 1) i e ∙ sym (mixed-either before after b i e))
+          (λ z. let c = ltb-false i j z in mixed-from before after (j + 1) i (⊎-elim (λ o. absurd (n (sym o))) (λ o. omega arith) (eq-or-lt-of-le c)) ∙ sym (mixed-from before after b i a)) (look (ltb i j))) (look (ltb i b))
+
+      -- the row keeps its time
+      shift-stay : before j ≡ after j → Shifting (j + 1) m xs
+      shift-stay e = (let a = O .0 in omega arith, owing-same (O .1) (λ i o. ⊎-elim (λ y. subst (λ (c : ℕ). mixed before after (j + 1) c ≡ mixed before after b c) (sym y) (mixed-either before after (j + 1) j e ∙ sym (mixed-either before after b j e))) (λ n. step-else i n) (same-or i j)))
+
+      module _ (day : dayOf t j ≤ hi) (soon : dayOf t j < new) (top : hi ≤ 1024) {test : Bool} {z time : ℕ} (ez : z ≡ x′ (otherOf t j u)) (et : time ≡ max (max old z) (dayOf t j)) (yes : test ≡ true → (lo ≤ j) × (z < new)) (not : test ≡ false → (j < lo) ⊎ (new ≤ z)) where
+        was-time : test ≡ true → mixed before after b j ≡ time
+        was-time y = let h = yes y in mixed-from before after b j from ∙ (mine j l k (h .0) day .first ∙ (let e = ez in let f = et in omega arith))
+
+        moves-to : test ≡ true → mixed before after (j + 1) j ≡ new
+        moves-to y = let h = yes y in let a = h .1 in mixed-below before after (j + 1) j (omega arith) ∙ (mine j l k (h .0) day .then ∙ (let e = ez in omega arith))
+
+        -- old, z and the day are days before the new time, and not never
+        small : (old ≤ hi) → test ≡ true → (z ≤ hi) ⊎ (z ≡ never) → new ≤ never → time < 1025
+        small o y d n = let h = yes y .1 in let e = et in ⊎-elim (λ c. omega arith) (λ c. absurd (omega arith)) d
+
+        pub shift-asks : old ≤ hi → (z ≤ hi) ⊎ (z ≡ never) → new ≤ never → size t ≤ 16384 → (length xs ≡ 1025) × (m < 16384) × (test ≡ true → (time < 1025) × (1 ≤ getD xs time 0))
+        shift-asks o d n most = (O .1 .long, let a = O .0 in omega arith, λ y. let h = yes y .1 in let w = small o y d n in (w, owing-has (O .1) l (was-time y) w (λ e. let f = et in omega arith)))
+
+        pub shift-row : old ≤ hi → (z ≤ hi) ⊎ (z ≡ never) → new ≤ never → {m′ : ℕ} {xs′ : List ℕ} → Taking test time m xs xs′ m′ → Shifting (j + 1) m′ xs′
+        shift-row o d n {m′} {xs′} (Taking.none y e f) = subst (λ (c : ℕ). Shifting (j + 1) c xs′) (sym f) (subst (Shifting (j + 1) m) (sym e) (shift-stay (keeps j l k (⊎-elim _⊎_.inl (λ h. _⊎_.inr (_⊎_.inl (let a = ez in omega arith))) (not y)))))
+        shift-row o d n {m′} {xs′} (Taking.one y e f) = let h = yes y .1 in (let a = O .0 in omega arith, subst (λ (c : ℕ). Owing (mixed before after (j + 1)) (size t) new c xs′) (sym f) (owing-move (O .1) l (was-time y) (moves-to y) (small o y d n) (λ a. let b = et in omega arith) step-else e))
+
+-- ---- the same in the state of the loop
+
+-- xs are the times after the rise; the rows of u below b have been passed, and m of them moved
+pub record Shift (t : Table) (s hi u old new : ℕ) (xs : List ℕ) (b m : ℕ) (counts : List ℕ) : Type 0 where
+  pub was : List ℕ
+  pub long : length was ≡ 4096
+  pub then : xs ≡ set was u new
+  pub from : old ≡ getD was u 0
+  pub up : old < new
+  pub day : old ≤ hi
+  pub top : hi ≤ 1024
+  pub few : m ≤ b
+  pub owing : Owing (mixed (timeBy t (guess was) s hi) (timeBy t (guess xs) s hi) b) (size t) new m counts
+
+module _ (t : Table) (q : Query) (s hi lo : ℕ) (S : Setting t q s hi lo) (u old new : ℕ) (xs : List ℕ) (small : u < 4096) where
+  module _ (was : List ℕ) (l : length was ≡ 4096) (e : xs ≡ set was u new) (o : old ≡ getD was u 0) where
+    was-is : guess was u ≡ old
+    was-is = guess-at was u l small ∙ sym o
+
+    now-is : guess xs u ≡ new
+    now-is = guess-at xs u (ap length e ∙ (length-set was u new ∙ l)) small ∙ (ap (λ (ys : List ℕ). getD ys u 0) e ∙ getD-set-same was u new 0 (omega arith))
+
+    else-is : (v : ℕ) → (v ≡ u → ⊥) → guess xs v ≡ guess was v
+    unfolding guess
+    else-is v n = ap (λ (ys : List ℕ). getD ys v never) e ∙ getD-set-other was u v new never n
+
+  pub rise-start : {counts : List ℕ} → Raised t s hi u old new xs counts → (b : ℕ) → b ≤ size t → ((i : ℕ) → i < b → touches t i u ≡ true → i < lo) → Shift t s hi u old new xs b 0 counts
+  rise-start R b w early =
+      let Z = shift-start t q s hi lo S (guess (R .was)) (guess xs) u old new (was-is (R .was) (R .long) (R .then) (R .from)) (now-is (R .was) (R .long) (R .then) (R .from)) (else-is (R .was) (R .long) (R .then) (R .from)) (R .up) b w early (R .counted) in
+      record { was = R .was; long = R .long; then = R .then; from = R .from; up = R .up; day = R .day; top = R .top; few = Z .0; owing = Z .1 }
+
+  module _ {b m : ℕ} {counts : List ℕ} (Z : Shift t s hi u old new xs b m counts) where
+    a : guess (Z .was) u ≡ old
+    a = was-is (Z .was) (Z .long) (Z .then) (Z .from)
+
+    c : guess xs u ≡ new
+    c = now-is (Z .was) (Z .long) (Z .then) (Z .from)
+
+    n : (v : ℕ) → (v ≡ u → ⊥) → guess xs v ≡ guess (Z .was) v
+    n = else-is (Z .was) (Z .long) (Z .then) (Z .from)
+
+    -- the rows from b on keep their times
+    pub rise-all : ((i : ℕ) → b ≤ i → i < size t → touches t i u ≡ true → (new ≤ dayOf t i) ⊎ (hi < dayOf t i)) → Owing (timeBy t (guess xs) s hi) (size t) new m counts
+    rise-all = shift-all t q s hi lo S (guess (Z .was)) (guess xs) u old new a c n (Z .up) (Z .few, Z .owing)
+
+    module _ {j : ℕ} (from : b ≤ j) (l : j < size t) (k : touches t j u ≡ true) (none : (i : ℕ) → b ≤ i → i < j → touches t i u ≡ false) (day : dayOf t j ≤ hi) (soon : dayOf t j < new) {test : Bool} {z time : ℕ} (ez : z ≡ guess xs (otherOf t j u)) (et : time ≡ max (max old z) (dayOf t j)) (yes : test ≡ true → (lo ≤ j) × (z < new)) (not : test ≡ false → (j < lo) ⊎ (new ≤ z)) (dz : (z ≤ hi) ⊎ (z ≡ never)) (dn : new ≤ never) where
+      pub rise-asks : size t ≤ 16384 → (length counts ≡ 1025) × (m < 16384) × (test ≡ true → (time < 1025) × (1 ≤ getD counts time 0))
+      rise-asks = shift-asks t q s hi lo S (guess (Z .was)) (guess xs) u old new a c n (Z .up) (Z .few, Z .owing) from l k none day soon (Z .top) ez et yes not (Z .day) dz dn
+
+      pub rise-row : {m′ : ℕ} {counts′ : List ℕ} → Taking test time m counts counts′ m′ → Shift t s hi u old new xs (j + 1) m′ counts′
+      rise-row T =
+          let Y = shift-row t q s hi lo S (guess (Z .was)) (guess xs) u old new a c n (Z .up) (Z .few, Z .owing) from l k none day soon (Z .top) ez et yes not (Z .day) dz dn T in
+          record { was = Z .was; long = Z .long; then = Z .then; from = Z .from; up = Z .up; day = Z .day; top = Z .top; few = Y .0; owing = Y .1 }
+
+-- ---- the rows dated s leave
+
+module _ (d f g : List ℕ) (k s te lo : ℕ) (S : Setting (tableOf d f g) (query k) s te lo) {xs : List ℕ} (C : CoreTimesAre d f g (season k s te lo) xs) {next : ℕ} (N : Split d (s + 1) next) where
+  abbrev ts : Table
+  ts = tableOf d f g
+
+  abbrev at-s : ℕ → ℕ
+  at-s = rowTime ts (query k) te s
+
+  abbrev later : ℕ → ℕ
+  later = timeBy ts (guess xs) (s + 1) te
+
+  gone : (j : ℕ) → j < next → later j ≡ never
+  unfolding dayOf at
+  gone j h = by-out ts (guess xs) (s + 1) te j (_⊎_.inl (N .before j h))
+
+  -- the rows before s are among those that have left
+  pub drop-from : lo ≤ length d → lo ≤ next
+  unfolding dayOf at
+  drop-from w = ⊎-elim (λ y. let h = ltb-true next lo y in let a = S .before-lo next h in let b = N .after next (le-refl next) (omega arith) in absurd (omega arith)) (λ y. ltb-false next lo y) (look (ltb next lo))
+
+  -- the rows below j have left
+  abbrev Dropping : ℕ → List ℕ → Type 0
+  Dropping j counts = Histogram (mixed at-s later j) (length d) counts
+
+  pub drop-start : lo ≤ next → {counts : List ℕ} → Histogram at-s (length d) counts → Dropping lo counts
+  drop-start up = hist-same (λ i l. ⊎-elim (λ y. let h = ltb-true i lo y in mixed-below at-s later lo i h ∙ (gone i (omega arith) ∙ sym (row-before ts (query k) te s i (S .before-lo i h)))) (λ y. mixed-from at-s later lo i (ltb-false i lo y)) (look (ltb i lo)))
+
+  module _ {j : ℕ} (h : j < next) (top : te ≤ 1024) {v : ℕ} (e : v ≡ at-s j) {counts : List ℕ} (D : Dropping j counts) where
+    here : j < length d
+    here = let a = N .within in omega arith
+
+    is : v ≡ mixed at-s later j j
+    is = e ∙ sym (mixed-from at-s later j j (le-refl j))
+
+    pub drop-asks : (length counts ≡ 1025) × ((v ≡ never → ⊥) → (v < 1025) × (1 ≤ getD counts v 0))
+    drop-asks = hist-has D here is (is-time ts (query k) te s j top e)
+
+    pub drop-next : {counts′ : List ℕ} → Removing v counts counts′ → Dropping (j + 1) counts′
+    drop-next =
+        hist-drop D here is (is-time ts (query k) te s j top e) (mixed-below at-s later (j + 1) j (omega arith) ∙ gone j h)
+        (λ a n. ⊎-elim (λ y. let l = ltb-true a j y in mixed-below at-s later (j + 1) a (omega arith) ∙ sym (mixed-below at-s later j a l))
+        (λ y. let l = ltb-false a j y in mixed-from at-s later (j + 1) a (⊎-elim (λ o. absurd (n (sym o))) (λ o. omega arith) (eq-or-lt-of-le l)) ∙ sym (mixed-from at-s later j a l)) (look (ltb a j)))
+
+  pub drop-end : {j : ℕ} → next ≤ j → {counts : List ℕ} → Dropping j counts → Histogram later (length d) counts
+  unfolding dayOf at
+  drop-end {j} h = hist-same (λ i l. ⊎-elim (λ y. sym (mixed-below at-s later j i (ltb-true i j y))) (λ y. let o = ltb-false i j y in by-later ts (guess xs) s te i (N .after i (omega arith) l) ∙ (by-core d f g k s te lo S C i l ∙ sym (mixed-from at-s later j i o))) (look (ltb i j)))

@@ -1,0 +1,78 @@
+use mathlib.Core.Path.{_∙_}
+use Rattle.rings.proofs.CountingLaws.{take-place, take-less, take-few, take-end}
+use Rattle.rings.proofs.WordLaws.{clash}
+use borrow.Author.Tests.{not-true, not-false}
+use native.Mathlib.Omega.{arith}
+use borrow.Author.Needs.{needs}
+use Rattle.rings.proofs.counts.take_count.Statement.{statement}
+use Rattle.rings.proofs.counts.take_count.Tie as tie
+use Rattle.rings.proofs.counts.take_count.Reads as reads
+use Rattle.rings.proofs.counts.take_count.Lts as lts
+use Rattle.rings.proofs.choice.one.Reads as one-reads
+use Rattle.rings.proofs.choice.pick.Reads as pick-reads
+use Rattle.rings.proofs.links.wide.Reads as wide-reads
+
+-- src/counts.rt:46:9
+returns : tie.Need-returns
+returns c = λ h. clash h (not-true _ (c .if1 .taken))
+
+-- src/counts.rt:48:9
+one-requires : tie.Need-one-requires
+one-requires c κs = search needs
+
+-- src/counts.rt:49:18
+pick-requires : tie.Need-pick-requires
+pick-requires c κs = search needs
+
+-- src/counts.rt:49:9
+wide-requires : tie.Need-wide-requires
+wide-requires c κs = search needs
+
+-- src/counts.rt:50:17
+mul-counts : tie.Need-mul-counts
+mul-counts c = search needs
+
+-- src/counts.rt:50:17
+slice-read-counts : tie.Need-slice-read-counts
+slice-read-counts c = take-place (c .before .before .before .before .before .before .args .counts .now) (λ y. c .before .wide .ensures ∙ c .before .before .pick .ensures .0 y, λ y. c .before .wide .ensures ∙ c .before .before .pick .ensures .1 y) (c .before .before .before .one .ensures) (c .before .before .before .before .before .before .pre (not-false _ (c .before .before .before .before .if1 .left)) .2) (c .before .before .before .before .before .before .pre (not-false _ (c .before .before .before .before .if1 .left)) .0)
+
+-- src/counts.rt:50:17
+sub-counts : tie.Need-sub-counts
+sub-counts c = take-less (c .before .before .before .before .before .before .args .counts .now) (λ y. c .before .wide .ensures ∙ c .before .before .pick .ensures .0 y, λ y. c .before .wide .ensures ∙ c .before .before .pick .ensures .1 y) (c .before .before .before .one .ensures) (c .before .before .before .before .before .before .pre (not-false _ (c .before .before .before .before .if1 .left)) .2)
+
+-- src/counts.rt:50:5
+mul-counts-2 : tie.Need-mul-counts-2
+mul-counts-2 c = search needs
+
+-- src/counts.rt:50:5
+slice-write-counts : tie.Need-slice-write-counts
+slice-write-counts c = take-place (c .before .before .before .before .before .before .args .counts .now) (λ y. c .before .wide .ensures ∙ c .before .before .pick .ensures .0 y, λ y. c .before .wide .ensures ∙ c .before .before .pick .ensures .1 y) (c .before .before .before .one .ensures) (c .before .before .before .before .before .before .pre (not-false _ (c .before .before .before .before .if1 .left)) .2) (c .before .before .before .before .before .before .pre (not-false _ (c .before .before .before .before .if1 .left)) .0)
+
+-- src/counts.rt:51:5
+add-result : tie.Need-add-result
+add-result c = omega (arith, take-few (c .before .before .before .before .before .before .args .counts .now) (λ y. c .before .wide .ensures ∙ c .before .before .pick .ensures .0 y, λ y. c .before .wide .ensures ∙ c .before .before .pick .ensures .1 y) (c .before .before .before .one .ensures) (c .before .before .before .before .before .before .pre (not-false _ (c .before .before .before .before .if1 .left)) .2), c .before .before .before .before .before .before .pre (not-false _ (c .before .before .before .before .if1 .left)) .1)
+
+-- src/counts.rt:41:1
+same-length : tie.Need-same-length
+same-length c = search needs
+
+-- src/counts.rt:41:1
+returns-2 : tie.Need-returns-2
+returns-2 c = λ h. take-end (c .before .before .before .before .before .before .args .counts .now) (λ y. c .before .wide .ensures ∙ c .before .before .pick .ensures .0 y, λ y. c .before .wide .ensures ∙ c .before .before .pick .ensures .1 y) (c .before .before .before .one .ensures) (c .before .before .before .before .before .before .pre (not-false _ (c .before .before .before .before .if1 .left)) .2)
+
+pub take-count-spec : {M : Type 1} → statement M
+take-count-spec =
+    tie.close
+    (tie.spec
+    returns
+    one-requires
+    pick-requires
+    wide-requires
+    mul-counts
+    slice-read-counts
+    sub-counts
+    mul-counts-2
+    slice-write-counts
+    add-result
+    same-length
+    returns-2)

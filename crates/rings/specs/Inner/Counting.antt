@@ -1,0 +1,73 @@
+-- Day counts: how many rows have each day as their time, kept up as the times of the accounts rise.
+--     timeBy t x s hi j     the time of row j where x gives those of the accounts: the greatest of both and of its own day; never outside the days from s to hi
+--     IsTime x              x is a day, or never
+--     Histogram g n xs      xs holds, for each day, how many of the first n rows have it by g
+--     owed new m e          m on the day new, else 0
+--     Owing g n new m xs    the same but for m rows that are still to be counted on the day new
+--     Adding, Removing      m rows more with a time, and one fewer
+--     Taking                one row fewer, and one more of those that are still to be counted, if a test says so
+--     Raised                the counts by the times before an account rose
+--     Timed t q hi s n xs   the histogram of the core times at s
+--     Started               what a start hands on to the next: the links, the times of the accounts, what they can spare, and the counts
+use Prim.Native.Nat.{ℕ, max, _+_, _-_, _≤_, _<_}
+use mathlib.Core.Path.{_≡_}
+use mathlib.Core.Logic.{_⊎_}
+use mathlib.Core.Bool.{Bool, true, false}
+use mathlib.Core.List.{List}
+use lib.ListN.{length, getD, set}
+use lib.Dec.{eqb}
+use Rattle.rings.specs.Words.{count}
+use Rattle.rings.specs.Table.{Table, tableOf, size, dayOf, firstOf, secondOf, inWindow}
+use Rattle.rings.specs.CoreTimes.{never, rowTime}
+use Rattle.rings.specs.Inner.Peeling.{query, guess, Season, Ready, CoreTimesAre}
+use Rattle.rings.specs.Inner.Settling.{Spare}
+use Rattle.rings.specs.declared.Query.{Query}
+
+unfoldable pub timeBy : Table → (ℕ → ℕ) → ℕ → ℕ → ℕ → ℕ
+timeBy t x s hi j = elim (inWindow s hi (dayOf t j)) [ true ↦ max (max (x (firstOf t j)) (x (secondOf t j))) (dayOf t j) | false ↦ never ]
+
+abbrev pub IsTime : ℕ → Type 0
+IsTime x = (x < 1025) ⊎ (x ≡ never)
+
+pub record Histogram (g : ℕ → ℕ) (n : ℕ) (xs : List ℕ) : Type 0 where
+  pub long : length xs ≡ 1025
+  pub each : (e : ℕ) → e < 1025 → getD xs e 0 ≡ count (λ j. eqb (g j) e) n
+
+unfoldable pub owed : ℕ → ℕ → ℕ → ℕ
+owed new m e = elim (eqb new e) [ true ↦ m | false ↦ 0 ]
+
+pub record Owing (g : ℕ → ℕ) (n new m : ℕ) (xs : List ℕ) : Type 0 where
+  pub long : length xs ≡ 1025
+  pub each : (e : ℕ) → e < 1025 → getD xs e 0 + owed new m e ≡ count (λ j. eqb (g j) e) n
+
+pub data Adding (m time : ℕ) (xs xs′ : List ℕ) : Type 0 where
+  pass : time ≡ never → xs′ ≡ xs → Adding m time xs xs′
+  some : (time ≡ never → ⊥) → xs′ ≡ set xs time (getD xs time 0 + m) → Adding m time xs xs′
+
+pub data Removing (time : ℕ) (xs xs′ : List ℕ) : Type 0 where
+  pass : time ≡ never → xs′ ≡ xs → Removing time xs xs′
+  one : (time ≡ never → ⊥) → xs′ ≡ set xs time (getD xs time 0 - 1) → Removing time xs xs′
+
+pub data Taking (test : Bool) (time m : ℕ) (xs xs′ : List ℕ) (m′ : ℕ) : Type 0 where
+  none : test ≡ false → xs′ ≡ xs → m′ ≡ m → Taking test time m xs xs′ m′
+  one : test ≡ true → xs′ ≡ set xs time (getD xs time 0 - 1) → m′ ≡ m + 1 → Taking test time m xs xs′ m′
+
+-- u rose from old to new; xs are the times after that
+pub record Raised (t : Table) (s hi u old new : ℕ) (xs counts : List ℕ) : Type 0 where
+  pub was : List ℕ
+  pub long : length was ≡ 4096
+  pub then : xs ≡ set was u new
+  pub from : old ≡ getD was u 0
+  pub up : old < new
+  pub day : old ≤ hi
+  pub top : hi ≤ 1024
+  pub counted : Histogram (timeBy t (guess was) s hi) (size t) counts
+
+abbrev pub Timed : Table → Query → ℕ → ℕ → ℕ → List ℕ → Type 0
+Timed t q hi s n xs = Histogram (rowTime t q hi s) n xs
+
+pub record Started (d f g sc : List ℕ) (p : Season) (times spare counts : List ℕ) : Type 0 where
+  pub ready : Ready d f g sc p
+  pub times-are : CoreTimesAre d f g p times
+  pub spares : Spare (tableOf d f g) (query (p .k)) (p .start) times spare
+  pub timed : Timed (tableOf d f g) (query (p .k)) (p .end) (p .start) (length d) counts

@@ -1,0 +1,123 @@
+// Day counts: how many rows have each day as their time. Listing keeps them up as times rise; 1,025 numbers, by day.
+ghost use mathlib.Core.Path.{_≡_};
+ghost use mathlib.Core.Bool.{true, false};
+ghost use Prim.Native.Nat.{_+_, _≤_, _<_};
+ghost use lib.ListN.{length, getD};
+ghost use Rattle.rings.specs.CoreTimes.{never};
+ghost use Rattle.rings.specs.Table.{tableOf};
+ghost use Rattle.rings.specs.Inner.Peeling.{query, season, guess, Ready, Span, Split, CoreTimesAre};
+ghost use Rattle.rings.specs.Inner.Counting.{timeBy, Histogram, Timed, Adding, Removing, Taking};
+use crate::choice::one;
+use crate::choice::pick;
+use crate::links::clear;
+use crate::links::wide;
+use crate::times::row_time;
+
+// m rows more with this time, if it is a day.
+pub fn add_count(counts: &mut [u16], time: u16, m: u16)
+    requires { ⌜ (length (now counts) ≡ 1025) × ((time ≡ never → ⊥) → (time < 1025) × (getD (now counts) time 0 + m < 65536)) ⌝ }
+    ensures { λ _. ⌜ Adding m time (now (counts .entry)) (now (counts .exit)) ⌝ }
+{
+    if time == 65535 {
+        return;
+    }
+    let e = time as usize;
+    counts[e] = counts[e] + m;
+}
+
+// One row fewer with this time, if it is a day.
+pub fn drop_count(counts: &mut [u16], time: u16)
+    requires { ⌜ (length (now counts) ≡ 1025) × ((time ≡ never → ⊥) → (time < 1025) × (1 ≤ getD (now counts) time 0)) ⌝ }
+    ensures { λ _. ⌜ Removing time (now (counts .entry)) (now (counts .exit)) ⌝ }
+{
+    if time == 65535 {
+        return;
+    }
+    let e = time as usize;
+    counts[e] = counts[e] - 1;
+}
+
+// Where days are counted and the test holds: one row fewer with this time, and one more of m that are still to be counted. A sum and no branch on the test: whether a row's time moves no processor foresees.
+pub fn take_count(counting: bool, counts: &mut [u16], test: bool, time: u16, m: u16) -> u16
+    requires { ⌜ (counting ≡ true → (length (now counts) ≡ 1025) × (m < 16384) × (test ≡ true → (time < 1025) × (1 ≤ getD (now counts) time 0))) ⌝ }
+    ensures { λ r. ⌜ (counting ≡ true → Taking test time m (now (counts .entry)) (now (counts .exit)) r) ⌝ }
+{
+    if !counting {
+        return m;
+    }
+    let more = one(test);
+    let e = wide(pick(test, time, 0));
+    counts[e] = counts[e] - more;
+    m + more
+}
+
+// Where days are counted: the m rows that are still to be counted have this time.
+pub fn pay_counts(counting: bool, counts: &mut [u16], time: u16, m: u16)
+    requires { ⌜ (counting ≡ true → (length (now counts) ≡ 1025) × ((time ≡ never → ⊥) → (time < 1025) × (getD (now counts) time 0 + m < 65536))) ⌝ }
+    ensures { λ _. ⌜ (counting ≡ true → Adding m time (now (counts .entry)) (now (counts .exit))) ⌝ }
+{
+    if !counting {
+        return;
+    }
+    add_count(counts, time, m);
+}
+
+// Where days are counted: the core times at s of all rows, from nothing.
+pub fn count_times(
+    counting: bool,
+    days: &[u16],
+    first: &[u16],
+    second: &[u16],
+    links: &[u16],
+    k: u16,
+    s: u16,
+    te: u16,
+    lo: usize,
+    end: usize,
+    times: &[u16],
+    counts: &mut [u16],
+)
+    requires { ⌜ Ready (now days) (now first) (now second) (now links) (season k s te lo) ⌝ }
+    requires { ⌜ Span (now days) te lo end × CoreTimesAre (now days) (now first) (now second) (season k s te lo) (now times) ⌝ }
+    requires { ⌜ (counting ≡ true → (length (now counts) ≡ 1025) × (te ≤ 1024)) ⌝ }
+    ensures { λ _. ⌜ (counting ≡ true → Timed (tableOf (now (days .entry)) (now (first .entry)) (now (second .entry))) (query k) te s (length (now (days .entry))) (now (counts .exit))) ⌝ }
+{
+    if !counting {
+        return;
+    }
+    clear(counts);
+    let mut j = lo;
+    while j < end {
+        let time = row_time(days, first, second, links, k, s, te, lo, end, times, j);
+        add_count(counts, time, 1);
+        j += 1;
+    }
+}
+
+// The rows of the first day leave: they have no time on the day after it.
+pub fn drop_rows(
+    days: &[u16],
+    first: &[u16],
+    second: &[u16],
+    links: &[u16],
+    k: u16,
+    s: u16,
+    te: u16,
+    lo: usize,
+    next: usize,
+    end: usize,
+    times: &[u16],
+    counts: &mut [u16],
+)
+    requires { ⌜ Ready (now days) (now first) (now second) (now links) (season k s te lo) ⌝ }
+    requires { ⌜ Span (now days) te lo end × CoreTimesAre (now days) (now first) (now second) (season k s te lo) (now times) × (te ≤ 1024) × Split (now days) (s + 1) next ⌝ }
+    requires { ⌜ Timed (tableOf (now days) (now first) (now second)) (query k) te s (length (now days)) (now counts) ⌝ }
+    ensures { λ _. ⌜ Histogram (timeBy (tableOf (now (days .entry)) (now (first .entry)) (now (second .entry))) (guess (now (times .entry))) (s + 1) te) (length (now (days .entry))) (now (counts .exit)) ⌝ }
+{
+    let mut j = lo;
+    while j < next {
+        let time = row_time(days, first, second, links, k, s, te, lo, end, times, j);
+        drop_count(counts, time);
+        j += 1;
+    }
+}
