@@ -16,13 +16,13 @@ use mathlib.Core.List.{List}
 use lib.ListN.{length, getD, set, replicate, length-set, length-replicate, getD-replicate}
 use lib.Seq.{getD-set-same, getD-set-other, set-getD}
 use lib.Dec.{leb, eqb}
-use borrow.Author.Tests.{eq-eqb, ne-eqb, leb-true, leb-false, le-leb, lt-leb}
+use borrow.Author.Tests.{eq-eqb, ne-eqb, leb-true, leb-false, le-leb}
 use Rattle.rings.specs.Words.{_and_, count}
-use Rattle.rings.specs.Table.{Table, tableOf, size, dayOf, firstOf, secondOf, inWindow}
+use Rattle.rings.specs.Table.{Table, tableOf, dayOf, firstOf, secondOf, inWindow}
 use Rattle.rings.specs.CoreTimes.{never, accountTime, rowTime}
 use Rattle.rings.specs.Inner.Peeling.{Setting, query, season, guess, CoreTimesAre}
 use Rattle.rings.specs.Inner.Counting.{timeBy, IsTime, Histogram, owed, Owing, Adding, Removing, Taking}
-use Rattle.rings.proofs.WordLaws.{look, clash, and-i, and-l, and-r, tally-yes, tally-no, count-le, count-same, count-none, count-pos, same-or}
+use Rattle.rings.proofs.WordLaws.{look, and-i, and-l, and-r, tally-yes, tally-no, count-le, count-same, count-none, count-pos, same-or}
 use Rattle.rings.specs.declared.Query.{Query}
 use Rattle.rings.proofs.PairLaws.{count-drop}
 use Rattle.rings.proofs.CoreTimeLaws.{row-time, row-max, row-before, row-after}

@@ -22,7 +22,7 @@ use Rattle.rings.specs.Table.{Table, tableOf, size, dayOf, firstOf, seco
 use Rattle.rings.specs.Ring.{touches}
 use Rattle.rings.specs.CoreTimes.{never}
 use Rattle.rings.specs.Inner.Sound.{Sound}
-use Rattle.rings.specs.Inner.Links.{pickOther, otherOf, placeOf, fresh, Linked, Ahead}
+use Rattle.rings.specs.Inner.Links.{pickOther, otherOf, placeOf, fresh, Linked}
 use Rattle.rings.specs.Inner.Peeling.{Setting, Season, Ready, Place, query, guess}
 use Rattle.rings.specs.Inner.Settling.{value, backing, backers, Days, Losing, Lessened, Leaving, Queued}
 use Rattle.rings.specs.declared.Query.{Query}

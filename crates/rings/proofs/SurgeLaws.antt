@@ -13,7 +13,6 @@ use lib.Dec.{leb, ltb, eqb}
 use borrow.Author.Tests.{leb-true, leb-false, ltb-true, ltb-false}
 use Rattle.rings.specs.Words.{_and_, at}
 use Rattle.rings.specs.Table.{Table, tableOf, dayOf}
-use Rattle.rings.specs.Ring.{touches}
 use Rattle.rings.specs.CoreTimes.{never}
 use Rattle.rings.specs.Inner.Links.{pickOther, otherOf, placeOf, Ahead}
 use Rattle.rings.specs.Inner.Peeling.{query, Season, Ready, guess}

@@ -1,6 +1,6 @@
 // Day counts: how many rows have each day as their time. Listing keeps them up as times rise; 1,025 numbers, by day.
 ghost use mathlib.Core.Path.{_≡_};
-ghost use mathlib.Core.Bool.{true, false};
+ghost use mathlib.Core.Bool.{true};
 ghost use Prim.Native.Nat.{_+_, _≤_, _<_};
 ghost use lib.ListN.{length, getD};
 ghost use Rattle.rings.specs.CoreTimes.{never};

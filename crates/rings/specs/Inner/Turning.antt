@@ -8,20 +8,16 @@
 --     Through                 so are all such rows of the first i accounts of a list; xs are the times of the accounts
 --     Stays                   a row that was renewed is so still
 --     Turned                  the rows of u are renewed, and nothing else is lost
-use Prim.Native.Nat.{ℕ, _+_, _-_, _*_, _≤_, _<_}
+use Prim.Native.Nat.{ℕ, _+_, _*_, _≤_, _<_}
 use mathlib.Core.Path.{_≡_}
 use mathlib.Core.Logic.{_⊎_}
 use mathlib.Core.Bool.{true}
 use mathlib.Core.List.{List}
-use lib.ListN.{length, getD, set}
-use lib.Dec.{eqb}
-use Rattle.rings.specs.Words.{count}
-use Rattle.rings.specs.Table.{Table, tableOf, size, dayOf}
+use lib.ListN.{getD}
+use Rattle.rings.specs.Table.{Table, size, dayOf}
 use Rattle.rings.specs.Ring.{touches}
-use Rattle.rings.specs.CoreTimes.{never, rowTime}
+use Rattle.rings.specs.CoreTimes.{rowTime}
 use Rattle.rings.specs.Inner.Links.{Linked}
-use Rattle.rings.specs.Inner.Peeling.{query, Season, Ready, CoreTimesAre}
-use Rattle.rings.specs.Inner.Settling.{Spare}
 use Rattle.rings.specs.declared.Query.{Query}
 
 unfoldable pub timeOf : Table → List ℕ → ℕ → ℕ

@@ -6,8 +6,7 @@ use Rattle.rings.specs.Inner.Counting.{Histogram}
 use Rattle.rings.specs.Inner.Peeling.{query}
 use Rattle.rings.specs.CoreTimes.{rowTime}
 use Rattle.rings.specs.Table.{tableOf}
-use lib.ListN.{length}
-use mathlib.Core.Path.{_≡_, refl, sym, _∙_}
+use mathlib.Core.Path.{sym, _∙_}
 use Prim.Native.Nat.{_-_, _≤_}
 use borrow.Author.Tests.{not-true, not-false}
 use borrow.Author.Needs.{needs}

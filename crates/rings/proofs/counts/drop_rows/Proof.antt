@@ -4,8 +4,7 @@ use Rattle.rings.specs.Inner.Peeling.{query, guess}
 use Rattle.rings.specs.CoreTimes.{rowTime}
 use Rattle.rings.specs.Table.{tableOf}
 use lib.ListN.{length}
-use borrow.Author.Needs.{needs}
-use mathlib.Core.Path.{_≡_, refl, sym, _∙_}
+use mathlib.Core.Path.{sym, _∙_}
 use Prim.Native.Nat.{_+_, _-_, _≤_}
 use native.Mathlib.Omega.{arith}
 use Rattle.rings.proofs.counts.drop_rows.Statement.{statement}

@@ -2,7 +2,6 @@ use native.Mathlib.Omega.{arith}
 use Rattle.rings.proofs.DayLaws.{ready-of, span-of}
 use Rattle.rings.proofs.SettleLaws.{split-rises}
 use mathlib.Core.Path.{_∙_, refl}
-use borrow.Author.Needs.{needs}
 use Rattle.rings.proofs.rows.next_start.Statement.{statement}
 use Rattle.rings.proofs.rows.next_start.Tie as tie
 use Rattle.rings.proofs.rows.next_start.Reads as reads
