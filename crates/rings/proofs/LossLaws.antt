@@ -1,7 +1,7 @@
 -- Who loses a supporter (src/settle.rt), and who waits for a look by that.
 --     at-place, in-list         equal places, equal lists
 --     under, losing, losing-on, losing-less, queued-start, queued-losing, queued-then     a loss, and the queue after it
---     Wave, wave-start, wave-out, wave-stop, wave-small, wave-next      the walk of `lose_others` in the book
+--     Wave, wave-start, wave-out, wave-late, wave-stop, wave-small, wave-next      the walk of `lose_others` in the book
 --     leaving-start, leaving-row, leaving-last                          the rows that leave
 --     first-is, second-is, day-of, first-small, second-small, is-first  what the code reads of a row
 -- Assumes nothing.

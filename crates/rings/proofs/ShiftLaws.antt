@@ -1,9 +1,8 @@
 -- The day counts while an account rises (src/settle.rt, lose_others): each of its rows whose time moves is taken off its day, and counted on the new one at last.
 --     mixed                   the times of the rows below b after the rise, of the others before it
---     shift-start, shift-stay, shift-move, shift-out, shift-stop    the rows of u, one after the other
---     shift-all, shift-asks, shift-row
---     Shift, rise-start, rise-all, rise-asks, rise-row              the same in the state of the loop
---     drop-from, drop-start, drop-asks, drop-next, drop-end    the rows of the first day leave
+--     shift-start, shift-asks, shift-row, shift-all             the rows of u, one after the other: each keeps its time or moves to the new one
+--     Shift, rise-start, rise-asks, rise-row, rise-all          the same in the state of the loop
+--     drop-from, drop-start, drop-asks, drop-next, drop-end     the rows of the first day leave
 -- Assumes nothing.
 use Prim.Native.Nat.{ℕ, max, _+_, _-_, _≤_, _<_}
 use native.Mathlib.Nat.{le-refl, eq-or-lt-of-le}

@@ -1,6 +1,6 @@
 -- The loop of lose_others (src/settle.rt): the rows of an account that rises. Who is lost by it waits (LossLaws.Wave), and the day counts go along (ShiftLaws.Shift).
 --     Surge, surge-start, surge-out, surge-stop, surge-asks, surge-next    the state of the loop, and its ways
---     surge-pays     what is still to be counted at the end
+--     Owed, surge-pays     what is still to be counted at the end
 -- Assumes nothing.
 use Prim.Native.Nat.{ℕ, suc, max, min, _+_, _*_, _≤_, _<_}
 use native.Mathlib.Omega.{arith}
