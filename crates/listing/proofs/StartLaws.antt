@@ -18,7 +18,7 @@ use Rattle.rings.specs.Table.{Table, tableOf, size, dayOf}
 use Rattle.rings.specs.Ring.{ring, members}
 use Rattle.rings.specs.CoreTimes.{never, rowTime}
 use Rattle.rings.specs.Windows.{Window, windowsFrom}
-use Rattle.rings.specs.Inner.Peeling.{Season, Ready, Split, query}
+use Rattle.rings.specs.Inner.Peeling.{Season, Framed, Split, query}
 use Rattle.rings.specs.Inner.Counting.{Timed}
 use Rattle.rings.specs.declared.Query.{Query}
 use Rattle.rings.proofs.WordLaws.{look, and-i, and-l, and-r, same-truth, tally-yes, tally-no, count-le, count-same, count-none, count-pos, count-some}
@@ -58,9 +58,9 @@ least-next {f} {lo} {j} {r} {time} {r′} o L et er =
     which (_⊎_.inl y) = let a = leb-true r time y in old (omega arith) (L .reached)
     which (_⊎_.inr y) = let a = leb-false r time y in _⊎_.inr (j, o, omega arith, omega arith)
 
-pub least-end : {d f s links : List ℕ} {p : Season} {j next r : ℕ} → Ready d f s links p → Split d (p .start + 1) next → j ≤ next → next ≤ j → Least (rowTime (tableOf d f s) (query (p .k)) (p .end) (p .start)) (p .lo) j r → Earliest (tableOf d f s) (query (p .k)) (p .end) (p .start) r
+pub least-end : {d f s : List ℕ} {p : Season} {j next r : ℕ} → Framed d f s p → Split d (p .start + 1) next → j ≤ next → next ≤ j → Least (rowTime (tableOf d f s) (query (p .k)) (p .end) (p .start)) (p .lo) j r → Earliest (tableOf d f s) (query (p .k)) (p .end) (p .start) r
 unfolding dayOf at
-least-end {d} {f} {s} {links} {p} {j} {next} {r} R N a b L = record { lower = lower; reached = reach (L .reached) }
+least-end {d} {f} {s} {p} {j} {next} {r} R N a b L = record { lower = lower; reached = reach (L .reached) }
   where
     lower : (i : ℕ) → getD d i 0 ≡ p .start → r ≤ rowTime (tableOf d f s) (query (p .k)) (p .end) (p .start) i
     lower i e =

@@ -1,4 +1,5 @@
 -- A walk over the rows of an account, in the book that `link` made: p is a place in it, and the rows of u below b are passed.
+--     fresh-reads, fresh-place, row-ends, row-small, row-other     what the code reads of a row
 --     Along          p stands behind the rows of u below b
 --     other-sum      what `other` returns
 --     along-last     one past the last place
@@ -25,10 +26,35 @@ use Rattle.rings.specs.Words.{_and_, at}
 use Rattle.rings.specs.Table.{Table, tableOf, size, dayOf, firstOf, secondOf}
 use Rattle.rings.specs.Ring.{touches}
 use Rattle.rings.specs.Inner.Sound.{Sound}
-use Rattle.rings.specs.Inner.Links.{pickOther, otherOf, rank, placeOf, fresh, Linked, Ahead}
+use Rattle.rings.specs.Inner.Links.{pickOther, otherOf, rank, placeOf, fresh, Pairs, Linked, Ahead}
 use Rattle.rings.proofs.WordLaws.{look}
 use Rattle.rings.proofs.RingLaws.{touch-cases}
 use Rattle.rings.proofs.LinkLaws.{rank-yes, rank-mono, rank-less, none-between, NthRow, nth-row, places-most, place-step, entry-below}
+
+-- row j, as the code reads it
+module _ (d f s : List ℕ) (S : Sound d f s) {j : ℕ} (l : j < length d) where
+  pub fresh-reads : (lo : ℕ) (links : List ℕ) {y : Bool} → Pairs (tableOf d f s) links → y ≡ (leb lo j and leb (getD links (8192 + 2 * length d + j) 0) lo) → y ≡ fresh (tableOf d f s) lo j
+  unfolding fresh
+  fresh-reads lo links P h = h ∙ ap (λ (c : ℕ). leb lo j and leb c lo) (P j l)
+
+  pub fresh-place : (links : List ℕ) → 8192 + 4 * length d ≤ length links → (length d ≤ 16384) × (j < length d) × (8192 + 2 * length d + j < length links)
+  fresh-place links long = (S .most, l, omega arith)
+
+  module _ (u : ℕ) (h : touches (tableOf d f s) j u ≡ true) {a c : ℕ} (ea : a ≡ getD f j 0) (ec : c ≡ getD s j 0) where
+    -- u is one of its accounts
+    pub row-ends : (a < 4096) × (c < 4096) × ((a ≡ u) ⊎ (c ≡ u))
+    unfolding firstOf secondOf at
+    row-ends = let x = S .rows j l .accounts in let y = S .rows j l .account-to in (omega arith, omega arith, ⊎-elim (λ e. _⊎_.inl (ea ∙ e)) (λ e. _⊎_.inr (ec ∙ e)) (touch-cases (tableOf d f s) j u h))
+
+    pub row-small : {v : ℕ} → v ≡ pickOther (eqb a u) a c → v < 4096
+    unfolding pickOther
+    row-small {v} ev =
+        ⊎-elim (λ y. let z : v ≡ c = ev ∙ ap (λ (w : Bool). pickOther w a c) y in let k = row-ends .1 in omega arith) (λ y. let z : v ≡ a = ev ∙ ap (λ (w : Bool). pickOther w a c) y in let k = row-ends .0 in omega arith) (look (eqb a u))
+
+    -- the other
+    pub row-other : {v : ℕ} → v ≡ pickOther (eqb a u) a c → v ≡ otherOf (tableOf d f s) j u
+    unfolding otherOf firstOf secondOf at
+    row-other ev = ev ∙ (ap (λ (y : ℕ). pickOther (eqb y u) y c) ea ∙ ap (λ (y : ℕ). pickOther (eqb (getD f j 0) u) (getD f j 0) y) ec)
 
 pub record Along (t : Table) (u b p : ℕ) : Type 0 where
   pub place : p ≡ placeOf t u + rank t u b
@@ -79,21 +105,18 @@ module _ (d f s links : List ℕ) (S : Sound d f s) {day : ℕ} (L : Linked (tab
 
         -- what `is_fresh` answers, and what it reads
         pub along-fresh : (lo : ℕ) {y : Bool} → y ≡ (leb lo j and leb (getD links (8192 + 2 * length d + j) 0) lo) → y ≡ fresh t lo j
-        unfolding fresh
-        along-fresh lo h = h ∙ ap (λ (c : ℕ). leb lo j and leb c lo) (L .pairs j along-row)
+        along-fresh lo h = fresh-reads d f s S along-row lo links (L .pairs) h
 
         pub along-fresh-place : (length d ≤ 16384) × (j < length d) × (8192 + 2 * length d + j < length links)
-        along-fresh-place = let a = L .long in let c = along-row in (S .most, c, omega arith)
+        along-fresh-place = fresh-place d f s S along-row links (L .long)
 
         -- u is one of its accounts
         pub along-ends : {a c : ℕ} → a ≡ getD f j 0 → c ≡ getD s j 0 → (a < 4096) × (c < 4096) × ((a ≡ u) ⊎ (c ≡ u))
-        unfolding firstOf secondOf at
-        along-ends ea ec = let x = S .rows j along-row .accounts in let y = S .rows j along-row .account-to in (omega arith, omega arith, ⊎-elim (λ e. _⊎_.inl (ea ∙ e)) (λ e. _⊎_.inr (ec ∙ e)) (touch-cases t j u along-touch))
+        along-ends ea ec = row-ends d f s S along-row u along-touch ea ec
 
         -- the other
         pub along-other : {a c v : ℕ} → a ≡ getD f j 0 → c ≡ getD s j 0 → v ≡ pickOther (eqb a u) a c → v ≡ otherOf t j u
-        unfolding otherOf firstOf secondOf at
-        along-other {a} {c} ea ec ev = ev ∙ (ap (λ (y : ℕ). pickOther (eqb y u) y c) ea ∙ ap (λ (y : ℕ). pickOther (eqb (getD f j 0) u) (getD f j 0) y) ec)
+        along-other ea ec ev = row-other d f s S along-row u along-touch ea ec ev
 
 -- the rows of u below b are below lo, and p stands behind them
 pub record Begun (t : Table) (u lo p : ℕ) : Type 0 where

@@ -3,6 +3,7 @@
 --     Scan, scan-on, scan-next, scan-found, scan-end     the loop of `rows_through`
 --     span-after, span-of      the rows of a window
 --     setting-of     what peeling works on
+--     ready-of, framed-of, placed-of, open-of, ready-framed, open-framed, shelves-paired    with a book, with a part of it, with none
 -- Assumes nothing.
 use Prim.Native.Nat.{ℕ, zero, suc, _+_, _≤_, _<_}
 use native.Mathlib.Nat.{le-refl, le-trans, eq-or-lt-of-le, not-suc-le-zero, le-of-suc-le-suc}
@@ -14,10 +15,10 @@ use lib.ListN.{length, getD}
 use lib.Dec.{leb}
 use borrow.Author.Tests.{leb-true, leb-false}
 use Rattle.rings.specs.Words.{at}
-use Rattle.rings.specs.Table.{tableOf, dayOf, firstOf, secondOf}
+use Rattle.rings.specs.Table.{Table, tableOf, dayOf, firstOf, secondOf}
 use Rattle.rings.specs.Inner.Sound.{Sound}
-use Rattle.rings.specs.Inner.Links.{Linked}
-use Rattle.rings.specs.Inner.Peeling.{Setting, Ready, Placed, season, query, Split, Span}
+use Rattle.rings.specs.Inner.Links.{Linked, Paired, Shelves}
+use Rattle.rings.specs.Inner.Peeling.{Setting, Season, Ready, Framed, Placed, Open, season, query, Split, Span}
 use Rattle.rings.proofs.WordLaws.{look}
 
 pub record Scan (d : List ℕ) (day r : ℕ) : Type 0 where
@@ -94,5 +95,21 @@ setting-of {d} S one top a =
 pub ready-of : {d f s links : List ℕ} {k start stop lo : ℕ} → Sound d f s → Linked (tableOf d f s) start links → 1 ≤ k → stop ≤ 1024 → Split d start lo → Ready d f s links (season k start stop lo)
 ready-of S L one top a = record { sound = S; linked = L; setting = setting-of S one top a }
 
-pub placed-of : {d f s links : List ℕ} {k day start stop lo : ℕ} → Sound d f s → Linked (tableOf d f s) day links → 1 ≤ k → stop ≤ 1024 → Split d start lo → Placed d f s links (season k start stop lo)
-placed-of {day = day} S L one top a = record { sound = S; day = day; linked = L; setting = setting-of S one top a }
+pub framed-of : {d f s : List ℕ} {k start stop lo : ℕ} → Sound d f s → 1 ≤ k → stop ≤ 1024 → Split d start lo → Framed d f s (season k start stop lo)
+framed-of S one top a = record { sound = S; setting = setting-of S one top a }
+
+pub placed-of : {d f s links : List ℕ} {k start stop lo : ℕ} → Sound d f s → Paired (tableOf d f s) links → 1 ≤ k → stop ≤ 1024 → Split d start lo → Placed d f s links (season k start stop lo)
+placed-of S P one top a = record { sound = S; paired = P; setting = setting-of S one top a }
+
+pub open-of : {d f s links : List ℕ} {k start stop lo : ℕ} → Sound d f s → Shelves (tableOf d f s) links → 1 ≤ k → stop ≤ 1024 → Split d start lo → Open d f s links (season k start stop lo)
+open-of S L one top a = record { sound = S; shelves = L; within = a .within; setting = setting-of S one top a }
+
+-- what is left of it without the book
+pub ready-framed : {d f s links : List ℕ} {p : Season} → Ready d f s links p → Framed d f s p
+ready-framed R = record { sound = R .sound; setting = R .setting }
+
+pub open-framed : {d f s links : List ℕ} {p : Season} → Open d f s links p → Framed d f s p
+open-framed R = record { sound = R .sound; setting = R .setting }
+
+pub shelves-paired : {t : Table} {links : List ℕ} → Shelves t links → Paired t links
+shelves-paired L = record { long = L .long; pairs = L .pairs }

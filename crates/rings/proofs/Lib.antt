@@ -14,6 +14,8 @@ pub mod BookLaws
 pub mod FallLaws
 pub mod AlongLaws
 pub mod HeadLaws
+pub mod ShelfLaws
+pub mod TrimLaws
 pub mod WalkLaws
 pub mod StageLaws
 pub mod DayLaws

@@ -1,10 +1,10 @@
 -- A look at an account (src/settle.rt): why the day that it finds is the least with k supporters.
 --     backing-e, backing-i, backers-are     the rows that back u, each the first of its pair, are as many as its supporters
---     seen-start, seen-skip, seen-note, seen-count, seen-stop, seen-out     the rows of u as they stand on a day
+--     seen-start, seen-stale, seen-note, seen-count, seen-stop, seen-out     the rows of u as they stand on a day
 --     few-start, look-next, look-found, look-never     a look rises from day to day, and stops at the first with k supporters
---     By, by-most, marked     what `one`, `pick` and `note` compute without a branch
+--     By, by-most, noted      what `one`, `pick` and `note` compute without a branch
 --     both, not-first         two tests at once
---     Glance, glance-start, glance-out, glance-over, glance-mark, glance-few, glance-most, glance-small     the walk of `look_at` in the book
+--     Glance, glance-start, glance-out, glance-over, glance-mark, glance-few, glance-late, glance-most, glance-small     the walk of `look_at` in the book
 -- Assumes nothing.
 use Prim.Native.Nat.{ℕ, zero, suc, max, _+_, _-_, _*_, _≤_, _<_}
 use native.Mathlib.Nat.{le-refl, le-trans, le-antisymm, eq-or-lt-of-le}
@@ -21,17 +21,17 @@ use Rattle.rings.specs.Words.{_and_, at, count}
 use Rattle.rings.specs.Table.{Table, tableOf, size, dayOf}
 use Rattle.rings.specs.Ring.{joins, names, touches}
 use Rattle.rings.specs.CoreTimes.{never}
-use Rattle.rings.specs.Inner.Links.{pickOther, otherOf, placeOf, fresh, Ahead}
+use Rattle.rings.specs.Inner.Links.{pickOther, otherOf, fresh, Reading, Every}
 use Rattle.rings.specs.Inner.Support.{supports, supporters}
-use Rattle.rings.specs.Inner.Peeling.{Setting, Season, Ready, query, guess}
-use Rattle.rings.specs.Inner.Settling.{value, backing, backers, Days, Seen, Noting, Marking, Glanced, Looked}
+use Rattle.rings.specs.Inner.Peeling.{Setting, Season, Open, query, guess}
+use Rattle.rings.specs.Inner.Settling.{value, backing, backers, Days, Seen, Noting, Glanced, Looked}
 use Rattle.rings.specs.declared.Query.{Query}
-use Rattle.rings.proofs.WordLaws.{look, clash, and-i, and-l, and-r, count-le, count-mono, count-none, tally-yes, tally-no}
+use Rattle.rings.proofs.WordLaws.{look, clash, and-i, and-l, and-r, count-mono, count-none, tally-yes, tally-no}
 use Rattle.rings.proofs.RingLaws.{joins-touch}
 use Rattle.rings.proofs.PairLaws.{count-inject, joins-other, joins-same, fresh-e, fresh-one, first-fresh}
 use Rattle.rings.proofs.FixpointLaws.{supports-e, supports-i, enough}
 use Rattle.rings.proofs.FallLaws.{touch-named, guess-at, other-small}
-use Rattle.rings.proofs.AlongLaws.{Along, begun, along-out, along-row, along-touch, along-from, along-none, along-next, along-fresh, along-other}
+use Rattle.rings.proofs.ShelfLaws.{reading-out, reading-row, reading-touch, reading-from, reading-gap, reading-next, reading-fresh, reading-other}
 
 -- ---- rows and supporters
 
@@ -111,42 +111,80 @@ module _ (t : Table) (q : Query) (s hi lo : ℕ) (S : Setting t q s hi lo) (x : 
       ⊎-elim (λ e. subst (λ (a : ℕ). backers t x lo c u a ≤ backers t x lo c u (suc j)) (sym e) (le-refl (backers t x lo c u (suc j))))
       (λ l. le-trans (backers-mono c u i j (omega arith)) (subst (λ (a : ℕ). backers t x lo c u j ≤ backers t x lo c u a) (add-one j) (backers-grow c u j))) (eq-or-lt-of-le h)
 
-  -- rows that are none of u's change nothing
-  backers-flat : (c u b j : ℕ) → b ≤ j → ((i : ℕ) → b ≤ i → i < j → touches t i u ≡ false) → backers t x lo c u j ≡ backers t x lo c u b
-  backers-flat c u b zero h none = let e : b ≡ 0 = omega arith in ap (backers t x lo c u) (sym e)
-  backers-flat c u b (suc j) h none =
+  -- a row of u that is below lo, or whose other account has no time, backs it on no day
+  gap-not : (c u j : ℕ) → c < never → (touches t j u ≡ true → (j < lo) ⊎ (x (otherOf t j u) ≡ never)) → backing t x lo c u j ≡ false
+  unfolding value
+  gap-not c u j h gap =
+      ⊎-elim (λ y. let w = backing-e c u j y in let b = w .by in let a = fresh-e t lo j (w .is-fresh) .from in ⊎-elim (λ z. absurd (omega arith)) (λ z. absurd (omega arith)) (gap (w .touch))) (λ y. y) (look (backing t x lo c u j))
+
+  -- so such rows change nothing
+  backers-flat : (c u b j : ℕ) → c < never → b ≤ j → ((i : ℕ) → b ≤ i → i < j → touches t i u ≡ true → (i < lo) ⊎ (x (otherOf t i u) ≡ never)) → backers t x lo c u j ≡ backers t x lo c u b
+  backers-flat c u b zero o h gap = let e : b ≡ 0 = omega arith in ap (backers t x lo c u) (sym e)
+  backers-flat c u b (suc j) o h gap =
       ⊎-elim (λ e. ap (backers t x lo c u) (sym e))
-      (λ o. backers-no c u j (⊎-elim (λ y. clash (backing-e c u j y .touch) (none j (omega arith) (omega arith))) (λ y. y) (look (backing t x lo c u j))) ∙ backers-flat c u b j (omega arith) (λ i a k. none i a (omega arith))) (eq-or-lt-of-le h)
+      (λ k. backers-no c u j (gap-not c u j o (gap j (omega arith) (omega arith))) ∙ backers-flat c u b j o (omega arith) (λ i a l. gap i a (omega arith))) (eq-or-lt-of-le h)
 
   not-backing : (c u j : ℕ) {z : ℕ} → c < z → z ≡ value t x j u → backing t x lo c u j ≡ false
   not-backing c u j h e = ⊎-elim (λ y. let v = backing-e c u j y .by in absurd (omega arith)) (λ y. y) (look (backing t x lo c u j))
 
   module _ {c u b n above more : ℕ} (W : Seen t x lo hi c u b n above more) where
-    -- the next row of u is j
-    module _ (j : ℕ) (from : b ≤ j) (none : (i : ℕ) → b ≤ i → i < j → touches t i u ≡ false) where
+    above-most : above ≤ never
+    above-most = let h = S .fits in ⊎-elim (λ y. omega arith) (λ y. omega arith) (W .day)
+
+    soon : c < never
+    soon = let a = above-most in let b = W .rises in omega arith
+
+    -- a first row of u that the walk passed over comes in after the day above
+    gap-late : {i above′ : ℕ} → above′ ≤ above → fresh t lo i ≡ true → (i < lo) ⊎ (x (otherOf t i u) ≡ never) → (value t x i u ≤ c) ⊎ (above′ ≤ value t x i u)
+    unfolding value
+    gap-late {i} le f o = let a = fresh-e t lo i f .from in let m = above-most in ⊎-elim (λ z. absurd (omega arith)) (λ z. _⊎_.inr (omega arith)) o
+
+    -- the next row of u in the book is j
+    module _ (j : ℕ) (from : b ≤ j) (gap : (i : ℕ) → b ≤ i → i < j → touches t i u ≡ true → (i < lo) ⊎ (x (otherOf t i u) ≡ never)) where
       flat : n ≡ backers t x lo c u j
-      flat = W .counted ∙ sym (backers-flat c u b j from none)
+      flat = W .counted ∙ sym (backers-flat c u b j soon from gap)
 
       earlier-rows : {above′ : ℕ} → above′ ≤ above → (i : ℕ) → i < j → fresh t lo i ≡ true → touches t i u ≡ true → dayOf t i ≤ hi → (value t x i u ≤ c) ⊎ (above′ ≤ value t x i u)
       earlier-rows {above′} le i l f h o =
-          ⊎-elim (λ y. clash h (none i (leb-true b i y) l)) (λ y. ⊎-elim _⊎_.inl (λ z. _⊎_.inr (le-trans le z)) (W .none-between i (leb-false b i y) f h o)) (look (leb b i))
+          ⊎-elim (λ y. gap-late le f (gap i (leb-true b i y) l h)) (λ y. ⊎-elim _⊎_.inl (λ z. _⊎_.inr (le-trans le z)) (W .none-between i (leb-false b i y) f h o)) (look (leb b i))
 
       -- of those that come in by the day above too
-      then-flat : n + more ≤ backers t x lo above u j
-      then-flat = let e = backers-flat above u b j from none in let m = W .then in omega arith
+      then-flat : (above ≡ never) ⊎ (n + more ≤ backers t x lo above u j)
+      then-flat = ⊎-elim _⊎_.inl (λ y. _⊎_.inr (le-trans y (backers-mono above u b j from))) (W .then)
 
-      pub seen-skip : fresh t lo j ≡ false → Seen t x lo hi c u (j + 1) n above more
-      seen-skip f =
+      few-flat : n + more ≤ j
+      few-flat = let a = W .few in omega arith
+
+      passes : fresh t lo j ≡ false → Seen t x lo hi c u (j + 1) n above more
+      passes f =
           record {
             counted = flat ∙ (sym (backers-no c u j (stale c)) ∙ ap (backers t x lo c u) (sym (add-one j)));
             rises = W .rises;
             none-between = λ i l g h o. ⊎-elim (λ e. clash (subst (λ (a : ℕ). fresh t lo a ≡ true) e g) f) (λ k. earlier-rows (le-refl above) i k g h o) (eq-or-lt-of-le (omega arith));
             day = W .day;
-            then = let m = then-flat in let e = backers-no above u j (stale above) in let y = ap (backers t x lo above u) (add-one j) in omega arith;
+            few = let a = few-flat in omega arith;
+            then = ⊎-elim _⊎_.inl (λ m. let e = backers-no above u j (stale above) in let y = ap (backers t x lo above u) (add-one j) in _⊎_.inr (omega arith)) then-flat;
           }
         where
           stale : (a : ℕ) → backing t x lo a u j ≡ false
           stale a = ⊎-elim (λ y. clash (backing-e a u j y .is-fresh) f) (λ y. y) (look (backing t x lo a u j))
+
+      -- a row that is not the first of its pair: never stands for its value
+      pub seen-stale : {n′ above′ more′ : ℕ} → fresh t lo j ≡ false → Noting never c n above more n′ above′ more′ → Seen t x lo hi c u (j + 1) n′ above′ more′
+      seen-stale f (Noting.back h en ea em) = let a = soon in absurd (omega arith)
+      seen-stale f (Noting.nearer h k en ea em) = let a = above-most in absurd (omega arith)
+      seen-stale {n′} {above′} {more′} f (Noting.level h k en ea em) =
+          record {
+            counted = en ∙ passes f .counted;
+            rises = let a = W .rises in omega arith;
+            none-between = λ i l g y o. subst (λ (a : ℕ). (value t x i u ≤ c) ⊎ (a ≤ value t x i u)) (sym ea) (passes f .none-between i l g y o);
+            day = _⊎_.inr (ea ∙ sym k);
+            few = let a = few-flat in omega arith;
+            then = _⊎_.inl (ea ∙ sym k);
+          }
+      seen-stale {n′} {above′} {more′} f (Noting.farther h k en ea em) =
+          subst (λ (i : ℕ). Seen t x lo hi c u (j + 1) i above′ more′) (sym en)
+          (subst (λ (i : ℕ). Seen t x lo hi c u (j + 1) n i more′) (sym ea) (subst (λ (i : ℕ). Seen t x lo hi c u (j + 1) n above i) (sym em) (passes f)))
 
       module _ {z : ℕ} (f : fresh t lo j ≡ true) (g : touches t j u ≡ true) (ez : z ≡ value t x j u) where
         -- from z on the row backs u
@@ -171,7 +209,8 @@ module _ (t : Table) (q : Query) (s hi lo : ℕ) (S : Setting t q s hi lo) (x : 
               rises = let r = W .rises in omega arith;
               none-between = λ i l k y o. ⊎-elim (λ e. _⊎_.inl (subst (λ (a : ℕ). value t x a u ≤ c) (sym e) (subst (λ (a : ℕ). a ≤ c) ez h))) (λ o′. earlier-rows (omega arith) i o′ k y o) (eq-or-lt-of-le (omega arith));
               day = subst (λ (a : ℕ). (a ≤ hi) ⊎ (a ≡ never)) (sym ea) (W .day);
-              then = subst (λ (a : ℕ). n′ + more′ ≤ backers t x lo a u (j + 1)) (sym ea) (let r = W .rises in let k = backs-from above (omega arith) in let m = then-flat in omega arith);
+              few = let a = few-flat in omega arith;
+              then = ⊎-elim (λ y. _⊎_.inl (ea ∙ y)) (λ m. _⊎_.inr (subst (λ (a : ℕ). n′ + more′ ≤ backers t x lo a u (j + 1)) (sym ea) (let r = W .rises in let k = backs-from above (omega arith) in omega arith))) then-flat;
             }
         seen-note {n′} {above′} {more′} days (Noting.nearer h k en ea em) =
             record {
@@ -179,7 +218,8 @@ module _ (t : Table) (q : Query) (s hi lo : ℕ) (S : Setting t q s hi lo) (x : 
               rises = omega arith;
               none-between = passed (omega arith) (omega arith);
               day = subst (λ (a : ℕ). (a ≤ hi) ⊎ (a ≡ never)) (sym ea) days;
-              then = subst (λ (a : ℕ). n′ + more′ ≤ backers t x lo a u (j + 1)) (sym ea) (let m = backs-from z (le-refl z) in let o = backs-on z (omega arith) in omega arith);
+              few = let a = few-flat in omega arith;
+              then = _⊎_.inr (subst (λ (a : ℕ). n′ + more′ ≤ backers t x lo a u (j + 1)) (sym ea) (let m = backs-from z (le-refl z) in let o = backs-on z (omega arith) in omega arith));
             }
         seen-note {n′} {above′} {more′} days (Noting.level h k en ea em) =
             record {
@@ -187,7 +227,8 @@ module _ (t : Table) (q : Query) (s hi lo : ℕ) (S : Setting t q s hi lo) (x : 
               rises = omega arith;
               none-between = passed (omega arith) (omega arith);
               day = subst (λ (a : ℕ). (a ≤ hi) ⊎ (a ≡ never)) (sym ea) (W .day);
-              then = subst (λ (a : ℕ). n′ + more′ ≤ backers t x lo a u (j + 1)) (sym ea) (let m = backs-from above (omega arith) in let o = then-flat in omega arith);
+              few = let a = few-flat in omega arith;
+              then = ⊎-elim (λ y. _⊎_.inl (ea ∙ y)) (λ o. _⊎_.inr (subst (λ (a : ℕ). n′ + more′ ≤ backers t x lo a u (j + 1)) (sym ea) (let m = backs-from above (omega arith) in omega arith))) then-flat;
             }
         seen-note {n′} {above′} {more′} days (Noting.farther h k en ea em) =
             record {
@@ -195,7 +236,8 @@ module _ (t : Table) (q : Query) (s hi lo : ℕ) (S : Setting t q s hi lo) (x : 
               rises = let r = W .rises in omega arith;
               none-between = passed (omega arith) (omega arith);
               day = subst (λ (a : ℕ). (a ≤ hi) ⊎ (a ≡ never)) (sym ea) (W .day);
-              then = subst (λ (a : ℕ). n′ + more′ ≤ backers t x lo a u (j + 1)) (sym ea) (let o = then-flat in let m = backers-grow above u j in omega arith);
+              few = let a = few-flat in omega arith;
+              then = ⊎-elim (λ y. _⊎_.inl (ea ∙ y)) (λ o. _⊎_.inr (subst (λ (a : ℕ). n′ + more′ ≤ backers t x lo a u (j + 1)) (sym ea) (let m = backers-grow above u j in omega arith))) then-flat;
             }
 
       -- from j on every row is dated after c
@@ -218,29 +260,32 @@ module _ (t : Table) (q : Query) (s hi lo : ℕ) (S : Setting t q s hi lo) (x : 
             rises = W .rises;
             none-between = λ i k f h o. ⊎-elim (λ y. ⊎-elim (λ z. absurd (omega arith)) (λ z. _⊎_.inr (omega arith)) (late i (leb-true j i y) k)) (λ y. earlier-rows (le-refl above) i (leb-false j i y) f h o) (look (leb j i));
             day = W .day;
-            then = let m = then-flat in le-trans m (backers-mono above u j (size t) l);
+            few = let a = few-flat in omega arith;
+            then = ⊎-elim _⊎_.inl (λ m. _⊎_.inr (le-trans m (backers-mono above u j (size t) l))) then-flat;
           }
 
-    pub seen-out : b ≤ size t → ((i : ℕ) → b ≤ i → i < size t → touches t i u ≡ false) → Seen t x lo hi c u (size t) n above more
-    seen-out l none =
+    pub seen-out : b ≤ size t → ((i : ℕ) → b ≤ i → i < size t → touches t i u ≡ true → (i < lo) ⊎ (x (otherOf t i u) ≡ never)) → Seen t x lo hi c u (size t) n above more
+    seen-out l gap =
         record {
-          counted = W .counted ∙ sym (backers-flat c u b (size t) l none);
+          counted = W .counted ∙ sym (backers-flat c u b (size t) soon l gap);
           rises = W .rises;
-          none-between = λ i k f h o. ⊎-elim (λ y. clash h (none i (leb-true b i y) k)) (λ y. W .none-between i (leb-false b i y) f h o) (look (leb b i));
+          none-between = λ i k f h o. ⊎-elim (λ y. gap-late (le-refl above) f (gap i (leb-true b i y) k h)) (λ y. W .none-between i (leb-false b i y) f h o) (look (leb b i));
           day = W .day;
-          then = le-trans (W .then) (backers-mono above u b (size t) l);
+          few = let a = W .few in omega arith;
+          then = ⊎-elim _⊎_.inl (λ m. _⊎_.inr (le-trans m (backers-mono above u b (size t) l))) (W .then);
         }
 
-  -- the rows of u below b are below lo
-  pub seen-start : (c u b : ℕ) → ((i : ℕ) → i < b → touches t i u ≡ true → i < lo) → c < never → Seen t x lo hi c u b 0 never 0
+  -- no row below lo supports u
+  pub seen-start : (c u : ℕ) → c < never → Seen t x lo hi c u lo 0 never 0
   unfolding backers
-  seen-start c u b early h =
+  seen-start c u h =
       record {
-        counted = sym (count-none (backing t x lo c u) b (λ i l. ⊎-elim (λ y. let a = fresh-e t lo i (backing-e c u i y .is-fresh) .from in let z = early i l (backing-e c u i y .touch) in absurd (omega arith)) (λ y. y) (look (backing t x lo c u i))));
+        counted = sym (count-none (backing t x lo c u) lo (λ i l. ⊎-elim (λ y. let a = fresh-e t lo i (backing-e c u i y .is-fresh) .from in absurd (omega arith)) (λ y. y) (look (backing t x lo c u i))));
         rises = h;
-        none-between = λ j l f k. let a = fresh-e t lo j f .from in let z = early j l k in absurd (omega arith);
+        none-between = λ j l f k. let a = fresh-e t lo j f .from in absurd (omega arith);
         day = _⊎_.inr refl;
-        then = omega arith;
+        few = omega arith;
+        then = _⊎_.inl refl;
       }
 
   -- ---- from day to day
@@ -275,9 +320,9 @@ module _ (t : Table) (q : Query) (s hi lo : ℕ) (S : Setting t q s hi lo) (x : 
   look-then F o (Glanced.full h k) few some enough e = absurd (omega arith)
   look-then {c₀} {c} {u} {n} {above} F o (Glanced.seen W) few some enough e =
       let g = backers-are above u in
-      let w = W .then in
       let r = W .rises in
-      record { least = record { from = omega arith; fewer = few-next F W few; enough = _⊎_.inr (⊎-elim (λ y. y) (λ y. absurd (some y)) (W .day), omega arith) }; known = omega arith; enough = _⊎_.inr (omega arith) }
+      ⊎-elim (λ w. absurd (some w)) (λ w.
+      record { least = record { from = omega arith; fewer = few-next F W few; enough = _⊎_.inr (⊎-elim (λ y. y) (λ y. absurd (some y)) (W .day), omega arith) }; known = omega arith; enough = _⊎_.inr (omega arith) }) (W .then)
 
   -- or it found enough at once
   pub look-found : {c₀ c u n above more m : ℕ} → Few c₀ c u → c₀ ≤ c → Glanced t x lo hi c u (size t) (q .k) n above more → q .k ≤ n → c ≤ hi → m ≡ n + 1 - q .k → Looked t x s (q .k) hi c₀ u c m
@@ -311,63 +356,67 @@ not-first q h = ap (λ (w : Bool). w && q) h
 not-second : {p q : Bool} → p ≡ true → q ≡ false → (p && q) ≡ false
 not-second {p} {q} h k = ap (λ (w : Bool). w && q) h ∙ k
 
-pub marked : (y : Bool) (z c n above more : ℕ) {a b e m : ℕ} → By (y && leb z c) 1 0 a → By ((y && ltb c z) && ltb z above) z above b → By ((y && ltb c z) && eqb z above) 1 0 e → By ((y && ltb c z) && ltb z above) 1 (more + e) m → Marking y z c n above more (n + a) b m
-marked false z c n above more A B E M = Marking.stale refl (let h = A .1 refl in omega arith) (B .1 refl) (let h = E .1 refl in let k = M .1 refl in omega arith)
-marked true z c n above more {a} {b} {e} {m} A B E M = Marking.counts refl (⊎-elim late (λ g. soon (ltb-false c z g) g) (look (ltb c z)))
+pub noted : (z c n above more : ℕ) {a b e m : ℕ} → c < above → By (leb z c) 1 0 a → By (ltb c z && ltb z above) z above b → By (eqb z above) 1 0 e → By (ltb c z && ltb z above) 1 (more + e) m → Noting z c n above more (n + a) b m
+noted z c n above more {a} {b} {e} {m} up A B E M = ⊎-elim (λ g. late (ltb-true c z g) g) (λ g. soon (ltb-false c z g) g) (look (ltb c z))
   where
     soon : z ≤ c → ltb c z ≡ false → Noting z c n above more (n + a) b m
-    soon l g = Noting.back l (let h = A .0 (le-leb z c l) in omega arith) (B .1 (not-first (ltb z above) g)) (let h = E .1 (not-first (eqb z above) g) in let k = M .1 (not-first (ltb z above) g) in omega arith)
+    soon l g =
+        let none : e ≡ 0 = E .1 (⊎-elim (λ h. let k = eqb-true z above h in absurd (omega arith)) (λ h. h) (look (eqb z above))) in
+        Noting.back l (let h = A .0 (le-leb z c l) in omega arith) (B .1 (not-first (ltb z above) g)) (let k = M .1 (not-first (ltb z above) g) in omega arith)
 
-    late : ltb c z ≡ true → Noting z c n above more (n + a) b m
-    late g =
-        let more-than : c < z = ltb-true c z g in
+    late : c < z → ltb c z ≡ true → Noting z c n above more (n + a) b m
+    late l g =
         let none : a ≡ 0 = A .1 (⊎-elim (λ h. let k = leb-true z c h in absurd (omega arith)) (λ h. h) (look (leb z c))) in
-        ⊎-elim (λ h. Noting.nearer more-than (ltb-true z above h) (omega arith) (B .0 (both g h)) (M .0 (both g h)))
-        (λ h. ⊎-elim (λ k. Noting.level more-than (eqb-true z above k) (omega arith) (B .1 (not-second g h)) (let o = E .0 (both g k) in let i = M .1 (not-second g h) in omega arith)) (λ k. Noting.farther more-than (ltb-false z above h) (omega arith) (B .1 (not-second g h)) (let o = E .1 (not-second g k) in let i = M .1 (not-second g h) in omega arith)) (look (eqb z above)))
+        ⊎-elim (λ h. Noting.nearer l (ltb-true z above h) (omega arith) (B .0 (both g h)) (M .0 (both g h)))
+        (λ h. ⊎-elim (λ k. Noting.level l (eqb-true z above k) (omega arith) (B .1 (not-second g h)) (let o = E .0 k in let i = M .1 (not-second g h) in omega arith)) (λ k. Noting.farther l (ltb-false z above h) (omega arith) (B .1 (not-second g h)) (let o = E .1 k in let i = M .1 (not-second g h) in omega arith)) (look (eqb z above)))
         (look (ltb z above))
 
 -- ---- a look at u, in the book
 
 -- the rows of u before place p have been seen
-pub record Glance (d f g : List ℕ) (r : Season) (xs : List ℕ) (u c p n above more : ℕ) : Type 0 where
+pub record Glance (d f g links : List ℕ) (r : Season) (xs : List ℕ) (u c p n above more : ℕ) : Type 0 where
   pub b : ℕ
   pub within : b ≤ length d
-  pub along : Along (tableOf d f g) u b p
+  pub late : r .lo ≤ b
+  pub reading : Reading links u b p
   pub seen : Seen (tableOf d f g) (guess xs) (r .lo) (r .end) c u b n above more
 
-module _ (d f g links : List ℕ) (r : Season) (R : Ready d f g links r) (xs : List ℕ) (len : length xs ≡ 4096) (D : Days (r .end) xs) {u c : ℕ} (small : u < 4096) (top : c ≤ r .end) where
+module _ (d f g links : List ℕ) (r : Season) (R : Open d f g links r) (xs : List ℕ) (len : length xs ≡ 4096) (D : Days (r .end) xs) {u c : ℕ} (small : u < 4096) (top : c ≤ r .end) (E : Every (tableOf d f g) (guess xs) (r .lo) u links) where
   abbrev tt : Table
   tt = tableOf d f g
 
-  pub glance-start : {p : ℕ} → Ahead tt u (r .lo) p → Glance d f g r xs u c p 0 never 0
-  glance-start A = let B = begun A in record { b = B .b; within = B .within; along = B .along; seen = seen-start tt (query (r .k)) (r .start) (r .end) (r .lo) (R .setting) (guess xs) c u (B .b) (B .before) (let h = R .setting .fits in omega arith) }
+  pub glance-start : {p : ℕ} → Reading links u (r .lo) p → Glance d f g links r xs u c p 0 never 0
+  glance-start A = record { b = r .lo; within = R .within; late = le-refl (r .lo); reading = A; seen = seen-start tt (query (r .k)) (r .start) (r .end) (r .lo) (R .setting) (guess xs) c u (let h = R .setting .fits in omega arith) }
 
-  module _ {p n above more end : ℕ} (G : Glance d f g r xs u c p n above more) (ee : end ≡ placeOf tt (suc u)) where
+  module _ {p n above more end : ℕ} (G : Glance d f g links r xs u c p n above more) (ee : end ≡ getD links u 0) where
     glance-count : n + more ≤ G .b
-    unfolding backers
-    glance-count = let e = G .seen .then in let m = count-le (backing tt (guess xs) (r .lo) above u) (G .b) in omega arith
+    glance-count = G .seen .few
 
     pub glance-most : n + more ≤ 16384
     glance-most = let a = glance-count in let b = G .within in let h = R .sound .most in omega arith
 
     pub glance-out : end ≤ p → Glanced tt (guess xs) (r .lo) (r .end) c u (length d) (r .k) n above more
-    glance-out h = Glanced.seen (seen-out tt (query (r .k)) (r .start) (r .end) (r .lo) (R .setting) (guess xs) (G .seen) (G .within) (along-out d f g links (R .sound) (R .linked) small (G .along) ee h))
+    glance-out h = Glanced.seen (seen-out tt (query (r .k)) (r .start) (r .end) (r .lo) (R .setting) (guess xs) (G .seen) (G .within) (reading-out d f g links (R .sound) (R .shelves) small (G .reading) ee E h))
 
     module _ (here : p < end) {j : ℕ} (ej : j ≡ getD links (8192 + p) 0) where
       below : j < length d
-      below = along-row d f g links (R .sound) (R .linked) small (G .along) ee here ej
+      below = reading-row d f g links (R .sound) (R .shelves) small (G .reading) ee here ej
 
       from : G .b ≤ j
-      from = along-from d f g links (R .sound) (R .linked) small (G .along) ee here ej
+      from = reading-from d f g links (R .sound) (R .shelves) small (G .reading) ee here ej
 
-      none : (i : ℕ) → G .b ≤ i → i < j → touches tt i u ≡ false
-      none = along-none d f g links (R .sound) (R .linked) small (G .along) ee here ej
+      gap : (i : ℕ) → G .b ≤ i → i < j → touches tt i u ≡ true → (i < r .lo) ⊎ (guess xs (otherOf tt i u) ≡ never)
+      gap = reading-gap d f g links (R .sound) (R .shelves) small (G .reading) ee here ej E
 
-      pub glance-few : (n < 16384) × (more < 16384)
-      glance-few = let a = glance-count in let b = below in let c = from in let h = R .sound .most in (omega arith, omega arith)
+      pub glance-few : (n < 16384) × (more < 16384) × (c < above)
+      glance-few = let a = glance-count in let b = below in let c = from in let h = R .sound .most in (omega arith, omega arith, G .seen .rises)
+
+      -- the walk began at lo
+      pub glance-late : r .lo ≤ j
+      glance-late = let a = G .late in let b = from in omega arith
 
       stop-here : ((i : ℕ) → j ≤ i → i < length d → (r .end < dayOf tt i) ⊎ (above ≤ dayOf tt i)) → Seen tt (guess xs) (r .lo) (r .end) c u (length d) n above more
-      stop-here late = seen-stop tt (query (r .k)) (r .start) (r .end) (r .lo) (R .setting) (guess xs) (G .seen) j from none top late (let b = below in omega arith)
+      stop-here late = seen-stop tt (query (r .k)) (r .start) (r .end) (r .lo) (R .setting) (guess xs) (G .seen) j from gap top late (let b = below in omega arith)
 
       module _ {day : ℕ} (ed : day ≡ getD d j 0) where
         day-is : day ≡ dayOf tt j
@@ -380,26 +429,26 @@ module _ (d f g links : List ℕ) (r : Season) (R : Ready d f g links r) (xs : L
             (λ h. Glanced.seen (stop-here (λ i a k. let e = day-is in let y = R .setting .rising j i a k in ⊎-elim (λ z. _⊎_.inl (omega arith)) (λ z. _⊎_.inr (omega arith)) h))) (o .1)
           where
             all : n ≡ backers tt (guess xs) (r .lo) c u (length d)
-            all = seen-count tt (query (r .k)) (r .start) (r .end) (r .lo) (R .setting) (guess xs) (G .seen) j from none (λ i a k. let e = day-is in let y = R .setting .rising j i a k in let z = o .0 in omega arith) (let b = below in omega arith)
+            all = seen-count tt (query (r .k)) (r .start) (r .end) (r .lo) (R .setting) (guess xs) (G .seen) j from gap (λ i a k. let e = day-is in let y = R .setting .rising j i a k in let z = o .0 in omega arith) (let b = below in omega arith)
 
-        glance-skip : {y : Bool} → y ≡ (leb (r .lo) j and leb (getD links (8192 + 2 * length d + j) 0) (r .lo)) → y ≡ false → Glance d f g r xs u c (p + 1) n above more
-        glance-skip ey h =
-            record { b = j + 1; within = let b = below in omega arith; along = along-next d f g links (R .sound) (R .linked) small (G .along) ee here ej; seen = seen-skip tt (query (r .k)) (r .start) (r .end) (r .lo) (R .setting) (guess xs) (G .seen) j from none (sym (along-fresh d f g links (R .sound) (R .linked) small (G .along) ee here ej (r .lo) ey) ∙ h) }
+        glance-skip : {y : Bool} {n′ above′ more′ : ℕ} → y ≡ (leb (r .lo) j and leb (getD links (8192 + 2 * length d + j) 0) (r .lo)) → y ≡ false → Noting never c n above more n′ above′ more′ → Glance d f g links r xs u c (p + 1) n′ above′ more′
+        glance-skip ey h N =
+            record { b = j + 1; within = let b = below in omega arith; late = let b = glance-late in omega arith; reading = reading-next d f g links (R .sound) (R .shelves) small (G .reading) ee here ej; seen = seen-stale tt (query (r .k)) (r .start) (r .end) (r .lo) (R .setting) (guess xs) (G .seen) j from gap (sym (reading-fresh d f g links (R .sound) (R .shelves) small (G .reading) ee here ej (r .lo) ey) ∙ h) N }
 
         module _ {a e v : ℕ} (ea : a ≡ getD f j 0) (eb : e ≡ getD g j 0) (ev : v ≡ pickOther (eqb a u) a e) where
           v-is : v ≡ otherOf tt j u
-          v-is = along-other d f g links (R .sound) (R .linked) small (G .along) ee here ej ea eb ev
+          v-is = reading-other d f g links (R .sound) (R .shelves) small (G .reading) ee here ej ea eb ev
 
           touch : touches tt j u ≡ true
-          touch = along-touch d f g links (R .sound) (R .linked) small (G .along) ee here ej
+          touch = reading-touch d f g links (R .sound) (R .shelves) small (G .reading) ee here ej
 
           pub glance-small : v < 4096
           glance-small = subst (λ (w : ℕ). w < 4096) (sym v-is) (other-small tt (query (r .k)) (r .start) (r .end) (r .lo) (R .setting) j u below touch)
 
-          glance-note : {y : Bool} {z n′ above′ more′ : ℕ} → y ≡ (leb (r .lo) j and leb (getD links (8192 + 2 * length d + j) 0) (r .lo)) → y ≡ true → day ≤ r .end → z ≡ max (getD xs v 0) day → Noting z c n above more n′ above′ more′ → Glance d f g r xs u c (p + 1) n′ above′ more′
+          glance-note : {y : Bool} {z n′ above′ more′ : ℕ} → y ≡ (leb (r .lo) j and leb (getD links (8192 + 2 * length d + j) 0) (r .lo)) → y ≡ true → day ≤ r .end → z ≡ max (getD xs v 0) day → Noting z c n above more n′ above′ more′ → Glance d f g links r xs u c (p + 1) n′ above′ more′
           unfolding value
           glance-note {y} {z} ey h l ez N =
-              record { b = j + 1; within = let b = below in omega arith; along = along-next d f g links (R .sound) (R .linked) small (G .along) ee here ej; seen = seen-note tt (query (r .k)) (r .start) (r .end) (r .lo) (R .setting) (guess xs) (G .seen) j from none (sym (along-fresh d f g links (R .sound) (R .linked) small (G .along) ee here ej (r .lo) ey) ∙ h) touch is-value in-range N }
+              record { b = j + 1; within = let b = below in omega arith; late = let b = glance-late in omega arith; reading = reading-next d f g links (R .sound) (R .shelves) small (G .reading) ee here ej; seen = seen-note tt (query (r .k)) (r .start) (r .end) (r .lo) (R .setting) (guess xs) (G .seen) j from gap (sym (reading-fresh d f g links (R .sound) (R .shelves) small (G .reading) ee here ej (r .lo) ey) ∙ h) touch is-value in-range N }
             where
               is-value : z ≡ max (guess xs (otherOf tt j u)) (dayOf tt j)
               is-value = let e : guess xs (otherOf tt j u) ≡ getD xs v 0 = ap (guess xs) (sym v-is) ∙ guess-at xs v len glance-small in let o = day-is in omega arith
@@ -407,8 +456,6 @@ module _ (d f g links : List ℕ) (r : Season) (R : Ready d f g links r) (xs : L
               in-range : (z ≤ r .end) ⊎ (z ≡ never)
               in-range = let o = R .setting .fits in ⊎-elim (λ k. _⊎_.inl (omega arith)) (λ k. _⊎_.inr (omega arith)) (D v glance-small)
 
-          pub glance-mark : {y : Bool} {z n′ above′ more′ : ℕ} → y ≡ (leb (r .lo) j and leb (getD links (8192 + 2 * length d + j) 0) (r .lo)) → day ≤ r .end → z ≡ max (getD xs v 0) day → Marking y z c n above more n′ above′ more′ → Glance d f g r xs u c (p + 1) n′ above′ more′
-          glance-mark {n′ = n′} {above′ = above′} {more′ = more′} ey l ez (Marking.stale h en ea em) =
-              subst (λ (i : ℕ). Glance d f g r xs u c (p + 1) i above′ more′) (sym en)
-              (subst (λ (i : ℕ). Glance d f g r xs u c (p + 1) n i more′) (sym ea) (subst (λ (i : ℕ). Glance d f g r xs u c (p + 1) n above i) (sym em) (glance-skip ey h)))
-          glance-mark ey l ez (Marking.counts h N) = glance-note ey h l ez N
+          pub glance-mark : {y : Bool} {z w n′ above′ more′ : ℕ} → y ≡ (leb (r .lo) j and leb (getD links (8192 + 2 * length d + j) 0) (r .lo)) → day ≤ r .end → z ≡ max (getD xs v 0) day → By y z never w → Noting w c n above more n′ above′ more′ → Glance d f g links r xs u c (p + 1) n′ above′ more′
+          glance-mark {y} {n′ = n′} {above′ = above′} {more′ = more′} ey l ez B N =
+              ⊎-elim (λ h. glance-note ey h l ez (subst (λ (i : ℕ). Noting i c n above more n′ above′ more′) (B .0 h) N)) (λ h. glance-skip ey h (subst (λ (i : ℕ). Noting i c n above more n′ above′ more′) (B .1 h) N)) (look y)

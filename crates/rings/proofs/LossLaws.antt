@@ -3,7 +3,7 @@
 --     under, losing, losing-on, losing-less, queued-start, queued-losing, queued-then     a loss, and the queue after it
 --     Wave, wave-start, wave-out, wave-late, wave-stop, wave-small, wave-next      the walk of `lose_others` in the book
 --     leaving-start, leaving-row, leaving-last                          the rows that leave
---     first-is, second-is, day-of, first-small, second-small, is-first  what the code reads of a row
+--     first-is, second-is, day-of, first-small, second-small             what the code reads of a row
 -- Assumes nothing.
 use Prim.Native.Nat.{ℕ, suc, min, _+_, _-_, _*_, _≤_, _<_}
 use native.Mathlib.Nat.{le-refl, le-trans, le-antisymm, eq-or-lt-of-le}
@@ -22,15 +22,15 @@ use Rattle.rings.specs.Table.{Table, tableOf, size, dayOf, firstOf, seco
 use Rattle.rings.specs.Ring.{touches}
 use Rattle.rings.specs.CoreTimes.{never}
 use Rattle.rings.specs.Inner.Sound.{Sound}
-use Rattle.rings.specs.Inner.Links.{pickOther, otherOf, placeOf, fresh, Linked}
-use Rattle.rings.specs.Inner.Peeling.{Setting, Season, Ready, Place, query, guess}
+use Rattle.rings.specs.Inner.Links.{pickOther, otherOf, fresh, Reading, Every}
+use Rattle.rings.specs.Inner.Peeling.{Setting, Season, Open, Place, query, guess}
 use Rattle.rings.specs.Inner.Settling.{value, backing, backers, Days, Losing, Lessened, Leaving, Queued}
 use Rattle.rings.specs.declared.Query.{Query}
 use Rattle.rings.proofs.WordLaws.{look, clash, and-l, count-none, same-or}
 use Rattle.rings.proofs.RingLaws.{touch-cases}
 use Rattle.rings.proofs.PairLaws.{other-first, other-second, fresh-e}
 use Rattle.rings.proofs.FallLaws.{guess-at, other-small}
-use Rattle.rings.proofs.AlongLaws.{Along, Begun, along-out, along-row, along-touch, along-none, along-next, along-fresh, along-other}
+use Rattle.rings.proofs.ShelfLaws.{reading-out, reading-row, reading-touch, reading-gap, reading-next, reading-fresh, reading-other}
 use Rattle.rings.proofs.LookLaws.{By, by-most, both, not-first, backing-e, backers-yes, backers-no}
 
 -- ---- losses
@@ -147,23 +147,22 @@ queued-then {a} {b} {c} {sp} {ws} {sp₁} {ws₁} {sp₂} {ws₂} P Q =
 -- ---- who loses a supporter by a rise
 
 module _ (t : Table) (x : ℕ → ℕ) (lo u old new : ℕ) (sp₀ : List ℕ) where
-  -- the rows of u below b are below lo
-  lessened-start : (b : ℕ) → ((i : ℕ) → i < b → touches t i u ≡ true → i < lo) → length sp₀ ≡ 4096 → Lessened t x lo u b old new sp₀ sp₀
-  lessened-start b early l = record { long = l; less = λ w. le-refl (getD sp₀ w 0); lost = λ j a f h. let y = fresh-e t lo j f .from in let z = early j a h in absurd (omega arith) }
+  lessened-start : length sp₀ ≡ 4096 → Lessened t x lo u lo old new sp₀ sp₀
+  lessened-start l = record { long = l; less = λ w. le-refl (getD sp₀ w 0); lost = λ j a f. let y = fresh-e t lo j f .from in absurd (omega arith) }
 
   module _ {b : ℕ} {sp : List ℕ} (O : Lessened t x lo u b old new sp₀ sp) where
     -- what is left takes nothing
-    lessened-all : (m : ℕ) → ((i : ℕ) → b ≤ i → i < m → touches t i u ≡ true → dayOf t i ≤ x (otherOf t i u) → x (otherOf t i u) < new → ⊥) → Lessened t x lo u m old new sp₀ sp
-    lessened-all m late = record { long = O .long; less = O .less; lost = λ i k f h p o n. ⊎-elim (λ y. absurd (late i (leb-true b i y) k h o n)) (λ y. O .lost i (leb-false b i y) f h p o n) (look (leb b i)) }
+    lessened-all : (m : ℕ) → ((i : ℕ) → b ≤ i → i < m → fresh t lo i ≡ true → touches t i u ≡ true → dayOf t i ≤ x (otherOf t i u) → x (otherOf t i u) < new → ⊥) → Lessened t x lo u m old new sp₀ sp
+    lessened-all m late = record { long = O .long; less = O .less; lost = λ i k f h p o n. ⊎-elim (λ y. absurd (late i (leb-true b i y) k f h o n)) (λ y. O .lost i (leb-false b i y) f h p o n) (look (leb b i)) }
 
-    lessened-next : (j : ℕ) {y : Bool} {v tail r : ℕ} {ws sp′ ws′ : List ℕ} → ((i : ℕ) → b ≤ i → i < j → touches t i u ≡ false) → v ≡ otherOf t j u → v < 4096 → (fresh t lo j ≡ true → old ≤ x v → dayOf t j ≤ x v → x v < new → y ≡ true) → Losing y v tail sp ws sp′ ws′ r → Lessened t x lo u (j + 1) old new sp₀ sp′
+    lessened-next : (j : ℕ) {y : Bool} {v tail r : ℕ} {ws sp′ ws′ : List ℕ} → ((i : ℕ) → b ≤ i → i < j → fresh t lo i ≡ true → touches t i u ≡ true → x (otherOf t i u) < new → ⊥) → v ≡ otherOf t j u → v < 4096 → (fresh t lo j ≡ true → old ≤ x v → dayOf t j ≤ x v → x v < new → y ≡ true) → Losing y v tail sp ws sp′ ws′ r → Lessened t x lo u (j + 1) old new sp₀ sp′
     lessened-next j {y} {v} {sp′ = sp′} none ev small is-lost L =
         let D = losing-less small (O .long) L in
         record {
           long = D .long;
           less = λ w. le-trans (D .down w) (O .less w);
           lost = λ i k f h p o n.
-              ⊎-elim (λ z. ⊎-elim (λ q. here i q f p o n) (λ q. clash h (none i (leb-true b i z) q)) (eq-or-lt-of-le (omega arith)))
+              ⊎-elim (λ z. ⊎-elim (λ q. here i q f p o n) (λ q. absurd (none i (leb-true b i z) q f h n)) (eq-or-lt-of-le (omega arith)))
               (λ z. let m = O .lost i (leb-false b i z) f h p o n in let d = D .down (otherOf t i u) in omega arith) (look (leb b i));
         }
       where
@@ -176,61 +175,68 @@ module _ (t : Table) (x : ℕ → ℕ) (lo u old new : ℕ) (sp₀ : List ℕ) w
             let a = at-place sp′ e in let c = at-place sp₀ e in let m = O .less v in omega arith
 
 -- the rows of u below b, which stand before place p, have been seen; the queue had tail entries, and has end
-pub record Wave (d f g : List ℕ) (r : Season) (xs : List ℕ) (u old new tail : ℕ) (sp₀ ws₀ : List ℕ) (b p end : ℕ) (sp ws : List ℕ) : Type 0 where
-  pub along : Along (tableOf d f g) u b p
+pub record Wave (d f g links : List ℕ) (r : Season) (xs : List ℕ) (u old new tail : ℕ) (sp₀ ws₀ : List ℕ) (b p end : ℕ) (sp ws : List ℕ) : Type 0 where
+  pub reading : Reading links u b p
   pub done : Lessened (tableOf d f g) (guess xs) (r .lo) u b old new sp₀ sp
   pub queued : Queued tail sp₀ ws₀ end sp ws
 
-module _ (d f g links : List ℕ) (r : Season) (R : Ready d f g links r) (xs : List ℕ) (len : length xs ≡ 4096) {u : ℕ} (small : u < 4096) (old new tail : ℕ) (sp₀ ws₀ : List ℕ) where
+module _ (d f g links : List ℕ) (r : Season) (R : Open d f g links r) (xs : List ℕ) (len : length xs ≡ 4096) {u : ℕ} (small : u < 4096) (E : Every (tableOf d f g) (guess xs) (r .lo) u links) (D : Days (r .end) xs) (old new : ℕ) (en : new ≡ getD xs u 0) (tail : ℕ) (sp₀ ws₀ : List ℕ) where
   abbrev tw : Table
   tw = tableOf d f g
 
-  pub wave-start : {p : ℕ} → length sp₀ ≡ 4096 → length ws₀ ≡ 4352 → (B : Begun tw u (r .lo) p) → Wave d f g r xs u old new tail sp₀ ws₀ (B .b) p tail sp₀ ws₀
-  wave-start l m B = record { along = B .along; done = lessened-start tw (guess xs) (r .lo) u old new sp₀ (B .b) (B .before) l; queued = queued-start tail sp₀ ws₀ m }
+  pub new-most : new ≤ never
+  new-most = let h = R .setting .fits in ⊎-elim (λ y. omega arith) (λ y. omega arith) (D u small)
 
-  module _ {b p end last : ℕ} {sp ws : List ℕ} (W : Wave d f g r xs u old new tail sp₀ ws₀ b p end sp ws) (ee : last ≡ placeOf tw (suc u)) where
+  -- a first row of u that the walk passed over takes nobody away
+  over : {i : ℕ} → (i < r .lo) ⊎ (guess xs (otherOf tw i u) ≡ never) → fresh tw (r .lo) i ≡ true → guess xs (otherOf tw i u) < new → ⊥
+  over {i} o f h = let a = fresh-e tw (r .lo) i f .from in let m = new-most in ⊎-elim (λ z. omega arith) (λ z. omega arith) o
+
+  pub wave-start : {p : ℕ} → length sp₀ ≡ 4096 → length ws₀ ≡ 4352 → Reading links u (r .lo) p → Wave d f g links r xs u old new tail sp₀ ws₀ (r .lo) p tail sp₀ ws₀
+  wave-start l m A = record { reading = A; done = lessened-start tw (guess xs) (r .lo) u old new sp₀ l; queued = queued-start tail sp₀ ws₀ m }
+
+  module _ {b p end last : ℕ} {sp ws : List ℕ} (W : Wave d f g links r xs u old new tail sp₀ ws₀ b p end sp ws) (ee : last ≡ getD links u 0) where
     pub wave-out : last ≤ p → Lessened tw (guess xs) (r .lo) u (length d) old new sp₀ sp × Queued tail sp₀ ws₀ end sp ws
-    wave-out h = (lessened-all tw (guess xs) (r .lo) u old new sp₀ (W .done) (length d) (λ i a k y p o. clash y (along-out d f g links (R .sound) (R .linked) small (W .along) ee h i a k)), W .queued)
+    wave-out h = (lessened-all tw (guess xs) (r .lo) u old new sp₀ (W .done) (length d) (λ i a k z y p o. over (reading-out d f g links (R .sound) (R .shelves) small (W .reading) ee E h i a k y) z o), W .queued)
 
     module _ (more : p < last) {j : ℕ} (ej : j ≡ getD links (8192 + p) 0) {day : ℕ} (ed : day ≡ getD d j 0) where
       w-below : j < length d
-      w-below = along-row d f g links (R .sound) (R .linked) small (W .along) ee more ej
+      w-below = reading-row d f g links (R .sound) (R .shelves) small (W .reading) ee more ej
 
-      w-none : (i : ℕ) → b ≤ i → i < j → touches tw i u ≡ false
-      w-none = along-none d f g links (R .sound) (R .linked) small (W .along) ee more ej
+      w-gap : (i : ℕ) → b ≤ i → i < j → touches tw i u ≡ true → (i < r .lo) ⊎ (guess xs (otherOf tw i u) ≡ never)
+      w-gap = reading-gap d f g links (R .sound) (R .shelves) small (W .reading) ee more ej E
 
       w-day : day ≡ dayOf tw j
       unfolding dayOf at
       w-day = ed
 
-      -- a row of u from there on takes none: it is dated on the new time or later, or behind the range
-      pub wave-late : {until : ℕ} → until ≡ min new (r .end + 1) → until ≤ day → (i : ℕ) → b ≤ i → i < length d → touches tw i u ≡ true → (new ≤ dayOf tw i) ⊎ (r .end < dayOf tw i)
+      -- a row of u from there on takes none: it was passed over, or is dated on the new time or later, or behind the range
+      pub wave-late : {until : ℕ} → until ≡ min new (r .end + 1) → until ≤ day → (i : ℕ) → b ≤ i → i < length d → touches tw i u ≡ true → ((i < r .lo) ⊎ (guess xs (otherOf tw i u) ≡ never)) ⊎ ((new ≤ dayOf tw i) ⊎ (r .end < dayOf tw i))
       wave-late eu h i a k y =
-          ⊎-elim (λ z. let o = R .setting .rising j i (leb-true j i z) k in let e = w-day in ⊎-elim (λ m. let c = leb-true new (dayOf tw i) m in _⊎_.inl c) (λ m. let c = leb-false new (dayOf tw i) m in _⊎_.inr (omega arith)) (look (leb new (dayOf tw i))))
-          (λ z. clash y (w-none i a (leb-false j i z))) (look (leb j i))
+          ⊎-elim (λ z. let o = R .setting .rising j i (leb-true j i z) k in let e = w-day in _⊎_.inr (⊎-elim (λ m. let c = leb-true new (dayOf tw i) m in _⊎_.inl c) (λ m. let c = leb-false new (dayOf tw i) m in _⊎_.inr (omega arith)) (look (leb new (dayOf tw i)))))
+          (λ z. _⊎_.inl (w-gap i a (leb-false j i z) y)) (look (leb j i))
 
-      pub wave-stop : Days (r .end) xs → new ≡ getD xs u 0 → {until : ℕ} → until ≡ min new (r .end + 1) → until ≤ day → Lessened tw (guess xs) (r .lo) u (length d) old new sp₀ sp × Queued tail sp₀ ws₀ end sp ws
-      wave-stop D en eu h = (
+      pub wave-stop : {until : ℕ} → until ≡ min new (r .end + 1) → until ≤ day → Lessened tw (guess xs) (r .lo) u (length d) old new sp₀ sp × Queued tail sp₀ ws₀ end sp ws
+      wave-stop eu h = (
         lessened-all tw (guess xs) (r .lo) u old new sp₀ (W .done) (length d)
-            (λ i a k y p o.
+            (λ i a k z y p o.
             let v = other-small tw (query (r .k)) (r .start) (r .end) (r .lo) (R .setting) i u k y in
             let gv = guess-at xs (otherOf tw i u) len v in
-            ⊎-elim (λ m. omega arith) (λ m. ⊎-elim (λ c. omega arith) (λ c. ⊎-elim (λ e. let g = R .setting .fits in omega arith) (λ e. omega arith) (D u small)) (D (otherOf tw i u) v)) (wave-late eu h i a k y)),
+            ⊎-elim (λ m. over m z o) (λ w. ⊎-elim (λ m. omega arith) (λ m. ⊎-elim (λ c. omega arith) (λ c. let n = new-most in omega arith) (D (otherOf tw i u) v)) w) (wave-late eu h i a k y)),
         W .queued,
       )
 
       module _ {a e v : ℕ} (ea : a ≡ getD f j 0) (eb : e ≡ getD g j 0) (ev : v ≡ pickOther (eqb a u) a e) where
         w-other : v ≡ otherOf tw j u
-        w-other = along-other d f g links (R .sound) (R .linked) small (W .along) ee more ej ea eb ev
+        w-other = reading-other d f g links (R .sound) (R .shelves) small (W .reading) ee more ej ea eb ev
 
         pub wave-small : v < 4096
-        wave-small = subst (λ (w : ℕ). w < 4096) (sym w-other) (other-small tw (query (r .k)) (r .start) (r .end) (r .lo) (R .setting) j u w-below (along-touch d f g links (R .sound) (R .linked) small (W .along) ee more ej))
+        wave-small = subst (λ (w : ℕ). w < 4096) (sym w-other) (other-small tw (query (r .k)) (r .start) (r .end) (r .lo) (R .setting) j u w-below (reading-touch d f g links (R .sound) (R .shelves) small (W .reading) ee more ej))
 
-        pub wave-next : {y w : Bool} {z end′ : ℕ} {sp′ ws′ : List ℕ} → end < 4352 → y ≡ (leb (r .lo) j and leb (getD links (8192 + 2 * length d + j) 0) (r .lo)) → z ≡ getD xs v 0 → w ≡ ((leb old z && leb day z) && ltb z new) → Losing (y && w) v end sp ws sp′ ws′ end′ → Wave d f g r xs u old new tail sp₀ ws₀ (j + 1) (p + 1) end′ sp′ ws′
+        pub wave-next : {y w : Bool} {z end′ : ℕ} {sp′ ws′ : List ℕ} → end < 4352 → y ≡ (leb (r .lo) j and leb (getD links (8192 + 2 * length d + j) 0) (r .lo)) → z ≡ getD xs v 0 → w ≡ ((leb old z && leb day z) && ltb z new) → Losing (y && w) v end sp ws sp′ ws′ end′ → Wave d f g links r xs u old new tail sp₀ ws₀ (j + 1) (p + 1) end′ sp′ ws′
         wave-next {y} {w} {z} room ey ez ew L =
             record {
-              along = along-next d f g links (R .sound) (R .linked) small (W .along) ee more ej;
-              done = lessened-next tw (guess xs) (r .lo) u old new sp₀ (W .done) j w-none w-other wave-small lost L;
+              reading = reading-next d f g links (R .sound) (R .shelves) small (W .reading) ee more ej;
+              done = lessened-next tw (guess xs) (r .lo) u old new sp₀ (W .done) j (λ i a k z y o. over (w-gap i a k y) z o) w-other wave-small lost L;
               queued = queued-losing wave-small room (W .done .long) (W .queued) L;
             }
           where
@@ -238,7 +244,7 @@ module _ (d f g links : List ℕ) (r : Season) (R : Ready d f g links r) (xs : L
             time = ez ∙ sym (guess-at xs v len wave-small)
 
             lost : fresh tw (r .lo) j ≡ true → old ≤ guess xs v → dayOf tw j ≤ guess xs v → guess xs v < new → (y && w) ≡ true
-            lost h a c n = let t = time in let e = w-day in both (along-fresh d f g links (R .sound) (R .linked) small (W .along) ee more ej (r .lo) ey ∙ h) (ew ∙ lost-i old z day new (omega arith) (omega arith) (omega arith))
+            lost h a c n = let t = time in let e = w-day in both (reading-fresh d f g links (R .sound) (R .shelves) small (W .reading) ee more ej (r .lo) ey ∙ h) (ew ∙ lost-i old z day new (omega arith) (omega arith) (omega arith))
 
 -- ---- who loses one by a row that leaves
 
@@ -346,7 +352,3 @@ module _ (d f g : List ℕ) {j : ℕ} (S : Sound d f g) (l : j < length d) where
 
   pub second-small : {a : ℕ} → a ≡ getD g j 0 → a < 4096
   second-small e = let y = S .rows j l .account-to in omega arith
-
-  pub is-first : (lo : ℕ) {day : ℕ} {links : List ℕ} {y : Bool} → Linked tr day links → y ≡ (leb lo j and leb (getD links (8192 + 2 * length d + j) 0) lo) → y ≡ fresh tr lo j
-  unfolding fresh
-  is-first lo L e = e ∙ ap (λ (c : ℕ). leb lo j and leb c lo) (L .pairs j l)

@@ -1,8 +1,9 @@
 -- Why settling is right (src/settle.rt), from the looks (LookLaws) and the losses (LossLaws).
 --     rise-lower, rise-own, rise-other, rise-keeps     u rises: no time passes the core times, u keeps its supporters, another loses u at most
 --     account-same, account-rise                       one account settles
---     account-days, account-now, account-raised        what the loop over its rows asks of it
+--     account-days, account-now, account-never, account-every, account-raised        what the loop over its rows asks of it
 --     split-rises, core-days, settle-start, settle-end from the core times at s, with those waiting who lost a supporter, to the core times at the next start, with nobody waiting
+--     core-never                                       who has no core time keeps none
 --     spare-ones, all-risen                            after a peel nobody is known to have a supporter to spare, and any time may be another
 --     Filled, filled-start, filled-next                a list that is written from the front
 -- Assumes nothing.
@@ -21,7 +22,7 @@ use Rattle.rings.specs.Words.{count}
 use Rattle.rings.specs.Table.{Table, tableOf, size, dayOf, firstOf, secondOf}
 use Rattle.rings.specs.Ring.{joins, names, touches, ring}
 use Rattle.rings.specs.CoreTimes.{never, accountTime}
-use Rattle.rings.specs.Inner.Links.{otherOf, fresh}
+use Rattle.rings.specs.Inner.Links.{otherOf, fresh, Every, Covered}
 use Rattle.rings.specs.Inner.Support.{supports, supporters}
 use Rattle.rings.specs.Inner.Peeling.{Setting, season, query, guess, Place, Split, CoreTimesAre}
 use Rattle.rings.specs.Inner.Settling.{backing, backers, Days, Settling, Least, Looked, Lessened, Leaving, Queued, Waiting, Risen, Rising, Spare}
@@ -32,9 +33,11 @@ use Rattle.rings.proofs.RingLaws.{joins-touch, joins-cases, met-e}
 use Rattle.rings.proofs.PairLaws.{joins-other, joins-same, joins-swap, fresh-e, fresh-i, first-fresh}
 use Rattle.rings.proofs.FixpointLaws.{supports-e, supports-i, Lower, Closed, enough, fixpoint, times-closed, lower-next}
 use Rattle.rings.proofs.CoreTimeLaws.{account-time}
+use Rattle.rings.proofs.CoreTimeLaws as core-time
 use Rattle.rings.proofs.FallLaws.{guess-at, guess-far, touch-small}
 use Rattle.rings.proofs.LookLaws.{backing-e, backing-i, backers-are}
 use Rattle.rings.proofs.LossLaws.{at-place, in-list}
+use Rattle.rings.proofs.ShelfLaws.{every-rise}
 
 -- ---- counts
 
@@ -259,6 +262,20 @@ module _ (xs : List ℕ) {t : Table} {k s hi u y m : ℕ} (fits : hi < never) (l
   pub account-now : y ≡ getD (set xs u y) u 0
   account-now = sym (getD-set-same xs u y 0 (omega arith))
 
+  -- who has no time has none after it
+  pub account-never : (v : ℕ) → guess xs v ≡ never → guess (set xs u y) v ≡ never
+  unfolding guess
+  account-never v e =
+      ⊎-elim (λ o. let g : getD xs u never ≡ getD xs u 0 = guess-at xs u long small in let h : getD xs v never ≡ getD xs u never = ap (λ (c : ℕ). getD xs c never) o in
+      let z : getD (set xs u y) v never ≡ y = ap (λ (c : ℕ). getD (set xs u y) c never) o ∙ getD-set-same xs u y never (omega arith) in let a = K .least .from in ⊎-elim (λ w. z ∙ w) (λ w. let b = w .0 in absurd (omega arith)) (K .least .enough))
+      (λ n. getD-set-other xs u v y never n ∙ e) (same-or v u)
+
+  -- an account that rose had one, so its rows stand in the book, but for those that lead to none
+  pub account-every : {lo : ℕ} {sc : List ℕ} → (y ≡ getD xs u 0 → ⊥) → Covered t (guess xs) lo sc → Every t (guess (set xs u y)) lo u sc
+  account-every {lo} n C =
+      every-rise account-never (le-refl lo)
+      (C .rows u small (λ e. let g = guess-at xs u long small in let a = K .least .from in ⊎-elim (λ w. n (omega arith)) (λ w. let b = w .0 in omega arith) (K .least .enough)))
+
   pub account-raised : {counts : List ℕ} → (y ≡ getD xs u 0 → ⊥) → hi ≤ 1024 → Histogram (timeBy t (guess xs) s hi) (size t) counts → Raised t s hi u (getD xs u 0) y (set xs u y) counts
   account-raised n top T =
       let a = K .least .from in
@@ -385,3 +402,10 @@ filled-next {g} {m} {n} {z} {xs} F l e h =
 
 pub all-risen : {xs ys ws : List ℕ} → length ws ≡ 4352 → ((u : ℕ) → u < 4096 → getD ws u 0 ≡ u) → Risen xs ys ws 4096
 all-risen l h = record { long = l; within = omega arith; small = λ i k. let e = h i k in omega arith; listed = λ u k n. record { place = u; from = omega arith; below = k; is = h u k } }
+
+-- who has no core time at s has none at the day after it
+pub core-never : {d f g : List ℕ} {k s te lo next : ℕ} {xs ys : List ℕ} → te < never → CoreTimesAre d f g (season k s te lo) xs → CoreTimesAre d f g (season k (s + 1) te next) ys → (v : ℕ) → guess xs v ≡ never → guess ys v ≡ never
+core-never {d} {f} {g} {k} {s} {te} {xs = xs} {ys = ys} fits C D v e =
+    ⊎-elim (λ y. guess-far ys v (D .long) (leb-true 4096 v y))
+    (λ y. let l = leb-false 4096 v y in guess-at ys v (D .long) l ∙ (D .times v l ∙ core-time.account-never (tableOf d f g) (query k) te fits (omega arith) v (sym (C .times v l) ∙ (sym (guess-at xs v (C .long) l) ∙ e))))
+    (look (leb 4096 v))

@@ -97,13 +97,14 @@ module _ (t : Table) (q : Query) (s hi lo : ℕ) (S : Setting t q s hi lo) (x x�
           let m = by-in t x s hi j is-in o in let n = by-in t x′ s hi j is-in o in
           record { first = m ∙ omega arith; then = n ∙ omega arith }
 
+  -- a row that has left
+  left : {j : ℕ} → j < lo → before j ≡ after j
+  left {j} h = let a = S .before-lo j h in by-out t x s hi j (_⊎_.inl a) ∙ sym (by-out t x′ s hi j (_⊎_.inl a))
+
   -- a row of u that keeps its time: it has left, or lies behind the range, or has the new time or a later one already
   keeps : (j : ℕ) → j < size t → touches t j u ≡ true → (j < lo) ⊎ ((new ≤ x′ (otherOf t j u)) ⊎ ((new ≤ dayOf t j) ⊎ (hi < dayOf t j))) → before j ≡ after j
-  keeps j l k o = ⊎-elim (λ y. left y) (λ y. ⊎-elim (λ h. behind (ltb-true hi (dayOf t j) h)) (λ h. ⊎-elim (λ m. left (ltb-true j lo m)) (λ m. inside (ltb-false j lo m) (ltb-false hi (dayOf t j) h) y) (look (ltb j lo))) (look (ltb hi (dayOf t j)))) o
+  keeps j l k o = ⊎-elim left (λ y. ⊎-elim (λ h. behind (ltb-true hi (dayOf t j) h)) (λ h. ⊎-elim (λ m. left (ltb-true j lo m)) (λ m. inside (ltb-false j lo m) (ltb-false hi (dayOf t j) h) y) (look (ltb j lo))) (look (ltb hi (dayOf t j)))) o
     where
-      left : j < lo → before j ≡ after j
-      left h = let a = S .before-lo j h in by-out t x s hi j (_⊎_.inl a) ∙ sym (by-out t x′ s hi j (_⊎_.inl a))
-
       behind : hi < dayOf t j → before j ≡ after j
       behind h = by-out t x s hi j (_⊎_.inr h) ∙ sym (by-out t x′ s hi j (_⊎_.inr h))
 
@@ -114,28 +115,28 @@ module _ (t : Table) (q : Query) (s hi lo : ℕ) (S : Setting t q s hi lo) (x x�
   abbrev Shifting : ℕ → ℕ → List ℕ → Type 0
   Shifting b m xs = (m ≤ b) × Owing (mixed before after b) (size t) new m xs
 
-  -- the rows of u below b have left
-  pub shift-start : (b : ℕ) → b ≤ size t → ((i : ℕ) → i < b → touches t i u ≡ true → i < lo) → {xs : List ℕ} → Histogram before (size t) xs → Shifting b 0 xs
-  shift-start b w early T = (
-    let z : 0 ≤ b = omega arith in z,
-    owing-same (owing-start T) (λ j l. ⊎-elim (λ y. mixed-either before after b j (⊎-elim (λ k. keeps j l k (_⊎_.inl (early j (ltb-true j b y) k))) (λ k. not-mine j k) (look (touches t j u)))) (λ y. mixed-from before after b j (ltb-false j b y)) (look (ltb j b))),
-  )
+  pub shift-start : {xs : List ℕ} → Histogram before (size t) xs → Shifting lo 0 xs
+  shift-start T = (let z : 0 ≤ lo = omega arith in z, owing-same (owing-start T) (λ j l. ⊎-elim (λ y. mixed-either before after lo j (left (ltb-true j lo y))) (λ y. mixed-from before after lo j (ltb-false j lo y)) (look (ltb j lo))))
 
   module _ {b m : ℕ} {xs : List ℕ} (O : Shifting b m xs) where
     -- the rows from b on keep their times
-    pub shift-all : ((i : ℕ) → b ≤ i → i < size t → touches t i u ≡ true → (new ≤ dayOf t i) ⊎ (hi < dayOf t i)) → Owing after (size t) new m xs
+    pub shift-all : ((i : ℕ) → b ≤ i → i < size t → touches t i u ≡ true → (i < lo) ⊎ ((new ≤ x′ (otherOf t i u)) ⊎ ((new ≤ dayOf t i) ⊎ (hi < dayOf t i)))) → Owing after (size t) new m xs
     shift-all late =
         owing-same (O .1)
         (λ j l. ⊎-elim (λ y. sym (mixed-below before after b j (ltb-true j b y)))
-        (λ y. sym (⊎-elim (λ k. keeps j l k (_⊎_.inr (_⊎_.inr (late j (ltb-false j b y) l k)))) (λ k. not-mine j k) (look (touches t j u))) ∙ sym (mixed-from before after b j (ltb-false j b y))) (look (ltb j b)))
+        (λ y. sym (⊎-elim (λ k. keeps j l k (late j (ltb-false j b y) l k)) (λ k. not-mine j k) (look (touches t j u))) ∙ sym (mixed-from before after b j (ltb-false j b y))) (look (ltb j b)))
 
-    module _ {j : ℕ} (from : b ≤ j) (l : j < size t) (k : touches t j u ≡ true) (none : (i : ℕ) → b ≤ i → i < j → touches t i u ≡ false) where
+    module _ {j : ℕ} (from : b ≤ j) (l : j < size t) (k : touches t j u ≡ true) (gap : (i : ℕ) → b ≤ i → i < j → touches t i u ≡ true → (i < lo) ⊎ (new ≤ x′ (otherOf t i u))) where
+      -- a row that is passed over keeps its time
+      over : (i : ℕ) → b ≤ i → i < j → before i ≡ after i
+      over i a h = ⊎-elim (λ y. keeps i (omega arith) y (⊎-elim _⊎_.inl (λ z. _⊎_.inr (_⊎_.inl z)) (gap i a h y))) (λ y. not-mine i y) (look (touches t i u))
+
       -- but for row j nothing is another by one step
       step-else : (i : ℕ) → (i ≡ j → ⊥) → mixed before after (j + 1) i ≡ mixed before after b i
       step-else i n =
           ⊎-elim (λ y. mixed-below before after (j + 1) i (let a = ltb-true i b y in omega arith) ∙ sym (mixed-below before after b i (ltb-true i b y)))
           (λ y. let a = ltb-false i b y in
-          ⊎-elim (λ z. let e = not-mine i (none i a (ltb-true i j z)) in mixed-either before after (j + 1) i e ∙ sym (mixed-either before after b i e))
+          ⊎-elim (λ z. let e = over i a (ltb-true i j z) in mixed-either before after (j + 1) i e ∙ sym (mixed-either before after b i e))
           (λ z. let c = ltb-false i j z in mixed-from before after (j + 1) i (⊎-elim (λ o. absurd (n (sym o))) (λ o. omega arith) (eq-or-lt-of-le c)) ∙ sym (mixed-from before after b i a)) (look (ltb i j))) (look (ltb i b))
 
       -- the row keeps its time
@@ -186,9 +187,9 @@ module _ (t : Table) (q : Query) (s hi lo : ℕ) (S : Setting t q s hi lo) (u ol
     unfolding guess
     else-is v n = ap (λ (ys : List ℕ). getD ys v never) e ∙ getD-set-other was u v new never n
 
-  pub rise-start : {counts : List ℕ} → Raised t s hi u old new xs counts → (b : ℕ) → b ≤ size t → ((i : ℕ) → i < b → touches t i u ≡ true → i < lo) → Shift t s hi u old new xs b 0 counts
-  rise-start R b w early =
-      let Z = shift-start t q s hi lo S (guess (R .was)) (guess xs) u old new (was-is (R .was) (R .long) (R .then) (R .from)) (now-is (R .was) (R .long) (R .then) (R .from)) (else-is (R .was) (R .long) (R .then) (R .from)) (R .up) b w early (R .counted) in
+  pub rise-start : {counts : List ℕ} → Raised t s hi u old new xs counts → Shift t s hi u old new xs lo 0 counts
+  rise-start R =
+      let Z = shift-start t q s hi lo S (guess (R .was)) (guess xs) u old new (was-is (R .was) (R .long) (R .then) (R .from)) (now-is (R .was) (R .long) (R .then) (R .from)) (else-is (R .was) (R .long) (R .then) (R .from)) (R .up) (R .counted) in
       record { was = R .was; long = R .long; then = R .then; from = R .from; up = R .up; day = R .day; top = R .top; few = Z .0; owing = Z .1 }
 
   module _ {b m : ℕ} {counts : List ℕ} (Z : Shift t s hi u old new xs b m counts) where
@@ -202,16 +203,16 @@ module _ (t : Table) (q : Query) (s hi lo : ℕ) (S : Setting t q s hi lo) (u ol
     n = else-is (Z .was) (Z .long) (Z .then) (Z .from)
 
     -- the rows from b on keep their times
-    pub rise-all : ((i : ℕ) → b ≤ i → i < size t → touches t i u ≡ true → (new ≤ dayOf t i) ⊎ (hi < dayOf t i)) → Owing (timeBy t (guess xs) s hi) (size t) new m counts
+    pub rise-all : ((i : ℕ) → b ≤ i → i < size t → touches t i u ≡ true → (i < lo) ⊎ ((new ≤ guess xs (otherOf t i u)) ⊎ ((new ≤ dayOf t i) ⊎ (hi < dayOf t i)))) → Owing (timeBy t (guess xs) s hi) (size t) new m counts
     rise-all = shift-all t q s hi lo S (guess (Z .was)) (guess xs) u old new a c n (Z .up) (Z .few, Z .owing)
 
-    module _ {j : ℕ} (from : b ≤ j) (l : j < size t) (k : touches t j u ≡ true) (none : (i : ℕ) → b ≤ i → i < j → touches t i u ≡ false) (day : dayOf t j ≤ hi) (soon : dayOf t j < new) {test : Bool} {z time : ℕ} (ez : z ≡ guess xs (otherOf t j u)) (et : time ≡ max (max old z) (dayOf t j)) (yes : test ≡ true → (lo ≤ j) × (z < new)) (not : test ≡ false → (j < lo) ⊎ (new ≤ z)) (dz : (z ≤ hi) ⊎ (z ≡ never)) (dn : new ≤ never) where
+    module _ {j : ℕ} (from : b ≤ j) (l : j < size t) (k : touches t j u ≡ true) (gap : (i : ℕ) → b ≤ i → i < j → touches t i u ≡ true → (i < lo) ⊎ (new ≤ guess xs (otherOf t i u))) (day : dayOf t j ≤ hi) (soon : dayOf t j < new) {test : Bool} {z time : ℕ} (ez : z ≡ guess xs (otherOf t j u)) (et : time ≡ max (max old z) (dayOf t j)) (yes : test ≡ true → (lo ≤ j) × (z < new)) (not : test ≡ false → (j < lo) ⊎ (new ≤ z)) (dz : (z ≤ hi) ⊎ (z ≡ never)) (dn : new ≤ never) where
       pub rise-asks : size t ≤ 16384 → (length counts ≡ 1025) × (m < 16384) × (test ≡ true → (time < 1025) × (1 ≤ getD counts time 0))
-      rise-asks = shift-asks t q s hi lo S (guess (Z .was)) (guess xs) u old new a c n (Z .up) (Z .few, Z .owing) from l k none day soon (Z .top) ez et yes not (Z .day) dz dn
+      rise-asks = shift-asks t q s hi lo S (guess (Z .was)) (guess xs) u old new a c n (Z .up) (Z .few, Z .owing) from l k gap day soon (Z .top) ez et yes not (Z .day) dz dn
 
       pub rise-row : {m′ : ℕ} {counts′ : List ℕ} → Taking test time m counts counts′ m′ → Shift t s hi u old new xs (j + 1) m′ counts′
       rise-row T =
-          let Y = shift-row t q s hi lo S (guess (Z .was)) (guess xs) u old new a c n (Z .up) (Z .few, Z .owing) from l k none day soon (Z .top) ez et yes not (Z .day) dz dn T in
+          let Y = shift-row t q s hi lo S (guess (Z .was)) (guess xs) u old new a c n (Z .up) (Z .few, Z .owing) from l k gap day soon (Z .top) ez et yes not (Z .day) dz dn T in
           record { was = Z .was; long = Z .long; then = Z .then; from = Z .from; up = Z .up; day = Z .day; top = Z .top; few = Y .0; owing = Y .1 }
 
 -- ---- the rows dated s leave

@@ -1,67 +1,77 @@
 -- The loop of lose_others (src/settle.rt): the rows of an account that rises. Who is lost by it waits (LossLaws.Wave), and the day counts go along (ShiftLaws.Shift).
---     Surge, surge-start, surge-out, surge-stop, surge-asks, surge-next    the state of the loop, and its ways
+--     Surge, surge-start, surge-out, surge-late, surge-stop, surge-asks, surge-next    the state of the loop, and its ways
 --     Owed, surge-pays     what is still to be counted at the end
 -- Assumes nothing.
-use Prim.Native.Nat.{ℕ, suc, max, min, _+_, _*_, _≤_, _<_}
+use Prim.Native.Nat.{ℕ, max, min, _+_, _*_, _≤_, _<_}
+use native.Mathlib.Nat.{le-refl}
 use native.Mathlib.Omega.{arith}
-use mathlib.Core.Path.{_≡_, refl, sym, _∙_, ap}
+use mathlib.Core.Path.{_≡_, sym, _∙_, ap}
 use mathlib.Core.Logic.{_⊎_, ⊎-elim}
 use mathlib.Core.Bool.{Bool, true, false, _&&_}
 use mathlib.Core.List.{List}
 use lib.ListN.{length, getD}
 use lib.Dec.{leb, ltb, eqb}
-use borrow.Author.Tests.{leb-true, leb-false, ltb-true, ltb-false}
+use borrow.Author.Tests.{ltb-true, ltb-false}
 use Rattle.rings.specs.Words.{_and_, at}
 use Rattle.rings.specs.Table.{Table, tableOf, dayOf}
 use Rattle.rings.specs.CoreTimes.{never}
-use Rattle.rings.specs.Inner.Links.{pickOther, otherOf, placeOf, Ahead}
-use Rattle.rings.specs.Inner.Peeling.{query, Season, Ready, guess}
+use Rattle.rings.specs.Inner.Links.{pickOther, otherOf, Reading, Every}
+use Rattle.rings.specs.Inner.Peeling.{query, Season, Open, guess}
 use Rattle.rings.specs.Inner.Settling.{Days, Losing, Lessened, Queued}
 use Rattle.rings.specs.Inner.Counting.{timeBy, Owing, Taking, Raised}
 use Rattle.rings.specs.declared.Query.{Query}
-use Rattle.rings.proofs.WordLaws.{look, clash}
 use Rattle.rings.proofs.FallLaws.{guess-at}
-use Rattle.rings.proofs.AlongLaws.{begun, along-out, along-row, along-touch, along-from, along-none, along-other}
+use Rattle.rings.proofs.ShelfLaws.{reading-out, reading-row, reading-touch, reading-from, reading-gap, reading-other}
 use Rattle.rings.proofs.CountingLaws.{owing-room}
-use Rattle.rings.proofs.LookLaws.{both}
-use Rattle.rings.proofs.LossLaws.{Wave, wave-start, wave-out, wave-stop, wave-late, wave-small, wave-next}
+use Rattle.rings.proofs.LossLaws.{Wave, new-most, wave-start, wave-out, wave-stop, wave-late, wave-small, wave-next}
 use Rattle.rings.proofs.ShiftLaws.{Shift, rise-start, rise-all, rise-asks, rise-row}
 
-parts : (a b : Bool) → (a && b) ≡ true → (a ≡ true) × (b ≡ true)
-parts true b h = (refl, h)
-parts false b h = clash refl (sym h)
-
-pub record Surge (d f g : List ℕ) (r : Season) (xs : List ℕ) (u old new tail : ℕ) (sp₀ ws₀ : List ℕ) (counting : Bool) (p end m : ℕ) (sp ws counts : List ℕ) : Type 0 where
+pub record Surge (d f g links : List ℕ) (r : Season) (xs : List ℕ) (u old new tail : ℕ) (sp₀ ws₀ : List ℕ) (counting : Bool) (p end m : ℕ) (sp ws counts : List ℕ) : Type 0 where
   pub b : ℕ
-  pub wave : Wave d f g r xs u old new tail sp₀ ws₀ b p end sp ws
+  pub late : r .lo ≤ b
+  pub wave : Wave d f g links r xs u old new tail sp₀ ws₀ b p end sp ws
   pub shift : counting ≡ true → Shift (tableOf d f g) (r .start) (r .end) u old new xs b m counts
 
 -- the rows of u are all seen: the counts but for those that moved
 abbrev pub Owed : List ℕ → List ℕ → List ℕ → Season → List ℕ → ℕ → ℕ → List ℕ → Type 0
 Owed d f g r xs new m counts = Owing (timeBy (tableOf d f g) (guess xs) (r .start) (r .end)) (length d) new m counts
 
-module _ (d f g links : List ℕ) (r : Season) (R : Ready d f g links r) (xs : List ℕ) (len : length xs ≡ 4096) {u : ℕ} (small : u < 4096) (old new tail : ℕ) (sp₀ ws₀ : List ℕ) (counting : Bool) (D : Days (r .end) xs) (en : new ≡ getD xs u 0) where
+module _ (d f g links : List ℕ) (r : Season) (R : Open d f g links r) (xs : List ℕ) (len : length xs ≡ 4096) {u : ℕ} (small : u < 4096) (E : Every (tableOf d f g) (guess xs) (r .lo) u links) (D : Days (r .end) xs) (old new : ℕ) (en : new ≡ getD xs u 0) (tail : ℕ) (sp₀ ws₀ : List ℕ) (counting : Bool) where
   abbrev tt : Table
   tt = tableOf d f g
 
   abbrev q : Query
   q = query (r .k)
 
-  pub surge-start : {p : ℕ} {counts : List ℕ} → length sp₀ ≡ 4096 → length ws₀ ≡ 4352 → Ahead tt u (r .lo) p → (counting ≡ true → Raised tt (r .start) (r .end) u old new xs counts) → Surge d f g r xs u old new tail sp₀ ws₀ counting p tail 0 sp₀ ws₀ counts
-  surge-start l m A C = let B = begun A in record { b = B .b; wave = wave-start d f g links r R xs len small old new tail sp₀ ws₀ l m B; shift = λ h. rise-start tt q (r .start) (r .end) (r .lo) (R .setting) u old new xs small (C h) (B .b) (B .within) (B .before) }
+  new-day : new ≤ never
+  new-day = new-most d f g links r R xs len small E D old new en tail sp₀ ws₀
 
-  module _ {p end m last : ℕ} {sp ws counts : List ℕ} (Z : Surge d f g r xs u old new tail sp₀ ws₀ counting p end m sp ws counts) (ee : last ≡ placeOf tt (suc u)) where
+  -- a row of u that the walk passed over keeps its time
+  over : {i : ℕ} → (i < r .lo) ⊎ (guess xs (otherOf tt i u) ≡ never) → (i < r .lo) ⊎ (new ≤ guess xs (otherOf tt i u))
+  over o = let m = new-day in ⊎-elim _⊎_.inl (λ z. _⊎_.inr (omega arith)) o
+
+  keeps : {A : Type 0} {i : ℕ} → (i < r .lo) ⊎ (guess xs (otherOf tt i u) ≡ never) → (i < r .lo) ⊎ ((new ≤ guess xs (otherOf tt i u)) ⊎ A)
+  keeps o = ⊎-elim _⊎_.inl (λ z. _⊎_.inr (_⊎_.inl z)) (over o)
+
+  pub surge-start : {p : ℕ} {counts : List ℕ} → length sp₀ ≡ 4096 → length ws₀ ≡ 4352 → Reading links u (r .lo) p → (counting ≡ true → Raised tt (r .start) (r .end) u old new xs counts) → Surge d f g links r xs u old new tail sp₀ ws₀ counting p tail 0 sp₀ ws₀ counts
+  surge-start l m A C = record { b = r .lo; late = le-refl (r .lo); wave = wave-start d f g links r R xs len small E D old new en tail sp₀ ws₀ l m A; shift = λ h. rise-start tt q (r .start) (r .end) (r .lo) (R .setting) u old new xs small (C h) }
+
+  module _ {p end m last : ℕ} {sp ws counts : List ℕ} (Z : Surge d f g links r xs u old new tail sp₀ ws₀ counting p end m sp ws counts) (ee : last ≡ getD links u 0) where
     pub surge-out : last ≤ p → (Lessened tt (guess xs) (r .lo) u (length d) old new sp₀ sp × Queued tail sp₀ ws₀ end sp ws) × (counting ≡ true → Owed d f g r xs new m counts)
     surge-out h = (
-      wave-out d f g links r R xs len small old new tail sp₀ ws₀ (Z .wave) ee h,
-      λ y. rise-all tt q (r .start) (r .end) (r .lo) (R .setting) u old new xs small (Z .shift y) (λ i a k o. clash o (along-out d f g links (R .sound) (R .linked) small (Z .wave .along) ee h i a k)),
+      wave-out d f g links r R xs len small E D old new en tail sp₀ ws₀ (Z .wave) ee h,
+      λ y. rise-all tt q (r .start) (r .end) (r .lo) (R .setting) u old new xs small (Z .shift y) (λ i a k o. keeps (reading-out d f g links (R .sound) (R .shelves) small (Z .wave .reading) ee E h i a k o)),
     )
+
+    -- the walk began at lo
+    pub surge-late : (more : p < last) {j : ℕ} → j ≡ getD links (8192 + p) 0 → r .lo ≤ j
+    surge-late more ej = let a = Z .late in let c = reading-from d f g links (R .sound) (R .shelves) small (Z .wave .reading) ee more ej in omega arith
 
     module _ (more : p < last) {j : ℕ} (ej : j ≡ getD links (8192 + p) 0) {day : ℕ} (ed : day ≡ getD d j 0) {until : ℕ} (eu : until ≡ min new (r .end + 1)) where
       pub surge-stop : until ≤ day → (Lessened tt (guess xs) (r .lo) u (length d) old new sp₀ sp × Queued tail sp₀ ws₀ end sp ws) × (counting ≡ true → Owed d f g r xs new m counts)
       surge-stop h = (
-        wave-stop d f g links r R xs len small old new tail sp₀ ws₀ (Z .wave) ee more ej ed D en eu h,
-        λ y. rise-all tt q (r .start) (r .end) (r .lo) (R .setting) u old new xs small (Z .shift y) (wave-late d f g links r R xs len small old new tail sp₀ ws₀ (Z .wave) ee more ej ed eu h),
+        wave-stop d f g links r R xs len small E D old new en tail sp₀ ws₀ (Z .wave) ee more ej ed eu h,
+        λ y. rise-all tt q (r .start) (r .end) (r .lo) (R .setting) u old new xs small (Z .shift y) (λ i a k o. ⊎-elim keeps (λ z. _⊎_.inr (_⊎_.inr z)) (wave-late d f g links r R xs len small E D old new en tail sp₀ ws₀ (Z .wave) ee more ej ed eu h i a k o)),
       )
 
       module _ (before : day < until) {a e v z : ℕ} (ea : a ≡ getD f j 0) (eb : e ≡ getD g j 0) (ev : v ≡ pickOther (eqb a u) a e) (ez : z ≡ getD xs v 0) {w time : ℕ} (ew : w ≡ max old z) (et : time ≡ max w day) where
@@ -70,40 +80,41 @@ module _ (d f g links : List ℕ) (r : Season) (R : Ready d f g links r) (xs : L
         w-day = ed
 
         v-small : v < 4096
-        v-small = wave-small d f g links r R xs len small old new tail sp₀ ws₀ (Z .wave) ee more ej ed ea eb ev
+        v-small = wave-small d f g links r R xs len small E D old new en tail sp₀ ws₀ (Z .wave) ee more ej ed ea eb ev
 
         z-is : z ≡ guess xs (otherOf tt j u)
-        z-is = ez ∙ (sym (guess-at xs v len v-small) ∙ ap (guess xs) (along-other d f g links (R .sound) (R .linked) small (Z .wave .along) ee more ej ea eb ev))
+        z-is = ez ∙ (sym (guess-at xs v len v-small) ∙ ap (guess xs) (reading-other d f g links (R .sound) (R .shelves) small (Z .wave .reading) ee more ej ea eb ev))
 
         z-day : (z ≤ r .end) ⊎ (z ≡ never)
         z-day = ⊎-elim (λ y. _⊎_.inl (omega arith)) (λ y. _⊎_.inr (ez ∙ y)) (D v v-small)
 
-        new-day : new ≤ never
-        new-day = let h = R .setting .fits in ⊎-elim (λ y. omega arith) (λ y. omega arith) (D u small)
+        from : Z .b ≤ j
+        from = reading-from d f g links (R .sound) (R .shelves) small (Z .wave .reading) ee more ej
 
-        module _ {test : Bool} (y : test ≡ (leb (r .lo) j && ltb z new)) where
+        module _ {test : Bool} (y : test ≡ ltb z new) where
           yes : test ≡ true → (r .lo ≤ j) × (z < new)
-          yes h = let b = sym y ∙ h in (leb-true (r .lo) j (parts (leb (r .lo) j) (ltb z new) b .0), ltb-true z new (parts (leb (r .lo) j) (ltb z new) b .1))
+          yes h = let a = Z .late in let c = from in (omega arith, ltb-true z new (sym y ∙ h))
 
           not : test ≡ false → (j < r .lo) ⊎ (new ≤ z)
-          not h = ⊎-elim (λ b. ⊎-elim (λ c. clash (y ∙ both b c) h) (λ c. _⊎_.inr (ltb-false z new c)) (look (ltb z new))) (λ b. _⊎_.inl (leb-false (r .lo) j b)) (look (leb (r .lo) j))
+          not h = _⊎_.inr (ltb-false z new (sym y ∙ h))
 
           pub surge-asks : counting ≡ true → (length counts ≡ 1025) × (m < 16384) × (test ≡ true → (time < 1025) × (1 ≤ getD counts time 0))
           surge-asks h =
               let dd = w-day in
-              rise-asks tt q (r .start) (r .end) (r .lo) (R .setting) u old new xs small (Z .shift h) (along-from d f g links (R .sound) (R .linked) small (Z .wave .along) ee more ej) (along-row d f g links (R .sound) (R .linked) small (Z .wave .along) ee more ej)
-              (along-touch d f g links (R .sound) (R .linked) small (Z .wave .along) ee more ej) (along-none d f g links (R .sound) (R .linked) small (Z .wave .along) ee more ej) (omega arith) (omega arith) z-is (omega arith) yes not z-day new-day (R .sound .most)
+              rise-asks tt q (r .start) (r .end) (r .lo) (R .setting) u old new xs small (Z .shift h) from (reading-row d f g links (R .sound) (R .shelves) small (Z .wave .reading) ee more ej)
+              (reading-touch d f g links (R .sound) (R .shelves) small (Z .wave .reading) ee more ej) (λ i a k o. over (reading-gap d f g links (R .sound) (R .shelves) small (Z .wave .reading) ee more ej E i a k o)) (omega arith) (omega arith) z-is (omega arith) yes not z-day new-day (R .sound .most)
 
-          pub surge-next : {fr lost : Bool} {end′ m′ : ℕ} {sp′ ws′ counts′ : List ℕ} → end < 4352 → fr ≡ (leb (r .lo) j and leb (getD links (8192 + 2 * length d + j) 0) (r .lo)) → lost ≡ ((leb old z && leb day z) && ltb z new) → Losing (fr && lost) v end sp ws sp′ ws′ end′ → (counting ≡ true → Taking test time m counts counts′ m′) → Surge d f g r xs u old new tail sp₀ ws₀ counting (p + 1) end′ m′ sp′ ws′ counts′
+          pub surge-next : {fr lost : Bool} {end′ m′ : ℕ} {sp′ ws′ counts′ : List ℕ} → end < 4352 → fr ≡ (leb (r .lo) j and leb (getD links (8192 + 2 * length d + j) 0) (r .lo)) → lost ≡ ((leb old z && leb day z) && ltb z new) → Losing (fr && lost) v end sp ws sp′ ws′ end′ → (counting ≡ true → Taking test time m counts counts′ m′) → Surge d f g links r xs u old new tail sp₀ ws₀ counting (p + 1) end′ m′ sp′ ws′ counts′
           surge-next room ef el L T =
               let dd = w-day in
               record {
                 b = j + 1;
-                wave = wave-next d f g links r R xs len small old new tail sp₀ ws₀ (Z .wave) ee more ej ed ea eb ev room ef ez el L;
-                shift = λ h. rise-row tt q (r .start) (r .end) (r .lo) (R .setting) u old new xs small (Z .shift h) (along-from d f g links (R .sound) (R .linked) small (Z .wave .along) ee more ej) (along-row d f g links (R .sound) (R .linked) small (Z .wave .along) ee more ej)
-                    (along-touch d f g links (R .sound) (R .linked) small (Z .wave .along) ee more ej) (along-none d f g links (R .sound) (R .linked) small (Z .wave .along) ee more ej) (omega arith) (omega arith) z-is (omega arith) yes not z-day new-day (T h);
+                late = let a = Z .late in let c = from in omega arith;
+                wave = wave-next d f g links r R xs len small E D old new en tail sp₀ ws₀ (Z .wave) ee more ej ed ea eb ev room ef ez el L;
+                shift = λ h. rise-row tt q (r .start) (r .end) (r .lo) (R .setting) u old new xs small (Z .shift h) from (reading-row d f g links (R .sound) (R .shelves) small (Z .wave .reading) ee more ej)
+                    (reading-touch d f g links (R .sound) (R .shelves) small (Z .wave .reading) ee more ej) (λ i a k o. over (reading-gap d f g links (R .sound) (R .shelves) small (Z .wave .reading) ee more ej E i a k o)) (omega arith) (omega arith) z-is (omega arith) yes not z-day new-day (T h);
               }
 
 -- what is still to be counted
-pub surge-pays : {d f g links : List ℕ} (xs : List ℕ) {r : Season} {u new m : ℕ} {counts : List ℕ} → Ready d f g links r → u < 4096 → Days (r .end) xs → new ≡ getD xs u 0 → r .end ≤ 1024 → Owed d f g r xs new m counts → (length counts ≡ 1025) × ((new ≡ never → ⊥) → (new < 1025) × (getD counts new 0 + m < 65536))
+pub surge-pays : {d f g links : List ℕ} (xs : List ℕ) {r : Season} {u new m : ℕ} {counts : List ℕ} → Open d f g links r → u < 4096 → Days (r .end) xs → new ≡ getD xs u 0 → r .end ≤ 1024 → Owed d f g r xs new m counts → (length counts ≡ 1025) × ((new ≡ never → ⊥) → (new < 1025) × (getD counts new 0 + m < 65536))
 surge-pays xs {u = u} R small D en top O = owing-room O (R .sound .most) (⊎-elim (λ y. _⊎_.inl (omega arith)) (λ y. _⊎_.inr (en ∙ y)) (D u small))

@@ -14,11 +14,11 @@ use lib.Seq.{ext-getD, getD-set-same, getD-set-other}
 use Rattle.rings.specs.Words.{at, run}
 use Rattle.rings.specs.Table.{tableOf, dayOf, firstOf, secondOf}
 use Rattle.rings.specs.CoreTimes.{never, accountTime, rowTime}
-use Rattle.rings.specs.Inner.Peeling.{query, Season, Ready, Span, CoreTimesAre}
+use Rattle.rings.specs.Inner.Peeling.{query, Season, Framed, Span, CoreTimesAre}
 use Rattle.rings.proofs.WordLaws.{length-run, getD-run}
 use Rattle.rings.proofs.CoreTimeLaws.{row-max, row-before, row-after}
 
-module _ (d f s links : List ℕ) (q : Season) (R : Ready d f s links q) {end : ℕ} (Sp : Span d (q .end) (q .lo) end) {x : List ℕ} (C : CoreTimesAre d f s q x) {j : ℕ} (b : j < length d) where
+module _ (d f s : List ℕ) (q : Season) (R : Framed d f s q) {end : ℕ} (Sp : Span d (q .end) (q .lo) end) {x : List ℕ} (C : CoreTimesAre d f s q x) {j : ℕ} (b : j < length d) where
   a-small : getD f j 0 < 4096
   a-small = let y = R .sound .rows j b in let z = y .accounts in let k = y .account-to in omega arith
 

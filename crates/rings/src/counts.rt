@@ -5,7 +5,7 @@ ghost use Prim.Native.Nat.{_+_, _≤_, _<_};
 ghost use lib.ListN.{length, getD};
 ghost use Rattle.rings.specs.CoreTimes.{never};
 ghost use Rattle.rings.specs.Table.{tableOf};
-ghost use Rattle.rings.specs.Inner.Peeling.{query, season, guess, Ready, Span, Split, CoreTimesAre};
+ghost use Rattle.rings.specs.Inner.Peeling.{query, season, guess, Framed, Span, Split, CoreTimesAre};
 ghost use Rattle.rings.specs.Inner.Counting.{timeBy, Histogram, Timed, Adding, Removing, Taking};
 use crate::choice::one;
 use crate::choice::pick;
@@ -62,13 +62,11 @@ pub fn pay_counts(counting: bool, counts: &mut [u16], time: u16, m: u16)
     add_count(counts, time, m);
 }
 
-// Where days are counted: the core times at s of all rows, from nothing.
+// The core times at s of all rows, from nothing.
 pub fn count_times(
-    counting: bool,
     days: &[u16],
     first: &[u16],
     second: &[u16],
-    links: &[u16],
     k: u16,
     s: u16,
     te: u16,
@@ -77,18 +75,15 @@ pub fn count_times(
     times: &[u16],
     counts: &mut [u16],
 )
-    requires { ⌜ Ready (now days) (now first) (now second) (now links) (season k s te lo) ⌝ }
+    requires { ⌜ Framed (now days) (now first) (now second) (season k s te lo) ⌝ }
     requires { ⌜ Span (now days) te lo end × CoreTimesAre (now days) (now first) (now second) (season k s te lo) (now times) ⌝ }
-    requires { ⌜ (counting ≡ true → (length (now counts) ≡ 1025) × (te ≤ 1024)) ⌝ }
-    ensures { λ _. ⌜ (counting ≡ true → Timed (tableOf (now (days .entry)) (now (first .entry)) (now (second .entry))) (query k) te s (length (now (days .entry))) (now (counts .exit))) ⌝ }
+    requires { ⌜ (length (now counts) ≡ 1025) × (te ≤ 1024) ⌝ }
+    ensures { λ _. ⌜ Timed (tableOf (now (days .entry)) (now (first .entry)) (now (second .entry))) (query k) te s (length (now (days .entry))) (now (counts .exit)) ⌝ }
 {
-    if !counting {
-        return;
-    }
     clear(counts);
     let mut j = lo;
     while j < end {
-        let time = row_time(days, first, second, links, k, s, te, lo, end, times, j);
+        let time = row_time(days, first, second, k, s, te, lo, end, times, j);
         add_count(counts, time, 1);
         j += 1;
     }
@@ -99,7 +94,6 @@ pub fn drop_rows(
     days: &[u16],
     first: &[u16],
     second: &[u16],
-    links: &[u16],
     k: u16,
     s: u16,
     te: u16,
@@ -109,14 +103,14 @@ pub fn drop_rows(
     times: &[u16],
     counts: &mut [u16],
 )
-    requires { ⌜ Ready (now days) (now first) (now second) (now links) (season k s te lo) ⌝ }
+    requires { ⌜ Framed (now days) (now first) (now second) (season k s te lo) ⌝ }
     requires { ⌜ Span (now days) te lo end × CoreTimesAre (now days) (now first) (now second) (season k s te lo) (now times) × (te ≤ 1024) × Split (now days) (s + 1) next ⌝ }
     requires { ⌜ Timed (tableOf (now days) (now first) (now second)) (query k) te s (length (now days)) (now counts) ⌝ }
     ensures { λ _. ⌜ Histogram (timeBy (tableOf (now (days .entry)) (now (first .entry)) (now (second .entry))) (guess (now (times .entry))) (s + 1) te) (length (now (days .entry))) (now (counts .exit)) ⌝ }
 {
     let mut j = lo;
     while j < next {
-        let time = row_time(days, first, second, links, k, s, te, lo, end, times, j);
+        let time = row_time(days, first, second, k, s, te, lo, end, times, j);
         drop_count(counts, time);
         j += 1;
     }

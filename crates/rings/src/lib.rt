@@ -10,6 +10,7 @@ pub mod refusal;
 pub mod ring;
 pub mod rows;
 pub mod settle;
+pub mod shelf;
 pub mod table;
 pub mod times;
 pub mod windows;

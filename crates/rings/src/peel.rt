@@ -23,6 +23,15 @@ pub fn is_fresh(links: &[u16], n: usize, lo: usize, j: usize) -> bool
     (lo <= j) & (earlier <= lo)
 }
 
+// The same for a row that is known to be at lo or later.
+pub fn is_first(links: &[u16], n: usize, lo: usize, j: usize) -> bool
+    requires { ⌜ (n ≤ 16384) × (j < n) × (8192 + 2 * n + j < length (now links)) × (lo ≤ j) ⌝ }
+    ensures { λ r. ⌜ r ≡ (leb lo j and leb (getD (now (links .entry)) (8192 + 2 * n + j) 0) lo) ⌝ }
+{
+    let earlier = entry(links, 8192 + 2 * n + j);
+    earlier <= lo
+}
+
 // Account v loses a neighbour; with fewer than k left it falls, dated e, and waits in the queue.
 fn lose(
     k: u16,

@@ -1,46 +1,22 @@
-// The starts of Listing: the core times of one start with their day counts, and from those the next. And the row times that Minimal windows keeps behind the links.
+// The starts of Listing: the core times of one start with their day counts, and from those the next.
 ghost use mathlib.Core.Path.{_≡_};
 ghost use Prim.Native.Nat.{_+_, _≤_};
 ghost use lib.ListN.{length};
 ghost use Rattle.rings.specs.Table.{tableOf};
-ghost use Rattle.rings.specs.Inner.Peeling.{query, season, Ready, Split, Span, CoreTimesAre};
-ghost use Rattle.rings.specs.Inner.Turning.{Kept};
+ghost use Rattle.rings.specs.Inner.Sound.{Sound};
+ghost use Rattle.rings.specs.Inner.Links.{Paired};
+ghost use Rattle.rings.specs.Inner.Peeling.{season, Split, Span};
 ghost use Rattle.rings.specs.Inner.Counting.{Started};
 use crate::counts::count_times;
 use crate::counts::drop_rows;
+use crate::links::bind;
 use crate::links::move_heads;
-use crate::settle::advance;
 use crate::settle::begin;
-use crate::times::row_time;
+use crate::settle::step;
+use crate::shelf::pass_heads;
+use crate::shelf::trim;
 
-// The core time at s of every row.
-pub fn keep_times(
-    days: &[u16],
-    first: &[u16],
-    second: &[u16],
-    scratch: &mut [u16],
-    k: u16,
-    s: u16,
-    te: u16,
-    lo: usize,
-    end: usize,
-    times: &[u16],
-)
-    requires { ⌜ Ready (now days) (now first) (now second) (now scratch) (season k s te lo) ⌝ }
-    requires { ⌜ Span (now days) te lo end ⌝ }
-    requires { ⌜ CoreTimesAre (now days) (now first) (now second) (season k s te lo) (now times) ⌝ }
-    ensures { λ _. ⌜ Kept (tableOf (now (days .entry)) (now (first .entry)) (now (second .entry))) (query k) te s (now (scratch .exit)) ⌝ }
-{
-    let n = days.len();
-    let mut j = 0;
-    while j < n {
-        let time = row_time(days, first, second, scratch, k, s, te, lo, end, times, j);
-        scratch[8192 + 3 * n + j] = time;
-        j += 1;
-    }
-}
-
-// The times of the first start and their counts, from nothing.
+// The times of a start and their counts, from nothing: the whole book, a peel, and of the book what is still of use.
 pub fn first_start(
     days: &[u16],
     first: &[u16],
@@ -56,11 +32,14 @@ pub fn first_start(
     queue: &mut [u16],
     counts: &mut [u16],
 )
-    requires { ⌜ Ready (now days) (now first) (now second) (now scratch) (season k s te lo) ⌝ }
-    requires { ⌜ Span (now days) te lo end × (te ≤ 1024) ⌝ }
+    requires { ⌜ Sound (now days) (now first) (now second) ⌝ }
+    requires { ⌜ Paired (tableOf (now days) (now first) (now second)) (now scratch) ⌝ }
+    requires { ⌜ (1 ≤ k) × (te ≤ 1024) × Split (now days) s lo × Span (now days) te lo end ⌝ }
     requires { ⌜ (length (now times) ≡ 4096) × (length (now spare) ≡ 4096) × (length (now queue) ≡ 4352) × (length (now counts) ≡ 1025) ⌝ }
     ensures { λ _. ⌜ Started (now (days .entry)) (now (first .entry)) (now (second .entry)) (now (scratch .exit)) (season k s te lo) (now (times .exit)) (now (spare .exit)) (now (counts .exit)) ⌝ }
 {
+    bind(days, first, second, scratch);
+    move_heads(days, first, second, scratch, 0, s, 0, lo);
     begin(
         days,
         first,
@@ -75,23 +54,11 @@ pub fn first_start(
         spare,
         queue,
     );
-    count_times(
-        true,
-        days,
-        first,
-        second,
-        scratch,
-        k,
-        s,
-        te,
-        lo,
-        end,
-        times,
-        counts,
-    );
+    count_times(days, first, second, k, s, te, lo, end, times, counts);
+    trim(days, first, second, scratch, s, times);
 }
 
-// The times of the next start and their counts, from those of this one: what a start costs is what changes in it.
+// The times of the next start and their counts, from those of this one: what a start costs is what changes in it. Where that grows dear, from nothing.
 pub fn next_start(
     days: &[u16],
     first: &[u16],
@@ -113,22 +80,9 @@ pub fn next_start(
     requires { ⌜ length (now queue) ≡ 4352 ⌝ }
     ensures { λ _. ⌜ Started (now (days .entry)) (now (first .entry)) (now (second .entry)) (now (scratch .exit)) (season k (s + 1) te next) (now (times .exit)) (now (spare .exit)) (now (counts .exit)) ⌝ }
 {
-    drop_rows(
-        days,
-        first,
-        second,
-        scratch,
-        k,
-        s,
-        te,
-        lo,
-        next,
-        end,
-        times,
-        counts,
-    );
-    move_heads(days, first, second, scratch, s, s + 1, lo, next);
-    advance(
+    drop_rows(days, first, second, k, s, te, lo, next, end, times, counts);
+    pass_heads(days, first, second, scratch, lo, next);
+    let risen = step(
         days,
         first,
         second,
@@ -143,6 +97,24 @@ pub fn next_start(
         spare,
         queue,
         true,
+        counts,
+    );
+    if risen <= 4352 {
+        return;
+    }
+    first_start(
+        days,
+        first,
+        second,
+        scratch,
+        k,
+        s + 1,
+        te,
+        next,
+        end,
+        times,
+        spare,
+        queue,
         counts,
     );
 }

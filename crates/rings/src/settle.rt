@@ -8,20 +8,22 @@ ghost use mathlib.Core.List.{List};
 ghost use lib.ListN.{length, getD};
 ghost use lib.Dec.{leb, ltb};
 ghost use Rattle.rings.specs.Table.{tableOf};
-ghost use Rattle.rings.specs.Inner.Peeling.{query, guess, season, Ready, Placed, Span, Split, CoreTimesAre};
-ghost use Rattle.rings.specs.Inner.Links.{Ahead};
+ghost use Rattle.rings.specs.CoreTimes.{never};
+ghost use Rattle.rings.specs.Inner.Sound.{Sound};
+ghost use Rattle.rings.specs.Inner.Peeling.{query, guess, season, Ready, Placed, Open, Span, Split, CoreTimesAre};
+ghost use Rattle.rings.specs.Inner.Links.{Shelves, Reading, Every, Covered};
 ghost use Rattle.rings.specs.Inner.Counting.{timeBy, Histogram, Timed, Raised};
-ghost use Rattle.rings.specs.Inner.Settling.{Days, Over, Marking, Glanced, Looked, Losing, Lessened, Leaving, Queued, Rising, Spare, Risen};
+ghost use Rattle.rings.specs.Inner.Settling.{Days, Over, Noting, Glanced, Looked, Losing, Lessened, Leaving, Queued, Rising, Spare, Risen};
 use crate::choice::lesser;
 use crate::choice::one;
 use crate::choice::pick;
-use crate::counts::count_times;
 use crate::counts::pay_counts;
 use crate::counts::take_count;
 use crate::links::entry;
 use crate::links::other;
 use crate::links::put;
 use crate::links::wide;
+use crate::peel::is_first;
 use crate::peel::is_fresh;
 use crate::peel::peel;
 use crate::times::greater;
@@ -74,15 +76,14 @@ fn is_over(day: u16, c: u16, stop: u16, above: u16, k: u16, count: u16) -> bool
     false
 }
 
-// One row more, which supports from day z on if it is fresh. Sums and choices and no branch: which way a row goes no processor foresees.
-fn note(fresh: bool, z: u16, c: u16, count: u16, above: u16, more: u16) -> Noted
-    requires { ⌜ (count < 16384) × (more < 16384) ⌝ }
-    ensures { λ r. ⌜ Marking fresh z c count above more (r .count) (r .above) (r .more) ⌝ }
+// One row more, which supports from day z on; never says that it does not. The day above lies after c. Sums and choices and no branch: which way a row goes no processor foresees.
+fn note(z: u16, c: u16, count: u16, above: u16, more: u16) -> Noted
+    requires { ⌜ (count < 16384) × (more < 16384) × (c < above) ⌝ }
+    ensures { λ r. ⌜ Noting z c count above more (r .count) (r .above) (r .more) ⌝ }
 {
-    let within = fresh & (z <= c);
-    let later = fresh & (c < z);
-    let nearer = later & (z < above);
-    let level = later & (z == above);
+    let within = z <= c;
+    let nearer = (c < z) & (z < above);
+    let level = z == above;
     Noted {
         count: count + one(within),
         above: pick(nearer, z, above),
@@ -105,8 +106,8 @@ fn look_at(
     from: usize,
     c: u16,
 ) -> Found
-    requires { ⌜ Ready (now days) (now first) (now second) (now links) (season k start stop lo) ⌝ }
-    requires { ⌜ (u < 4096) × (length (now times) ≡ 4096) × Days stop (now times) × (c ≤ stop) × Ahead (tableOf (now days) (now first) (now second)) u lo from ⌝ }
+    requires { ⌜ Open (now days) (now first) (now second) (now links) (season k start stop lo) ⌝ }
+    requires { ⌜ (u < 4096) × (length (now times) ≡ 4096) × Days stop (now times) × (c ≤ stop) × Reading (now links) u lo from × Every (tableOf (now days) (now first) (now second)) (guess (now times)) lo u (now links) ⌝ }
     ensures { λ r. ⌜ Glanced (tableOf (now (days .entry)) (now (first .entry)) (now (second .entry))) (guess (now (times .entry))) lo stop c u (length (now (days .entry))) k (r .count) (r .above) (r .more) × (r .walked ≤ 32768) × (r .count + r .more ≤ 16384) ⌝ }
 {
     let n = days.len();
@@ -127,12 +128,12 @@ fn look_at(
             };
         }
         p += 1;
-        let fresh = is_fresh(links, n, lo, j);
+        let fresh = is_first(links, n, lo, j);
         let a = entry(first, j);
         let b = entry(second, j);
         let v = other(a, b, u);
         let z = greater(times[v], day);
-        let seen = note(fresh, z, c, count, above, more);
+        let seen = note(pick(fresh, z, 65535), c, count, above, more);
         count = seen.count;
         above = seen.above;
         more = seen.more;
@@ -160,8 +161,8 @@ fn look(
     from: usize,
     budget: usize,
 ) -> View
-    requires { ⌜ Ready (now days) (now first) (now second) (now links) (season k start stop lo) ⌝ }
-    requires { ⌜ (u < 4096) × (length (now times) ≡ 4096) × Days stop (now times) × (budget ≤ 65536) × Ahead (tableOf (now days) (now first) (now second)) u lo from ⌝ }
+    requires { ⌜ Open (now days) (now first) (now second) (now links) (season k start stop lo) ⌝ }
+    requires { ⌜ (u < 4096) × (length (now times) ≡ 4096) × Days stop (now times) × (budget ≤ 65536) × Reading (now links) u lo from × ((getD (now times) u 0 ≡ never → ⊥) → Every (tableOf (now days) (now first) (now second)) (guess (now times)) lo u (now links)) ⌝ }
     ensures { λ r. ⌜ ((r .time ≡ 0 → ⊥) → Looked (tableOf (now (days .entry)) (now (first .entry)) (now (second .entry))) (guess (now (times .entry))) start k stop (getD (now (times .entry)) u 0) u (r .time) (r .spare)) × (r .walked ≤ 98304) ⌝ }
 {
     let mut walked: usize = 0;
@@ -261,8 +262,8 @@ fn lose_others(
     counting: bool,
     counts: &mut [u16],
 ) -> usize
-    requires { ⌜ Ready (now days) (now first) (now second) (now links) (season k start stop lo) ⌝ }
-    requires { ⌜ (u < 4096) × (length (now times) ≡ 4096) × (length (now spare) ≡ 4096) × (length (now queue) ≡ 4352) × Ahead (tableOf (now days) (now first) (now second)) u lo from × Days stop (now times) × (new ≡ getD (now times) u 0) ⌝ }
+    requires { ⌜ Open (now days) (now first) (now second) (now links) (season k start stop lo) ⌝ }
+    requires { ⌜ (u < 4096) × (length (now times) ≡ 4096) × (length (now spare) ≡ 4096) × (length (now queue) ≡ 4352) × Reading (now links) u lo from × Every (tableOf (now days) (now first) (now second)) (guess (now times)) lo u (now links) × Days stop (now times) × (new ≡ getD (now times) u 0) ⌝ }
     requires { ⌜ (counting ≡ true → Raised (tableOf (now days) (now first) (now second)) start stop u old new (now times) (now counts)) ⌝ }
     ensures { λ r. ⌜ (r ≤ 4352 → Lessened (tableOf (now (days .entry)) (now (first .entry)) (now (second .entry))) (guess (now (times .entry))) lo u (length (now (days .entry))) old new (now (spare .entry)) (now (spare .exit)) × Queued tail (now (spare .entry)) (now (queue .entry)) r (now (spare .exit)) (now (queue .exit)) × (counting ≡ true → Histogram (timeBy (tableOf (now (days .entry)) (now (first .entry)) (now (second .entry))) (guess (now (times .entry))) start stop) (length (now (days .entry))) (now (counts .exit)))) ⌝ }
 {
@@ -283,7 +284,7 @@ fn lose_others(
             return 4353;
         }
         p += 1;
-        let fresh = is_fresh(links, n, lo, j);
+        let fresh = is_first(links, n, lo, j);
         let a = entry(first, j);
         let b = entry(second, j);
         let v = other(a, b, u);
@@ -291,11 +292,36 @@ fn lose_others(
         let lost = is_lost(z, day, old, new);
         end = lose(spare, queue, end, v, fresh & lost);
         let time = greater(greater(old, z), day);
-        let moves = (lo <= j) & (z < new);
+        let moves = z < new;
         moved = take_count(counting, counts, moves, time, moved);
     }
     pay_counts(counting, counts, new, moved);
     end
+}
+
+// Where the rows of u from lo on begin in the book: at its head, which has passed those that left. The search makes it sure, so no walk asks for it row by row.
+fn first_from(
+    days: &[u16],
+    first: &[u16],
+    second: &[u16],
+    links: &[u16],
+    u: usize,
+    lo: usize,
+) -> usize
+    requires { ⌜ Sound (now days) (now first) (now second) ⌝ }
+    requires { ⌜ Shelves (tableOf (now days) (now first) (now second)) (now links) × (u < 4096) ⌝ }
+    ensures { λ r. ⌜ Reading (now (links .entry)) u lo r ⌝ }
+{
+    let last = entry(links, u);
+    let mut p = entry(links, 4096 + u);
+    while p < last {
+        let j = entry(links, 8192 + p);
+        if lo <= j {
+            return p;
+        }
+        p += 1;
+    }
+    p
 }
 
 // A look at the account at the head of the queue. If its time rises, it is listed as risen, and who loses it waits. 4,353 for the queue's end says that the look gave up, or that the queue had no place.
@@ -318,14 +344,15 @@ fn settle_account(
     counting: bool,
     counts: &mut [u16],
 ) -> Standing
-    requires { ⌜ Ready (now days) (now first) (now second) (now links) (season k start stop lo) ⌝ }
-    requires { ⌜ (budget ≤ 65536) × (head < tail) × (tail ≤ 4352) × (risen ≤ head) × (length (now times) ≡ 4096) × (length (now spare) ≡ 4096) × (length (now queue) ≡ 4352) × (getD (now queue) head 0 < 4096) × Days stop (now times) ⌝ }
+    requires { ⌜ Open (now days) (now first) (now second) (now links) (season k start stop lo) ⌝ }
+    requires { ⌜ (budget ≤ 65536) × (head < tail) × (tail ≤ 4352) × (risen ≤ head) × (length (now times) ≡ 4096) × (length (now spare) ≡ 4096) × (length (now queue) ≡ 4352) × (getD (now queue) head 0 < 4096) × Days stop (now times) × Covered (tableOf (now days) (now first) (now second)) (guess (now times)) lo (now links) ⌝ }
     requires { ⌜ (counting ≡ true → (stop ≤ 1024) × Histogram (timeBy (tableOf (now days) (now first) (now second)) (guess (now times)) start stop) (length (now days)) (now counts)) ⌝ }
     ensures { λ r. ⌜ (r .walked ≤ 98304) × (r .tail ≤ 4352 → (xs : List ℕ) → Rising (tableOf (now (days .entry)) (now (first .entry)) (now (second .entry))) (query k) stop start xs (now (times .entry)) (now (spare .entry)) (now (queue .entry)) head tail risen → Rising (tableOf (now (days .entry)) (now (first .entry)) (now (second .entry))) (query k) stop start xs (now (times .exit)) (now (spare .exit)) (now (queue .exit)) (head + 1) (r .tail) (r .risen)) ⌝ }
+    ensures { λ _. ⌜ ((v : ℕ) → guess (now (times .entry)) v ≡ never → guess (now (times .exit)) v ≡ never) ⌝ }
     ensures { λ r. ⌜ (r .tail ≤ 4352 → counting ≡ true → Histogram (timeBy (tableOf (now (days .entry)) (now (first .entry)) (now (second .entry))) (guess (now (times .exit))) start stop) (length (now (days .entry))) (now (counts .exit))) ⌝ }
 {
     let u = entry(queue, head);
-    let from = entry(links, 4096 + u);
+    let from = first_from(days, first, second, links, u, lo);
     let old = times[u];
     let seen = look(
         days,
@@ -404,8 +431,8 @@ fn settle(
     counting: bool,
     counts: &mut [u16],
 ) -> usize
-    requires { ⌜ Ready (now days) (now first) (now second) (now links) (season k start stop lo) ⌝ }
-    requires { ⌜ (budget ≤ 65536) × (length (now times) ≡ 4096) × (length (now spare) ≡ 4096) × (length (now queue) ≡ 4352) × (waiting ≤ 4352 → Rising (tableOf (now days) (now first) (now second)) (query k) stop start (now times) (now times) (now spare) (now queue) 0 waiting 0) ⌝ }
+    requires { ⌜ Open (now days) (now first) (now second) (now links) (season k start stop lo) ⌝ }
+    requires { ⌜ (budget ≤ 65536) × (length (now times) ≡ 4096) × (length (now spare) ≡ 4096) × (length (now queue) ≡ 4352) × (waiting ≤ 4352 → Rising (tableOf (now days) (now first) (now second)) (query k) stop start (now times) (now times) (now spare) (now queue) 0 waiting 0) × Covered (tableOf (now days) (now first) (now second)) (guess (now times)) lo (now links) ⌝ }
     requires { ⌜ (counting ≡ true → (stop ≤ 1024) × Histogram (timeBy (tableOf (now days) (now first) (now second)) (guess (now times)) start stop) (length (now days)) (now counts)) ⌝ }
     ensures { λ r. ⌜ (r ≤ 4352 → CoreTimesAre (now (days .entry)) (now (first .entry)) (now (second .entry)) (season k start stop lo) (now (times .exit)) × Spare (tableOf (now (days .entry)) (now (first .entry)) (now (second .entry))) (query k) start (now (times .exit)) (now (spare .exit)) × Risen (now (times .entry)) (now (times .exit)) (now (queue .exit)) r) ⌝ }
     ensures { λ r. ⌜ (r ≤ 4352 → counting ≡ true → Histogram (timeBy (tableOf (now (days .entry)) (now (first .entry)) (now (second .entry))) (guess (now (times .exit))) start stop) (length (now (days .entry))) (now (counts .exit))) ⌝ }
@@ -587,8 +614,8 @@ pub fn begin(
     spare_none(spare);
 }
 
-// From the core times at s to those at the day after it, where the heads stand already, with a list of the accounts whose times are others; the number of its entries. Where days are counted, so are the row times: at entry without the rows dated s. Where settling grows dear the start is peeled afresh, so that none costs more than a constant times its rows.
-pub fn advance(
+// From the core times at s to those at the day after it, where the heads stand already, with a list of the accounts whose times are others; the number of its entries. Where days are counted, so are the row times: at entry without the rows dated s. 4,353 where settling grows dear: the start is to be peeled then, so that none costs more than a constant times its rows.
+pub fn step(
     days: &[u16],
     first: &[u16],
     second: &[u16],
@@ -605,12 +632,12 @@ pub fn advance(
     counting: bool,
     counts: &mut [u16],
 ) -> usize
-    requires { ⌜ Ready (now days) (now first) (now second) (now links) (season k (s + 1) te next) ⌝ }
+    requires { ⌜ Open (now days) (now first) (now second) (now links) (season k (s + 1) te next) ⌝ }
     requires { ⌜ (s ≤ te) × (te ≤ 1024) × Split (now days) s lo × Split (now days) (s + 1) next × Split (now days) (te + 1) end ⌝ }
-    requires { ⌜ CoreTimesAre (now days) (now first) (now second) (season k s te lo) (now times) × Spare (tableOf (now days) (now first) (now second)) (query k) s (now times) (now spare) × (length (now queue) ≡ 4352) ⌝ }
+    requires { ⌜ CoreTimesAre (now days) (now first) (now second) (season k s te lo) (now times) × Spare (tableOf (now days) (now first) (now second)) (query k) s (now times) (now spare) × (length (now queue) ≡ 4352) × Covered (tableOf (now days) (now first) (now second)) (guess (now times)) next (now links) ⌝ }
     requires { ⌜ (counting ≡ true → Histogram (timeBy (tableOf (now days) (now first) (now second)) (guess (now times)) (s + 1) te) (length (now days)) (now counts)) ⌝ }
-    ensures { λ r. ⌜ CoreTimesAre (now (days .entry)) (now (first .entry)) (now (second .entry)) (season k (s + 1) te next) (now (times .exit)) × Spare (tableOf (now (days .entry)) (now (first .entry)) (now (second .entry))) (query k) (s + 1) (now (times .exit)) (now (spare .exit)) × Risen (now (times .entry)) (now (times .exit)) (now (queue .exit)) r ⌝ }
-    ensures { λ _. ⌜ (counting ≡ true → Timed (tableOf (now (days .entry)) (now (first .entry)) (now (second .entry))) (query k) te (s + 1) (length (now (days .entry))) (now (counts .exit))) ⌝ }
+    ensures { λ r. ⌜ (r ≤ 4352 → CoreTimesAre (now (days .entry)) (now (first .entry)) (now (second .entry)) (season k (s + 1) te next) (now (times .exit)) × Spare (tableOf (now (days .entry)) (now (first .entry)) (now (second .entry))) (query k) (s + 1) (now (times .exit)) (now (spare .exit)) × Risen (now (times .entry)) (now (times .exit)) (now (queue .exit)) r) ⌝ }
+    ensures { λ r. ⌜ (r ≤ 4352 → counting ≡ true → Timed (tableOf (now (days .entry)) (now (first .entry)) (now (second .entry))) (query k) te (s + 1) (length (now (days .entry))) (now (counts .exit))) ⌝ }
 {
     let waiting = leave_rows(
         days,
@@ -627,7 +654,7 @@ pub fn advance(
         queue,
     );
     let budget = 4 * (end - next);
-    let risen = settle(
+    settle(
         days,
         first,
         second,
@@ -638,6 +665,48 @@ pub fn advance(
         next,
         budget,
         waiting,
+        times,
+        spare,
+        queue,
+        counting,
+        counts,
+    )
+}
+
+// The same with the whole book at hand, and where no days are counted: counts is not used. A start that is peeled lists every account.
+pub fn advance(
+    days: &[u16],
+    first: &[u16],
+    second: &[u16],
+    links: &[u16],
+    k: u16,
+    s: u16,
+    te: u16,
+    lo: usize,
+    next: usize,
+    end: usize,
+    times: &mut [u16],
+    spare: &mut [u16],
+    queue: &mut [u16],
+    counts: &mut [u16],
+) -> usize
+    requires { ⌜ Ready (now days) (now first) (now second) (now links) (season k (s + 1) te next) ⌝ }
+    requires { ⌜ (s ≤ te) × (te ≤ 1024) × Split (now days) s lo × Split (now days) (s + 1) next × Split (now days) (te + 1) end ⌝ }
+    requires { ⌜ CoreTimesAre (now days) (now first) (now second) (season k s te lo) (now times) × Spare (tableOf (now days) (now first) (now second)) (query k) s (now times) (now spare) × (length (now queue) ≡ 4352) ⌝ }
+    ensures { λ r. ⌜ CoreTimesAre (now (days .entry)) (now (first .entry)) (now (second .entry)) (season k (s + 1) te next) (now (times .exit)) × Spare (tableOf (now (days .entry)) (now (first .entry)) (now (second .entry))) (query k) (s + 1) (now (times .exit)) (now (spare .exit)) × Risen (now (times .entry)) (now (times .exit)) (now (queue .exit)) r ⌝ }
+{
+    let counting = false;
+    let risen = step(
+        days,
+        first,
+        second,
+        links,
+        k,
+        s,
+        te,
+        lo,
+        next,
+        end,
         times,
         spare,
         queue,
@@ -660,20 +729,6 @@ pub fn advance(
         times,
         spare,
         queue,
-    );
-    count_times(
-        counting,
-        days,
-        first,
-        second,
-        links,
-        k,
-        s + 1,
-        te,
-        next,
-        end,
-        times,
-        counts,
     );
     list_all(queue);
     4096

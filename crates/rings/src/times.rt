@@ -1,14 +1,14 @@
 // Core times: the first day that brings an account, or a row, into a ring.
 ghost use mathlib.Core.Path.{_≡_};
 ghost use Prim.Native.Nat.{_+_, _*_, _≤_, _<_};
-ghost use lib.ListN.{length, getD, replicate};
+ghost use lib.ListN.{length, replicate};
 ghost use Rattle.rings.specs.Words.{run};
 ghost use Rattle.rings.specs.Table.{tableOf};
 ghost use Rattle.rings.specs.CoreTimes.{accountTime, rowTime};
 ghost use Rattle.rings.specs.Buffers.{verdictScratch};
 ghost use Rattle.rings.specs.CoreTimesCall.{timesAnswer, accountColumn, rowColumn};
 ghost use Rattle.rings.specs.Inner.Sound.{Sound};
-ghost use Rattle.rings.specs.Inner.Peeling.{query, season, Ready, Span, CoreTimesAre};
+ghost use Rattle.rings.specs.Inner.Peeling.{query, season, Framed, Span, CoreTimesAre};
 use crate::Query;
 use crate::checks::are_equal;
 use crate::checks::check_call;
@@ -33,7 +33,6 @@ pub fn row_time(
     days: &[u16],
     first: &[u16],
     second: &[u16],
-    links: &[u16],
     k: u16,
     start: u16,
     stop: u16,
@@ -42,7 +41,7 @@ pub fn row_time(
     times: &[u16],
     j: usize,
 ) -> u16
-    requires { ⌜ Ready (now days) (now first) (now second) (now links) (season k start stop lo) ⌝ }
+    requires { ⌜ Framed (now days) (now first) (now second) (season k start stop lo) ⌝ }
     requires { ⌜ Span (now days) stop lo end ⌝ }
     requires { ⌜ CoreTimesAre (now days) (now first) (now second) (season k start stop lo) (now times) ⌝ }
     requires { ⌜ j < length (now days) ⌝ }
@@ -64,7 +63,6 @@ fn time_rows(
     days: &[u16],
     first: &[u16],
     second: &[u16],
-    links: &[u16],
     k: u16,
     start: u16,
     stop: u16,
@@ -73,7 +71,7 @@ fn time_rows(
     times: &[u16],
     rows: &mut [u16],
 )
-    requires { ⌜ Ready (now days) (now first) (now second) (now links) (season k start stop lo) ⌝ }
+    requires { ⌜ Framed (now days) (now first) (now second) (season k start stop lo) ⌝ }
     requires { ⌜ Span (now days) stop lo end ⌝ }
     requires { ⌜ CoreTimesAre (now days) (now first) (now second) (season k start stop lo) (now times) ⌝ }
     requires { ⌜ length (now rows) ≡ length (now days) ⌝ }
@@ -81,19 +79,7 @@ fn time_rows(
 {
     let mut j = 0;
     while j < days.len() {
-        rows[j] = row_time(
-            days,
-            first,
-            second,
-            links,
-            k,
-            start,
-            stop,
-            lo,
-            end,
-            times,
-            j,
-        );
+        rows[j] = row_time(days, first, second, k, start, stop, lo, end, times, j);
         j += 1;
     }
 }
@@ -134,19 +120,7 @@ fn find_times(
         &mut left,
         &mut queue,
     );
-    time_rows(
-        days,
-        first,
-        second,
-        scratch,
-        k,
-        s,
-        te,
-        lo,
-        end,
-        accounts,
-        rows,
-    );
+    time_rows(days, first, second, k, s, te, lo, end, accounts, rows);
     clear(scratch);
 }
 

@@ -8,7 +8,7 @@
 --     Taking                one row fewer, and one more of those that are still to be counted, if a test says so
 --     Raised                the counts by the times before an account rose
 --     Timed t q hi s n xs   the histogram of the core times at s
---     Started               what a start hands on to the next: the links, the times of the accounts, what they can spare, and the counts
+--     Started               what a start hands on to the next: the book, the times of the accounts, what they can spare, and the counts
 use Prim.Native.Nat.{ℕ, max, _+_, _-_, _≤_, _<_}
 use mathlib.Core.Path.{_≡_}
 use mathlib.Core.Logic.{_⊎_}
@@ -19,7 +19,8 @@ use lib.Dec.{eqb}
 use Rattle.rings.specs.Words.{count}
 use Rattle.rings.specs.Table.{Table, tableOf, size, dayOf, firstOf, secondOf, inWindow}
 use Rattle.rings.specs.CoreTimes.{never, rowTime}
-use Rattle.rings.specs.Inner.Peeling.{query, guess, Season, Ready, CoreTimesAre}
+use Rattle.rings.specs.Inner.Peeling.{query, guess, Season, Open, CoreTimesAre}
+use Rattle.rings.specs.Inner.Links.{Covered}
 use Rattle.rings.specs.Inner.Settling.{Spare}
 use Rattle.rings.specs.declared.Query.{Query}
 
@@ -67,7 +68,8 @@ abbrev pub Timed : Table → Query → ℕ → ℕ → ℕ → List ℕ → Type
 Timed t q hi s n xs = Histogram (rowTime t q hi s) n xs
 
 pub record Started (d f g sc : List ℕ) (p : Season) (times spare counts : List ℕ) : Type 0 where
-  pub ready : Ready d f g sc p
+  pub opened : Open d f g sc p
+  pub covered : Covered (tableOf d f g) (guess times) (p .lo) sc
   pub times-are : CoreTimesAre d f g p times
   pub spares : Spare (tableOf d f g) (query (p .k)) (p .start) times spare
   pub timed : Timed (tableOf d f g) (query (p .k)) (p .end) (p .start) (length d) counts

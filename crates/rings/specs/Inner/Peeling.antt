@@ -8,8 +8,10 @@
 --     Times        x is a lower bound of the core times, closed at the fallen; no core time that is still open passes e
 --     Fall         all of it
 --     Season       what is peeled
---     Ready        what every step works on: an accepted table, its links with the heads at the first day, and the setting
---     Placed       the same where no walk begins at the heads
+--     Ready        what peeling works on: an accepted table, its links with the heads at the first day, and the setting
+--     Framed       the same without links
+--     Placed       with the earlier rows alone
+--     Open         with a book that may lack rows
 --     Split        the rows before a day
 --     Span         the rows of a window, as a first row and an end
 --     Counted      d holds the fresh rows of each account below a row
@@ -27,7 +29,7 @@ use Rattle.rings.specs.Table.{Table, tableOf, size, dayOf, firstOf, seco
 use Rattle.rings.specs.Ring.{joins, touches, met, ring}
 use Rattle.rings.specs.CoreTimes.{never, accountTime}
 use Rattle.rings.specs.Inner.Sound.{Sound}
-use Rattle.rings.specs.Inner.Links.{otherOf, fresh, Linked}
+use Rattle.rings.specs.Inner.Links.{otherOf, fresh, Linked, Paired, Shelves}
 use Rattle.rings.specs.Inner.Support.{supporters}
 use Rattle.rings.specs.declared.Query.{Query}
 
@@ -145,11 +147,19 @@ pub record Ready (d f s links : List ℕ) (p : Season) : Type 0 where
   pub linked : Linked (tableOf d f s) (p .start) links
   pub setting : Setting (tableOf d f s) (query (p .k)) (p .start) (p .end) (p .lo)
 
--- the same where the heads may stand elsewhere
+pub record Framed (d f s : List ℕ) (p : Season) : Type 0 where
+  pub sound : Sound d f s
+  pub setting : Setting (tableOf d f s) (query (p .k)) (p .start) (p .end) (p .lo)
+
 pub record Placed (d f s links : List ℕ) (p : Season) : Type 0 where
   pub sound : Sound d f s
-  pub day : ℕ
-  pub linked : Linked (tableOf d f s) day links
+  pub paired : Paired (tableOf d f s) links
+  pub setting : Setting (tableOf d f s) (query (p .k)) (p .start) (p .end) (p .lo)
+
+pub record Open (d f s links : List ℕ) (p : Season) : Type 0 where
+  pub sound : Sound d f s
+  pub shelves : Shelves (tableOf d f s) links
+  pub within : p .lo ≤ length d
   pub setting : Setting (tableOf d f s) (query (p .k)) (p .start) (p .end) (p .lo)
 
 -- the states for the season p of the table of three columns

@@ -6,7 +6,7 @@
 --     Days                  each time is a day of the range or never
 --     Settling              x as a list of times, with the spare supporters
 --     Over                  no later row can change what a walk has found
---     Seen, Noting, Marking what a walk over the rows of u has found: how many support it at c, the least day above c on which one more may, and how many more then; one row more
+--     Seen, Noting          what a walk over the rows of u has found: how many support it at c, the least day above c on which one more may, and how many more then; one row more
 --     Glanced               a walk has counted enough, or has seen all rows
 --     Least, Looked         y is the least day from c on with k supporters, or never; what a look at u answers
 --     Losing                v loses a supporter, or does not
@@ -25,7 +25,7 @@ use mathlib.Core.List.{List}
 use lib.ListN.{length, getD, set}
 use lib.Dec.{leb}
 use Rattle.rings.specs.Words.{_and_, count}
-use Rattle.rings.specs.Table.{Table, size, dayOf}
+use Rattle.rings.specs.Table.{Table, dayOf}
 use Rattle.rings.specs.Ring.{touches, met, ring}
 use Rattle.rings.specs.CoreTimes.{never}
 use Rattle.rings.specs.Inner.Links.{otherOf, fresh}
@@ -61,25 +61,21 @@ pub record Over (day c stop above k count : ℕ) (r : Bool) : Type 0 where
   pub yes : r ≡ true → (c < day) × ((k ≤ count) ⊎ ((stop < day) ⊎ (above < day)))
   pub not : r ≡ false → (day ≤ c) ⊎ (day ≤ stop)
 
--- the rows of u below b, as they stand on day c: n support it, of the others that the range has none comes in before the day above, and on that day at least `more` do
+-- the rows of u below b, as they stand on day c: n support it, of the others that the range has none comes in before the day above, and on that day, if there is one, at least `more` do
 pub record Seen (t : Table) (x : ℕ → ℕ) (lo hi c u b n above more : ℕ) : Type 0 where
   pub counted : n ≡ backers t x lo c u b
   pub rises : c < above
   pub none-between : (j : ℕ) → j < b → fresh t lo j ≡ true → touches t j u ≡ true → dayOf t j ≤ hi → (value t x j u ≤ c) ⊎ (above ≤ value t x j u)
   pub day : (above ≤ hi) ⊎ (above ≡ never)
-  pub then : n + more ≤ backers t x lo above u b
+  pub few : n + more ≤ b
+  pub then : (above ≡ never) ⊎ (n + more ≤ backers t x lo above u b)
 
--- one row more, of value z
+-- one row more, of value z: never for one that is not the first of its pair
 pub data Noting (z c n above more n′ above′ more′ : ℕ) : Type 0 where
   back : z ≤ c → n′ ≡ n + 1 → above′ ≡ above → more′ ≡ more → Noting z c n above more n′ above′ more′
   nearer : c < z → z < above → n′ ≡ n → above′ ≡ z → more′ ≡ 1 → Noting z c n above more n′ above′ more′
   level : c < z → z ≡ above → n′ ≡ n → above′ ≡ above → more′ ≡ more + 1 → Noting z c n above more n′ above′ more′
   farther : c < z → above ≤ z → n′ ≡ n → above′ ≡ above → more′ ≡ more → Noting z c n above more n′ above′ more′
-
--- the same if the row is the first of its pair, as y says; else nothing
-pub data Marking (y : Bool) (z c n above more n′ above′ more′ : ℕ) : Type 0 where
-  stale : y ≡ false → n′ ≡ n → above′ ≡ above → more′ ≡ more → Marking y z c n above more n′ above′ more′
-  counts : y ≡ true → Noting z c n above more n′ above′ more′ → Marking y z c n above more n′ above′ more′
 
 pub data Glanced (t : Table) (x : ℕ → ℕ) (lo hi c u m k n above more : ℕ) : Type 0 where
   full : k ≤ n → n ≤ backers t x lo c u m → Glanced t x lo hi c u m k n above more

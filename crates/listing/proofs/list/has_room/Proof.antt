@@ -1,6 +1,6 @@
-use native.Mathlib.Omega.{arith}
-use mathlib.Core.Path.{refl}
 use Rattle.listing.proofs.ProgressLaws.{room-most, room-counted}
+use mathlib.Core.Path.{refl}
+use native.Mathlib.Omega.{arith}
 use borrow.Author.Needs.{needs}
 use Rattle.listing.proofs.list.has_room.Statement.{statement}
 use Rattle.listing.proofs.list.has_room.Tie as tie
@@ -9,67 +9,67 @@ use Rattle.listing.proofs.list.has_room.Lts as lts
 use Rattle.listing.proofs.list.pass.Reads as pass-reads
 use Rattle.listing.proofs.longest.most.Reads as most-reads
 
--- src/list.rt:317:25
+-- src/list.rt:327:25
 add-most : tie.Need-add-most
 add-most c = search needs
 
--- src/list.rt:317:25
+-- src/list.rt:327:25
 sub-most : tie.Need-sub-most
 sub-most c = search needs
 
--- src/list.rt:317:24
+-- src/list.rt:327:24
 cast-most : tie.Need-cast-most
 cast-most c = search needs
 
--- src/list.rt:317:19
+-- src/list.rt:327:19
 most-requires : tie.Need-most-requires
 most-requires c κs = omega (arith, c .before .before .before .before .before .before .before .before .before .before .before .pre .1 .1 .1 .0, c .before .before .before .before .before .before .before .before .before .before .before .pre .1 .1 .0 .1, c .before .before .before .before .before .before .before .before .before .before .before .pre .1 .1 .0 .2)
 
--- src/list.rt:317:19
+-- src/list.rt:327:19
 cast-longest : tie.Need-cast-longest
 cast-longest c = search needs
 
--- src/list.rt:319:9
+-- src/list.rt:329:9
 returns : tie.Need-returns
 returns c = ((room-most _ _ _ _ (c .before .most .ensures) (c .if1 .taken), refl, refl, refl), c .before .before .before .before .before .before .before .before .before .before .before .before .before .pre .1 .0)
 
--- src/list.rt:321:9
+-- src/list.rt:331:9
 pass-requires : tie.Need-pass-requires
 pass-requires c κs = (c .before .before .before .before .before .before .before .before .before .before .before .before .before .before .before .before .before .before .before .before .before .pre .0, (c .before .before .before .before .before .before .before .before .before .before .before .before .before .before .before .before .before .before .before .before .before .pre .1 .0, (c .before .before .before .before .before .before .before .before .before .before .before .before .before .before .before .before .before .before .before .before .before .pre .1 .1 .0, (omega arith, c .before .before .before .before .before .before .before .before .before .before .before .before .before .before .before .before .before .before .before .before .before .pre .1 .1 .1 .1, c .before .before .before .before .before .before .before .before .before .before .before .before .before .before .before .before .before .before .before .before .before .pre .1 .1 .1 .2))))
 
--- src/list.rt:294:1
+-- src/list.rt:304:1
 same-length : tie.Need-same-length
 same-length c = search needs
 
--- src/list.rt:294:1
+-- src/list.rt:304:1
 same-length-2 : tie.Need-same-length-2
 same-length-2 c = search needs
 
--- src/list.rt:294:1
+-- src/list.rt:304:1
 same-length-3 : tie.Need-same-length-3
 same-length-3 c = search needs
 
--- src/list.rt:294:1
+-- src/list.rt:304:1
 same-length-4 : tie.Need-same-length-4
 same-length-4 c = search needs
 
--- src/list.rt:294:1
+-- src/list.rt:304:1
 same-length-5 : tie.Need-same-length-5
 same-length-5 c = search needs
 
--- src/list.rt:294:1
+-- src/list.rt:304:1
 same-length-6 : tie.Need-same-length-6
 same-length-6 c = search needs
 
--- src/list.rt:294:1
+-- src/list.rt:304:1
 same-length-7 : tie.Need-same-length-7
 same-length-7 c = search needs
 
--- src/list.rt:294:1
+-- src/list.rt:304:1
 same-length-8 : tie.Need-same-length-8
 same-length-8 c = search needs
 
--- src/list.rt:294:1
+-- src/list.rt:304:1
 returns-2 : tie.Need-returns-2
 returns-2 c = (room-counted _ _ _ _ (c .before .before .before .before .before .before .before .before .before .before .before .before .before .before .before .before .before .pass .ensures .0), c .before .before .before .before .before .before .before .before .before .before .before .before .before .before .before .before .before .pass .ensures .1)
 

@@ -1,16 +1,14 @@
-use Rattle.rings.proofs.TimeLaws.{row-late}
-use Rattle.rings.proofs.CoreTimeLaws.{row-before}
-use Rattle.rings.proofs.CountingLaws.{is-time, hist-start, hist-few, hist-next, hist-past}
-use Rattle.rings.proofs.WordLaws.{clash}
-use Rattle.rings.specs.Inner.Counting.{Histogram}
-use Rattle.rings.specs.Inner.Peeling.{query}
-use Rattle.rings.specs.CoreTimes.{rowTime}
-use Rattle.rings.specs.Table.{tableOf}
-use mathlib.Core.Path.{sym, _∙_}
-use Prim.Native.Nat.{_-_, _≤_}
-use borrow.Author.Tests.{not-true, not-false}
 use borrow.Author.Needs.{needs}
 use native.Mathlib.Omega.{arith}
+use Prim.Native.Nat.{_-_, _≤_}
+use mathlib.Core.Path.{sym, _∙_}
+use Rattle.rings.specs.Table.{tableOf}
+use Rattle.rings.specs.CoreTimes.{rowTime}
+use Rattle.rings.specs.Inner.Peeling.{query}
+use Rattle.rings.specs.Inner.Counting.{Histogram}
+use Rattle.rings.proofs.CountingLaws.{is-time, hist-start, hist-few, hist-next, hist-past}
+use Rattle.rings.proofs.CoreTimeLaws.{row-before}
+use Rattle.rings.proofs.TimeLaws.{row-late}
 use Rattle.rings.proofs.counts.count_times.Statement.{statement}
 use Rattle.rings.proofs.counts.count_times.Tie as tie
 use Rattle.rings.proofs.counts.count_times.Reads as reads
@@ -20,50 +18,46 @@ use Rattle.rings.proofs.links.clear.Reads as clear-reads
 use Rattle.rings.proofs.times.row_time.Reads as row-time-reads
 
 abbrev Inv-loop : tie.InvT-loop
-Inv-loop counting days first second links k s te lo end times counts₀ j₀ counts j = (lo ≤ j) × (j ≤ end) × Histogram (rowTime (tableOf days first second) (query k) te s) j counts
+Inv-loop days first second k s te lo end times counts₀ j₀ counts j = (lo ≤ j) × (j ≤ end) × Histogram (rowTime (tableOf days first second) (query k) te s) j counts
 
 abbrev μ-loop : tie.MeasureT-loop
-μ-loop counting days first second links k s te lo end times counts₀ j₀ counts j = end - j
+μ-loop days first second k s te lo end times counts₀ j₀ counts j = end - j
 
--- src/counts.rt:86:9
-returns : tie.Need-returns Inv-loop μ-loop
-returns c = λ h. clash h (not-true _ (c .if1 .taken))
-
--- src/counts.rt:88:5
+-- src/counts.rt:83:5
 clear-requires : tie.Need-clear-requires Inv-loop μ-loop
 clear-requires c κs = search needs
 
--- src/counts.rt:90:5
+-- src/counts.rt:85:5
 loop-holds : tie.Need-loop-holds Inv-loop μ-loop
-loop-holds c = (omega arith, c .before .before .before .before .before .before .before .before .before .before .before .pre .1 .0 .0 .ordered, hist-start _ _ _ (c .before .before .before .before .before .before .before .before .before .before .before .pre .1 .1 (not-false _ (c .before .before .before .before .if1 .left)) .0) (c .before .before .clear .ensures) (λ j h. row-before _ _ _ _ j (c .before .before .before .before .before .before .before .before .before .before .before .pre .0 .setting .before-lo j h)))
+loop-holds c = (omega arith, c .before .before .before .before .before .before .before .before .before .pre .1 .0 .0 .ordered, hist-start _ _ _ (c .before .before .before .before .before .before .before .before .before .pre .1 .1 .0) (c .before .before .clear .ensures) (λ j h. row-before _ _ _ _ j (c .before .before .before .before .before .before .before .before .before .pre .0 .setting .before-lo j h)))
 
--- src/counts.rt:91:13
+-- src/counts.rt:86:13
 row-time-requires : tie.Need-row-time-requires Inv-loop μ-loop
-row-time-requires c κs = (c .before .before .before .before .before .before .before .before .before .before .before .before .before .pre .0, (c .before .before .before .before .before .before .before .before .before .before .before .before .before .pre .1 .0 .0, (c .before .before .before .before .before .before .before .before .before .before .before .before .before .pre .1 .0 .1, omega (arith, c .loop-test .taken, c .before .before .before .before .before .before .before .before .before .before .before .before .before .pre .1 .0 .0 .within))))
+row-time-requires c κs = (c .before .before .before .before .before .before .before .before .before .before .before .pre .0, (c .before .before .before .before .before .before .before .before .before .before .before .pre .1 .0 .0, (c .before .before .before .before .before .before .before .before .before .before .before .pre .1 .0 .1, omega (arith, c .loop-test .taken, c .before .before .before .before .before .before .before .before .before .before .before .pre .1 .0 .0 .within))))
 
--- src/counts.rt:92:9
+-- src/counts.rt:87:9
 add-count-requires : tie.Need-add-count-requires Inv-loop μ-loop
-add-count-requires c κs = hist-few _ (c .before .before .before .loop .inv .2) (omega (arith, c .before .before .loop-test .taken, c .before .before .before .before .before .before .before .before .before .before .before .before .before .before .before .pre .1 .0 .0 .within, c .before .before .before .before .before .before .before .before .before .before .before .before .before .before .before .pre .0 .sound .most)) (is-time _ _ _ _ _ (c .before .before .before .before .before .before .before .before .before .before .before .before .before .before .before .pre .1 .1 (not-false _ (c .before .before .before .before .before .before .before .before .if1 .left)) .1) (c .before .row-time .ensures))
+add-count-requires c κs = hist-few _ (c .before .before .before .loop .inv .2) (omega (arith, c .before .before .loop-test .taken, c .before .before .before .before .before .before .before .before .before .before .before .before .before .pre .1 .0 .0 .within, c .before .before .before .before .before .before .before .before .before .before .before .before .before .pre .0 .sound .most)) (is-time _ _ _ _ _ (c .before .before .before .before .before .before .before .before .before .before .before .before .before .pre .1 .1 .1) (c .before .row-time .ensures))
 
--- src/counts.rt:93:9
+-- src/counts.rt:88:9
 add-j : tie.Need-add-j Inv-loop μ-loop
-add-j c = omega (arith, c .before .before .before .before .before .loop-test .taken, c .before .before .before .before .before .before .before .before .before .before .before .before .before .before .before .before .before .before .pre .1 .0 .0 .within, c .before .before .before .before .before .before .before .before .before .before .before .before .before .before .before .before .before .before .pre .0 .sound .most)
+add-j c = omega (arith, c .before .before .before .before .before .loop-test .taken, c .before .before .before .before .before .before .before .before .before .before .before .before .before .before .before .before .pre .1 .0 .0 .within, c .before .before .before .before .before .before .before .before .before .before .before .before .before .before .before .before .pre .0 .sound .most)
 
--- src/counts.rt:90:5
+-- src/counts.rt:85:5
 loop-less : tie.Need-loop-less Inv-loop μ-loop
 loop-less c = omega (arith, c .before .before .before .before .before .loop-test .taken)
 
--- src/counts.rt:90:5
+-- src/counts.rt:85:5
 loop-again : tie.Need-loop-again Inv-loop μ-loop
 loop-again c = (omega (arith, c .before .before .before .before .before .before .loop .inv .0), omega (arith, c .before .before .before .before .before .loop-test .taken), hist-next _ (c .before .before .before .before .before .before .loop .inv .2) (c .before .before .before .before .row-time .ensures) (c .before .before .add-count .ensures))
 
 -- src/counts.rt:66:1
 same-length : tie.Need-same-length Inv-loop μ-loop
-same-length c = c .before .loop .inv .2 .long ∙ sym (c .before .before .before .before .before .before .before .before .before .before .before .before .before .pre .1 .1 (not-false _ (c .before .before .before .before .before .before .if1 .left)) .0)
+same-length c = c .before .loop .inv .2 .long ∙ sym (c .before .before .before .before .before .before .before .before .before .before .before .pre .1 .1 .0)
 
 -- src/counts.rt:66:1
-returns-2 : tie.Need-returns-2 Inv-loop μ-loop
-returns-2 c = λ h. hist-past _ (c .before .loop .inv .2) (omega (arith, c .before .loop .inv .1, c .before .before .before .before .before .before .before .before .before .before .before .before .before .pre .1 .0 .0 .within)) (λ j a b. sym (row-late _ _ _ _ _ (c .before .before .before .before .before .before .before .before .before .before .before .before .before .pre .0) (c .before .before .before .before .before .before .before .before .before .before .before .before .before .pre .1 .0 .0) (c .before .before .before .before .before .before .before .before .before .before .before .before .before .pre .1 .0 .1) b (omega (arith, a, c .loop-test .left))))
+returns : tie.Need-returns Inv-loop μ-loop
+returns c = hist-past _ (c .before .loop .inv .2) (omega (arith, c .before .loop .inv .1, c .before .before .before .before .before .before .before .before .before .before .before .pre .1 .0 .0 .within)) (λ j a b. sym (row-late _ _ _ _ (c .before .before .before .before .before .before .before .before .before .before .before .pre .0) (c .before .before .before .before .before .before .before .before .before .before .before .pre .1 .0 .0) (c .before .before .before .before .before .before .before .before .before .before .before .pre .1 .0 .1) b (omega (arith, a, c .loop-test .left))))
 
 pub count-times-spec : {M : Type 1} → statement M
 count-times-spec =
@@ -71,7 +65,6 @@ count-times-spec =
     (tie.spec
     Inv-loop
     μ-loop
-    returns
     clear-requires
     loop-holds
     row-time-requires
@@ -80,4 +73,4 @@ count-times-spec =
     loop-less
     loop-again
     same-length
-    returns-2)
+    returns)

@@ -1,12 +1,12 @@
-use Rattle.rings.proofs.ShiftLaws.{mixed, drop-from, drop-start, drop-asks, drop-next, drop-end}
-use Rattle.rings.specs.Inner.Counting.{timeBy, Histogram}
-use Rattle.rings.specs.Inner.Peeling.{query, guess}
-use Rattle.rings.specs.CoreTimes.{rowTime}
-use Rattle.rings.specs.Table.{tableOf}
-use lib.ListN.{length}
-use mathlib.Core.Path.{sym, _∙_}
-use Prim.Native.Nat.{_+_, _-_, _≤_}
 use native.Mathlib.Omega.{arith}
+use Prim.Native.Nat.{_+_, _-_, _≤_}
+use mathlib.Core.Path.{sym, _∙_}
+use lib.ListN.{length}
+use Rattle.rings.specs.Table.{tableOf}
+use Rattle.rings.specs.CoreTimes.{rowTime}
+use Rattle.rings.specs.Inner.Peeling.{query, guess}
+use Rattle.rings.specs.Inner.Counting.{timeBy, Histogram}
+use Rattle.rings.proofs.ShiftLaws.{mixed, drop-from, drop-start, drop-asks, drop-next, drop-end}
 use Rattle.rings.proofs.counts.drop_rows.Statement.{statement}
 use Rattle.rings.proofs.counts.drop_rows.Tie as tie
 use Rattle.rings.proofs.counts.drop_rows.Reads as reads
@@ -15,42 +15,42 @@ use Rattle.rings.proofs.counts.drop_count.Reads as drop-count-reads
 use Rattle.rings.proofs.times.row_time.Reads as row-time-reads
 
 abbrev Inv-loop : tie.InvT-loop
-Inv-loop days first second links k s te lo next end times counts₀ j₀ counts j = (lo ≤ j) × (j ≤ next) × Histogram (mixed (rowTime (tableOf days first second) (query k) te s) (timeBy (tableOf days first second) (guess times) (s + 1) te) j) (length days) counts
+Inv-loop days first second k s te lo next end times counts₀ j₀ counts j = (lo ≤ j) × (j ≤ next) × Histogram (mixed (rowTime (tableOf days first second) (query k) te s) (timeBy (tableOf days first second) (guess times) (s + 1) te) j) (length days) counts
 
 abbrev μ-loop : tie.MeasureT-loop
-μ-loop days first second links k s te lo next end times counts₀ j₀ counts j = next - j
+μ-loop days first second k s te lo next end times counts₀ j₀ counts j = next - j
 
--- src/counts.rt:118:5
+-- src/counts.rt:112:5
 loop-holds : tie.Need-loop-holds Inv-loop μ-loop
-loop-holds c = (omega arith, drop-from _ _ _ _ _ _ _ (c .before .before .before .before .before .before .pre .0 .setting) (c .before .before .before .before .before .before .pre .1 .0 .1) (c .before .before .before .before .before .before .pre .1 .0 .3) (omega (arith, c .before .before .before .before .before .before .pre .1 .0 .0 .ordered, c .before .before .before .before .before .before .pre .1 .0 .0 .within)), drop-start _ _ _ _ _ _ _ (c .before .before .before .before .before .before .pre .0 .setting) (c .before .before .before .before .before .before .pre .1 .0 .1) (c .before .before .before .before .before .before .pre .1 .0 .3) (drop-from _ _ _ _ _ _ _ (c .before .before .before .before .before .before .pre .0 .setting) (c .before .before .before .before .before .before .pre .1 .0 .1) (c .before .before .before .before .before .before .pre .1 .0 .3) (omega (arith, c .before .before .before .before .before .before .pre .1 .0 .0 .ordered, c .before .before .before .before .before .before .pre .1 .0 .0 .within))) (c .before .before .before .before .before .before .pre .1 .1))
+loop-holds c = (omega arith, drop-from _ _ _ _ _ _ _ (c .before .before .before .before .before .pre .0 .setting) (c .before .before .before .before .before .pre .1 .0 .1) (c .before .before .before .before .before .pre .1 .0 .3) (omega (arith, c .before .before .before .before .before .pre .1 .0 .0 .ordered, c .before .before .before .before .before .pre .1 .0 .0 .within)), drop-start _ _ _ _ _ _ _ (c .before .before .before .before .before .pre .0 .setting) (c .before .before .before .before .before .pre .1 .0 .1) (c .before .before .before .before .before .pre .1 .0 .3) (drop-from _ _ _ _ _ _ _ (c .before .before .before .before .before .pre .0 .setting) (c .before .before .before .before .before .pre .1 .0 .1) (c .before .before .before .before .before .pre .1 .0 .3) (omega (arith, c .before .before .before .before .before .pre .1 .0 .0 .ordered, c .before .before .before .before .before .pre .1 .0 .0 .within))) (c .before .before .before .before .before .pre .1 .1))
 
--- src/counts.rt:119:13
+-- src/counts.rt:113:13
 row-time-requires : tie.Need-row-time-requires Inv-loop μ-loop
-row-time-requires c κs = (c .before .before .before .before .before .before .before .before .pre .0, (c .before .before .before .before .before .before .before .before .pre .1 .0 .0, (c .before .before .before .before .before .before .before .before .pre .1 .0 .1, omega (arith, c .loop-test .taken, c .before .before .before .before .before .before .before .before .pre .1 .0 .3 .within))))
+row-time-requires c κs = (c .before .before .before .before .before .before .before .pre .0, (c .before .before .before .before .before .before .before .pre .1 .0 .0, (c .before .before .before .before .before .before .before .pre .1 .0 .1, omega (arith, c .loop-test .taken, c .before .before .before .before .before .before .before .pre .1 .0 .3 .within))))
 
--- src/counts.rt:120:9
+-- src/counts.rt:114:9
 drop-count-requires : tie.Need-drop-count-requires Inv-loop μ-loop
-drop-count-requires c κs = drop-asks _ _ _ _ _ _ _ (c .before .before .before .before .before .before .before .before .before .before .pre .0 .setting) (c .before .before .before .before .before .before .before .before .before .before .pre .1 .0 .1) (c .before .before .before .before .before .before .before .before .before .before .pre .1 .0 .3) (c .before .before .loop-test .taken) (c .before .before .before .before .before .before .before .before .before .before .pre .1 .0 .2) (c .before .row-time .ensures) (c .before .before .before .loop .inv .2)
+drop-count-requires c κs = drop-asks _ _ _ _ _ _ _ (c .before .before .before .before .before .before .before .before .before .pre .0 .setting) (c .before .before .before .before .before .before .before .before .before .pre .1 .0 .1) (c .before .before .before .before .before .before .before .before .before .pre .1 .0 .3) (c .before .before .loop-test .taken) (c .before .before .before .before .before .before .before .before .before .pre .1 .0 .2) (c .before .row-time .ensures) (c .before .before .before .loop .inv .2)
 
--- src/counts.rt:121:9
+-- src/counts.rt:115:9
 add-j : tie.Need-add-j Inv-loop μ-loop
-add-j c = omega (arith, c .before .before .before .before .before .loop-test .taken, c .before .before .before .before .before .before .before .before .before .before .before .before .before .pre .1 .0 .3 .within, c .before .before .before .before .before .before .before .before .before .before .before .before .before .pre .0 .sound .most)
+add-j c = omega (arith, c .before .before .before .before .before .loop-test .taken, c .before .before .before .before .before .before .before .before .before .before .before .before .pre .1 .0 .3 .within, c .before .before .before .before .before .before .before .before .before .before .before .before .pre .0 .sound .most)
 
--- src/counts.rt:118:5
+-- src/counts.rt:112:5
 loop-less : tie.Need-loop-less Inv-loop μ-loop
 loop-less c = omega (arith, c .before .before .before .before .before .loop-test .taken)
 
--- src/counts.rt:118:5
+-- src/counts.rt:112:5
 loop-again : tie.Need-loop-again Inv-loop μ-loop
-loop-again c = (omega (arith, c .before .before .before .before .before .before .loop .inv .0), omega (arith, c .before .before .before .before .before .loop-test .taken), drop-next _ _ _ _ _ _ _ (c .before .before .before .before .before .before .before .before .before .before .before .before .before .pre .0 .setting) (c .before .before .before .before .before .before .before .before .before .before .before .before .before .pre .1 .0 .1) (c .before .before .before .before .before .before .before .before .before .before .before .before .before .pre .1 .0 .3) (c .before .before .before .before .before .loop-test .taken) (c .before .before .before .before .before .before .before .before .before .before .before .before .before .pre .1 .0 .2) (c .before .before .before .before .row-time .ensures) (c .before .before .before .before .before .before .loop .inv .2) (c .before .before .drop-count .ensures))
+loop-again c = (omega (arith, c .before .before .before .before .before .before .loop .inv .0), omega (arith, c .before .before .before .before .before .loop-test .taken), drop-next _ _ _ _ _ _ _ (c .before .before .before .before .before .before .before .before .before .before .before .before .pre .0 .setting) (c .before .before .before .before .before .before .before .before .before .before .before .before .pre .1 .0 .1) (c .before .before .before .before .before .before .before .before .before .before .before .before .pre .1 .0 .3) (c .before .before .before .before .before .loop-test .taken) (c .before .before .before .before .before .before .before .before .before .before .before .before .pre .1 .0 .2) (c .before .before .before .before .row-time .ensures) (c .before .before .before .before .before .before .loop .inv .2) (c .before .before .drop-count .ensures))
 
--- src/counts.rt:98:1
+-- src/counts.rt:93:1
 same-length : tie.Need-same-length Inv-loop μ-loop
-same-length c = c .before .loop .inv .2 .long ∙ sym (c .before .before .before .before .before .before .before .before .pre .1 .1 .long)
+same-length c = c .before .loop .inv .2 .long ∙ sym (c .before .before .before .before .before .before .before .pre .1 .1 .long)
 
--- src/counts.rt:98:1
+-- src/counts.rt:93:1
 returns : tie.Need-returns Inv-loop μ-loop
-returns c = drop-end _ _ _ _ _ _ _ (c .before .before .before .before .before .before .before .before .pre .0 .setting) (c .before .before .before .before .before .before .before .before .pre .1 .0 .1) (c .before .before .before .before .before .before .before .before .pre .1 .0 .3) (c .loop-test .left) (c .before .loop .inv .2)
+returns c = drop-end _ _ _ _ _ _ _ (c .before .before .before .before .before .before .before .pre .0 .setting) (c .before .before .before .before .before .before .before .pre .1 .0 .1) (c .before .before .before .before .before .before .before .pre .1 .0 .3) (c .loop-test .left) (c .before .loop .inv .2)
 
 pub drop-rows-spec : {M : Type 1} → statement M
 drop-rows-spec =

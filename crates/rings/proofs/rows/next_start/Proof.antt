@@ -1,66 +1,105 @@
-use native.Mathlib.Omega.{arith}
-use Rattle.rings.proofs.DayLaws.{ready-of, span-of}
-use Rattle.rings.proofs.SettleLaws.{split-rises}
+use Rattle.rings.proofs.ShelfLaws.{covered-rise}
+use Rattle.rings.proofs.SettleLaws.{split-rises, core-never}
+use Rattle.rings.proofs.DayLaws.{open-of, open-framed, shelves-paired, span-of, span-after}
 use mathlib.Core.Path.{_∙_, refl}
+use native.Mathlib.Nat.{le-refl}
+use native.Mathlib.Omega.{arith}
+use borrow.Author.Needs.{needs}
 use Rattle.rings.proofs.rows.next_start.Statement.{statement}
 use Rattle.rings.proofs.rows.next_start.Tie as tie
 use Rattle.rings.proofs.rows.next_start.Reads as reads
 use Rattle.rings.proofs.rows.next_start.Lts as lts
 use Rattle.rings.proofs.counts.drop_rows.Reads as drop-rows-reads
-use Rattle.rings.proofs.links.move_heads.Reads as move-heads-reads
-use Rattle.rings.proofs.settle.advance.Reads as advance-reads
+use Rattle.rings.proofs.rows.first_start.Reads as first-start-reads
+use Rattle.rings.proofs.settle.step.Reads as step-reads
+use Rattle.rings.proofs.shelf.pass_heads.Reads as pass-heads-reads
 
--- src/rows.rt:116:5
+-- src/rows.rt:112:5
 drop-rows-requires : tie.Need-drop-rows-requires
-drop-rows-requires c κs = (c .before .before .before .before .before .before .before .before .before .before .before .pre .0 .ready, ((span-of (c .before .before .before .before .before .before .before .before .before .before .before .pre .1 .0 .0) (c .before .before .before .before .before .before .before .before .before .before .before .pre .1 .0 .2) (c .before .before .before .before .before .before .before .before .before .before .before .pre .1 .0 .4), c .before .before .before .before .before .before .before .before .before .before .before .pre .0 .times-are, c .before .before .before .before .before .before .before .before .before .before .before .pre .1 .0 .1, c .before .before .before .before .before .before .before .before .before .before .before .pre .1 .0 .3), c .before .before .before .before .before .before .before .before .before .before .before .pre .0 .timed))
+drop-rows-requires c κs = (open-framed (c .before .before .before .before .before .before .before .before .before .before .pre .0 .opened), ((span-of (c .before .before .before .before .before .before .before .before .before .before .pre .1 .0 .0) (c .before .before .before .before .before .before .before .before .before .before .pre .1 .0 .2) (c .before .before .before .before .before .before .before .before .before .before .pre .1 .0 .4), c .before .before .before .before .before .before .before .before .before .before .pre .0 .times-are, c .before .before .before .before .before .before .before .before .before .before .pre .1 .0 .1, c .before .before .before .before .before .before .before .before .before .before .pre .1 .0 .3), c .before .before .before .before .before .before .before .before .before .before .pre .0 .timed))
 
--- src/rows.rt:130:49
-add-move-heads : tie.Need-add-move-heads
-add-move-heads c = omega (arith, c .before .before .before .before .before .before .before .before .before .before .before .before .before .before .before .pre .1 .0 .0, c .before .before .before .before .before .before .before .before .before .before .before .before .before .before .before .pre .1 .0 .1)
+-- src/rows.rt:113:5
+pass-heads-requires : tie.Need-pass-heads-requires
+pass-heads-requires c κs = (c .before .before .before .before .before .before .before .before .before .before .before .before .before .before .pre .0 .opened .sound, (c .before .before .before .before .before .before .before .before .before .before .before .before .before .before .pre .0 .opened .shelves, (split-rises (c .before .before .before .before .before .before .before .before .before .before .before .before .before .before .pre .1 .0 .2) (c .before .before .before .before .before .before .before .before .before .before .before .before .before .before .pre .1 .0 .3)), c .before .before .before .before .before .before .before .before .before .before .before .before .before .before .pre .1 .0 .3 .within))
 
--- src/rows.rt:130:5
-move-heads-requires : tie.Need-move-heads-requires
-move-heads-requires c κs = (c .before .before .before .before .before .before .before .before .before .before .before .before .before .before .before .pre .0 .ready .sound, (c .before .before .before .before .before .before .before .before .before .before .before .before .before .before .before .pre .0 .ready .linked, (split-rises (c .before .before .before .before .before .before .before .before .before .before .before .before .before .before .before .pre .1 .0 .2) (c .before .before .before .before .before .before .before .before .before .before .before .before .before .before .before .pre .1 .0 .3), c .before .before .before .before .before .before .before .before .before .before .before .before .before .before .before .pre .1 .0 .2, c .before .before .before .before .before .before .before .before .before .before .before .before .before .before .before .pre .1 .0 .3)))
+-- src/rows.rt:114:9
+step-requires : tie.Need-step-requires
+step-requires c κs = ((open-of (c .before .before .before .before .before .before .before .before .before .before .before .before .before .before .before .before .before .before .before .before .before .before .pre .0 .opened .sound) (c .before .before .before .before .before .before .before .pass-heads .ensures .0) (c .before .before .before .before .before .before .before .before .before .before .before .before .before .before .before .before .before .before .before .before .before .before .pre .0 .opened .setting .some-k) (c .before .before .before .before .before .before .before .before .before .before .before .before .before .before .before .before .before .before .before .before .before .before .pre .1 .0 .1) (c .before .before .before .before .before .before .before .before .before .before .before .before .before .before .before .before .before .before .before .before .before .before .pre .1 .0 .3)), (c .before .before .before .before .before .before .before .before .before .before .before .before .before .before .before .before .before .before .before .before .before .before .pre .1 .0, ((c .before .before .before .before .before .before .before .before .before .before .before .before .before .before .before .before .before .before .before .before .before .before .pre .0 .times-are, c .before .before .before .before .before .before .before .before .before .before .before .before .before .before .before .before .before .before .before .before .before .before .pre .0 .spares, c .before .before .before .before .before .before .before .before .before .before .before .before .before .before .before .before .before .before .before .before .before .before .pre .1 .1, c .before .before .before .before .before .before .before .pass-heads .ensures .1 _ (c .before .before .before .before .before .before .before .before .before .before .before .before .before .before .before .before .before .before .before .before .before .before .pre .0 .covered)), λ y. c .before .before .before .before .before .before .before .before .before .before .before .drop-rows .ensures)))
 
--- src/rows.rt:131:5
-advance-requires : tie.Need-advance-requires
-advance-requires c κs = (ready-of (c .before .before .before .before .before .before .before .before .before .before .before .before .before .before .before .before .before .before .before .before .before .before .before .pre .0 .ready .sound) (c .before .before .before .before .before .before .before .move-heads .ensures .0) (c .before .before .before .before .before .before .before .before .before .before .before .before .before .before .before .before .before .before .before .before .before .before .before .pre .0 .ready .setting .some-k) (c .before .before .before .before .before .before .before .before .before .before .before .before .before .before .before .before .before .before .before .before .before .before .before .pre .1 .0 .1) (c .before .before .before .before .before .before .before .before .before .before .before .before .before .before .before .before .before .before .before .before .before .before .before .pre .1 .0 .3), (c .before .before .before .before .before .before .before .before .before .before .before .before .before .before .before .before .before .before .before .before .before .before .before .pre .1 .0, ((c .before .before .before .before .before .before .before .before .before .before .before .before .before .before .before .before .before .before .before .before .before .before .before .pre .0 .times-are, c .before .before .before .before .before .before .before .before .before .before .before .before .before .before .before .before .before .before .before .before .before .before .before .pre .0 .spares, c .before .before .before .before .before .before .before .before .before .before .before .before .before .before .before .before .before .before .before .before .before .before .before .pre .1 .1), λ y. c .before .before .before .before .before .before .before .before .before .before .before .drop-rows .ensures)))
-
--- src/rows.rt:95:1
+-- src/rows.rt:132:9
 same-length : tie.Need-same-length
-same-length c = c .before .before .before .before .before .before .before .before .before .before .before .before .before .before .before .before .move-heads .kept .1 .1 .1 .0
+same-length c = search needs
 
--- src/rows.rt:95:1
+-- src/rows.rt:132:9
 same-length-2 : tie.Need-same-length-2
-same-length-2 c = c .before .before .before .before .before .before .before .before .advance .kept .1 .1 .1 .1 .1 .1 .1 .1 .1 .1 .0
+same-length-2 c = search needs
 
--- src/rows.rt:95:1
+-- src/rows.rt:132:9
 same-length-3 : tie.Need-same-length-3
-same-length-3 c = c .before .before .before .before .before .before .before .before .advance .kept .1 .1 .1 .1 .1 .1 .1 .1 .1 .1 .1 .0
+same-length-3 c = search needs
 
--- src/rows.rt:95:1
+-- src/rows.rt:132:9
 same-length-4 : tie.Need-same-length-4
-same-length-4 c = c .before .before .before .before .before .before .before .before .advance .kept .1 .1 .1 .1 .1 .1 .1 .1 .1 .1 .1 .1 .0
+same-length-4 c = search needs
 
--- src/rows.rt:95:1
+-- src/rows.rt:132:9
 same-length-5 : tie.Need-same-length-5
-same-length-5 c = c .before .before .before .before .before .before .before .before .advance .kept .1 .1 .1 .1 .1 .1 .1 .1 .1 .1 .1 .1 .1 .1 .0 ∙ c .before .before .before .before .before .before .before .before .before .before .before .before .before .before .before .before .before .before .before .before .drop-rows .kept .1 .1 .1 .1 .1 .1 .1 .1 .1 .1 .1 .0
+same-length-5 c = search needs
 
--- src/rows.rt:95:1
+-- src/rows.rt:132:9
 returns : tie.Need-returns
-returns c = record { ready = ready-of (c .before .before .before .before .before .before .before .before .before .before .before .before .before .before .before .before .before .before .before .before .before .before .before .before .before .before .before .before .before .before .before .before .pre .0 .ready .sound) (c .before .before .before .before .before .before .before .before .before .before .before .before .before .before .before .before .move-heads .ensures .0) (c .before .before .before .before .before .before .before .before .before .before .before .before .before .before .before .before .before .before .before .before .before .before .before .before .before .before .before .before .before .before .before .before .pre .0 .ready .setting .some-k) (c .before .before .before .before .before .before .before .before .before .before .before .before .before .before .before .before .before .before .before .before .before .before .before .before .before .before .before .before .before .before .before .before .pre .1 .0 .1) (c .before .before .before .before .before .before .before .before .before .before .before .before .before .before .before .before .before .before .before .before .before .before .before .before .before .before .before .before .before .before .before .before .pre .1 .0 .3); times-are = c .before .before .before .before .before .before .before .before .advance .ensures .0 .0; spares = c .before .before .before .before .before .before .before .before .advance .ensures .0 .1; timed = c .before .before .before .before .before .before .before .before .advance .ensures .1 refl }
+returns c = record { opened = (open-of (c .before .before .before .before .before .before .before .before .before .before .before .before .before .before .before .before .before .before .before .before .before .before .before .before .before .before .before .before .before .before .before .before .pre .0 .opened .sound) (c .before .before .before .before .before .before .before .before .before .before .before .before .before .before .before .before .before .pass-heads .ensures .0) (c .before .before .before .before .before .before .before .before .before .before .before .before .before .before .before .before .before .before .before .before .before .before .before .before .before .before .before .before .before .before .before .before .pre .0 .opened .setting .some-k) (c .before .before .before .before .before .before .before .before .before .before .before .before .before .before .before .before .before .before .before .before .before .before .before .before .before .before .before .before .before .before .before .before .pre .1 .0 .1) (c .before .before .before .before .before .before .before .before .before .before .before .before .before .before .before .before .before .before .before .before .before .before .before .before .before .before .before .before .before .before .before .before .pre .1 .0 .3)); covered = covered-rise (core-never (c .before .before .before .before .before .before .before .before .before .before .before .before .before .before .before .before .before .before .before .before .before .before .before .before .before .before .before .before .before .before .before .before .pre .0 .opened .setting .fits) (c .before .before .before .before .before .before .before .before .before .before .before .before .before .before .before .before .before .before .before .before .before .before .before .before .before .before .before .before .before .before .before .before .pre .0 .times-are) (c .before .before .before .before .before .before .before .before .before .step .ensures .0 (c .if1 .taken) .0)) (le-refl _) (c .before .before .before .before .before .before .before .before .before .before .before .before .before .before .before .before .before .pass-heads .ensures .1 _ (c .before .before .before .before .before .before .before .before .before .before .before .before .before .before .before .before .before .before .before .before .before .before .before .before .before .before .before .before .before .before .before .before .pre .0 .covered)); times-are = c .before .before .before .before .before .before .before .before .before .step .ensures .0 (c .if1 .taken) .0; spares = c .before .before .before .before .before .before .before .before .before .step .ensures .0 (c .if1 .taken) .1; timed = c .before .before .before .before .before .before .before .before .before .step .ensures .1 (c .if1 .taken) refl }
+
+-- src/rows.rt:140:9
+add-first-start : tie.Need-add-first-start
+add-first-start c = omega (arith, c .before .before .before .before .before .before .before .before .before .before .before .before .before .before .before .before .before .before .before .before .before .before .before .before .before .before .before .before .before .before .before .before .before .pre .1 .0 .0, c .before .before .before .before .before .before .before .before .before .before .before .before .before .before .before .before .before .before .before .before .before .before .before .before .before .before .before .before .before .before .before .before .before .pre .1 .0 .1)
+
+-- src/rows.rt:134:5
+first-start-requires : tie.Need-first-start-requires
+first-start-requires c κs = (c .before .before .before .before .before .before .before .before .before .before .before .before .before .before .before .before .before .before .before .before .before .before .before .before .before .before .before .before .before .before .before .before .before .before .before .before .before .pre .0 .opened .sound, (shelves-paired (c .before .before .before .before .before .before .before .before .before .before .before .before .before .before .before .before .before .before .before .before .before .before .pass-heads .ensures .0), ((c .before .before .before .before .before .before .before .before .before .before .before .before .before .before .before .before .before .before .before .before .before .before .before .before .before .before .before .before .before .before .before .before .before .before .before .before .before .pre .0 .opened .setting .some-k, c .before .before .before .before .before .before .before .before .before .before .before .before .before .before .before .before .before .before .before .before .before .before .before .before .before .before .before .before .before .before .before .before .before .before .before .before .before .pre .1 .0 .1, c .before .before .before .before .before .before .before .before .before .before .before .before .before .before .before .before .before .before .before .before .before .before .before .before .before .before .before .before .before .before .before .before .before .before .before .before .before .pre .1 .0 .3, span-after (omega (arith, c .before .before .before .before .before .before .before .before .before .before .before .before .before .before .before .before .before .before .before .before .before .before .before .before .before .before .before .before .before .before .before .before .before .before .before .before .before .pre .1 .0 .0)) (c .before .before .before .before .before .before .before .before .before .before .before .before .before .before .before .before .before .before .before .before .before .before .before .before .before .before .before .before .before .before .before .before .before .before .before .before .before .pre .1 .0 .3) (c .before .before .before .before .before .before .before .before .before .before .before .before .before .before .before .before .before .before .before .before .before .before .before .before .before .before .before .before .before .before .before .before .before .before .before .before .before .pre .1 .0 .4)), (c .before .before .before .before .before .before .before .before .before .before .before .before .before .before .step .kept .1 .1 .1 .1 .1 .1 .1 .1 .1 .1 .0 ∙ c .before .before .before .before .before .before .before .before .before .before .before .before .before .before .before .before .before .before .before .before .before .before .before .before .before .before .before .before .before .before .before .before .before .before .before .before .before .pre .0 .times-are .long, c .before .before .before .before .before .before .before .before .before .before .before .before .before .before .step .kept .1 .1 .1 .1 .1 .1 .1 .1 .1 .1 .1 .0 ∙ c .before .before .before .before .before .before .before .before .before .before .before .before .before .before .before .before .before .before .before .before .before .before .before .before .before .before .before .before .before .before .before .before .before .before .before .before .before .pre .0 .spares .long, c .before .before .before .before .before .before .before .before .before .before .before .before .before .before .step .kept .1 .1 .1 .1 .1 .1 .1 .1 .1 .1 .1 .1 .0 ∙ c .before .before .before .before .before .before .before .before .before .before .before .before .before .before .before .before .before .before .before .before .before .before .before .before .before .before .before .before .before .before .before .before .before .before .before .before .before .pre .1 .1, c .before .before .before .before .before .before .before .before .before .before .before .before .before .before .step .kept .1 .1 .1 .1 .1 .1 .1 .1 .1 .1 .1 .1 .1 .1 .0 ∙ (c .before .before .before .before .before .before .before .before .before .before .before .before .before .before .before .before .before .before .before .before .before .before .before .before .before .before .drop-rows .kept .1 .1 .1 .1 .1 .1 .1 .1 .1 .1 .0 ∙ c .before .before .before .before .before .before .before .before .before .before .before .before .before .before .before .before .before .before .before .before .before .before .before .before .before .before .before .before .before .before .before .before .before .before .before .before .before .pre .0 .timed .long)))))
+
+-- src/rows.rt:91:1
+same-length-6 : tie.Need-same-length-6
+same-length-6 c = c .before .before .before .before .before .before .before .before .before .before .first-start .kept .1 .1 .1 .0 ∙ c .before .before .before .before .before .before .before .before .before .before .before .before .before .before .before .before .before .before .before .before .before .before .before .before .before .before .before .before .before .before .before .before .before .pass-heads .kept .1 .1 .1 .0
+
+-- src/rows.rt:91:1
+same-length-7 : tie.Need-same-length-7
+same-length-7 c = search needs
+
+-- src/rows.rt:91:1
+same-length-8 : tie.Need-same-length-8
+same-length-8 c = search needs
+
+-- src/rows.rt:91:1
+same-length-9 : tie.Need-same-length-9
+same-length-9 c = search needs
+
+-- src/rows.rt:91:1
+same-length-10 : tie.Need-same-length-10
+same-length-10 c = c .before .before .before .before .before .before .before .before .before .before .first-start .kept .1 .1 .1 .1 .1 .1 .1 .1 .1 .1 .1 .1 .0 ∙ (c .before .before .before .before .before .before .before .before .before .before .before .before .before .before .before .before .before .before .before .before .before .before .before .before .before .step .kept .1 .1 .1 .1 .1 .1 .1 .1 .1 .1 .1 .1 .1 .1 .0 ∙ c .before .before .before .before .before .before .before .before .before .before .before .before .before .before .before .before .before .before .before .before .before .before .before .before .before .before .before .before .before .before .before .before .before .before .before .before .before .drop-rows .kept .1 .1 .1 .1 .1 .1 .1 .1 .1 .1 .0)
+
+-- src/rows.rt:91:1
+returns-2 : tie.Need-returns-2
+returns-2 c = search needs
 
 pub next-start-spec : {M : Type 1} → statement M
 next-start-spec =
     tie.close
     (tie.spec
     drop-rows-requires
-    add-move-heads
-    move-heads-requires
-    advance-requires
+    pass-heads-requires
+    step-requires
     same-length
     same-length-2
     same-length-3
     same-length-4
     same-length-5
-    returns)
+    returns
+    add-first-start
+    first-start-requires
+    same-length-6
+    same-length-7
+    same-length-8
+    same-length-9
+    same-length-10
+    returns-2)

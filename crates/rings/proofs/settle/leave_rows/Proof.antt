@@ -1,11 +1,11 @@
-use lib.ListN.{length}
-use mathlib.Core.Path.{_≡_, sym, _∙_}
-use Rattle.rings.proofs.LossLaws.{queued-start, queued-then, leaving-start, leaving-last}
-use Rattle.rings.specs.Inner.Settling.{Leaving, Queued}
-use Rattle.rings.specs.Inner.Peeling.{guess}
-use Rattle.rings.specs.Table.{tableOf}
-use Prim.Native.Nat.{_-_, _≤_}
 use native.Mathlib.Omega.{arith}
+use Prim.Native.Nat.{_-_, _≤_}
+use Rattle.rings.specs.Table.{tableOf}
+use Rattle.rings.specs.Inner.Peeling.{guess}
+use Rattle.rings.specs.Inner.Settling.{Leaving, Queued}
+use Rattle.rings.proofs.LossLaws.{queued-start, queued-then, leaving-start, leaving-last}
+use mathlib.Core.Path.{_≡_, sym, _∙_}
+use lib.ListN.{length}
 use Rattle.rings.proofs.settle.leave_rows.Statement.{statement}
 use Rattle.rings.proofs.settle.leave_rows.Tie as tie
 use Rattle.rings.proofs.settle.leave_rows.Reads as reads
@@ -18,35 +18,35 @@ Inv-loop days first second links k s te lo next times spare₀ queue₀ tail₀ 
 abbrev μ-loop : tie.MeasureT-loop
 μ-loop days first second links k s te lo next times spare₀ queue₀ tail₀ j₀ spare queue tail j = next - j
 
--- src/settle.rt:462:5
+-- src/settle.rt:509:5
 loop-holds : tie.Need-loop-holds Inv-loop μ-loop
 loop-holds c = (c .before .before .before .before .before .before .before .pre .1 .0, c .before .before .before .before .before .before .before .pre .1 .4, c .before .before .before .before .before .before .before .pre .1 .5, λ h. (queued-start _ _ _ (c .before .before .before .before .before .before .before .pre .1 .5), leaving-start _ _ _ _ _ (c .before .before .before .before .before .before .before .pre .0 .setting) _ (c .before .before .before .before .before .before .before .pre .1 .2) (c .before .before .before .before .before .before .before .pre .1 .3) _ (c .before .before .before .before .before .before .before .pre .1 .4)))
 
--- src/settle.rt:463:9
+-- src/settle.rt:510:9
 leave-row-requires : tie.Need-leave-row-requires Inv-loop μ-loop
 leave-row-requires c κs = (c .before .before .before .before .before .before .before .before .before .before .before .pre .0, (omega (arith, c .before .before .loop-test .taken, c .before .before .before .before .before .before .before .before .before .before .before .pre .1 .1), c .before .before .before .before .before .before .before .before .before .before .before .pre .1 .2, c .before .before .before .before .before .before .before .before .before .before .before .pre .1 .3, c .before .before .before .loop .inv .1, c .before .before .before .loop .inv .2))
 
--- src/settle.rt:478:9
+-- src/settle.rt:525:9
 add-j : tie.Need-add-j Inv-loop μ-loop
 add-j c = omega (arith, c .before .before .before .before .before .before .before .loop-test .taken, c .before .before .before .before .before .before .before .before .before .before .before .before .before .before .before .before .pre .1 .1, c .before .before .before .before .before .before .before .before .before .before .before .before .before .before .before .before .pre .0 .sound .most)
 
--- src/settle.rt:462:5
+-- src/settle.rt:509:5
 loop-less : tie.Need-loop-less Inv-loop μ-loop
 loop-less c = omega (arith, c .before .before .before .before .before .before .before .loop-test .taken)
 
--- src/settle.rt:462:5
+-- src/settle.rt:509:5
 loop-again : tie.Need-loop-again Inv-loop μ-loop
 loop-again c = (omega (arith, c .before .before .before .before .before .before .before .loop-test .taken), (c .before .before .before .before .leave-row .kept .1 .1 .1 .1 .1 .1 .1 .1 .1 .1 .1 .0 ∙ c .before .before .before .before .before .before .before .before .loop .inv .1), (c .before .before .before .before .leave-row .kept .1 .1 .1 .1 .1 .1 .1 .1 .1 .1 .1 .1 .0 ∙ c .before .before .before .before .before .before .before .before .loop .inv .2), λ h. (queued-then (c .before .before .before .before .before .before .before .before .loop .inv .3 (omega (arith, c .before .before .before .before .leave-row .ensures h .0 .grows h, h)) .0) (c .before .before .before .before .leave-row .ensures h .0), c .before .before .before .before .leave-row .ensures h .1 _ (c .before .before .before .before .before .before .before .before .loop .inv .3 (omega (arith, c .before .before .before .before .leave-row .ensures h .0 .grows h, h)) .1)))
 
--- src/settle.rt:442:1
+-- src/settle.rt:489:1
 same-length : tie.Need-same-length Inv-loop μ-loop
 same-length c = c .before .loop .inv .1 ∙ sym (c .before .before .before .before .before .before .before .before .before .pre .1 .4)
 
--- src/settle.rt:442:1
+-- src/settle.rt:489:1
 same-length-2 : tie.Need-same-length-2 Inv-loop μ-loop
 same-length-2 c = c .before .loop .inv .2 ∙ sym (c .before .before .before .before .before .before .before .before .before .pre .1 .5)
 
--- src/settle.rt:442:1
+-- src/settle.rt:489:1
 returns : tie.Need-returns Inv-loop μ-loop
 returns c = λ h. let i = c .before .loop .inv .3 h in (i .0, leaving-last (i .1) (c .before .loop .inv .0) (c .loop-test .left))
 

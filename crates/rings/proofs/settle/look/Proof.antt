@@ -21,71 +21,71 @@ Inv-loop days first second links k start stop lo times u from budget walked₀ c
 abbrev μ-loop : tie.MeasureT-loop
 μ-loop days first second links k start stop lo times u from budget walked₀ c₀ walked c = 65535 - c
 
--- src/settle.rt:176:17
+-- src/settle.rt:169:17
 mul-c : tie.Need-mul-c Inv-loop μ-loop
 mul-c c = omega (arith, c .before .before .before .before .before .pre .1 .0)
 
--- src/settle.rt:176:17
+-- src/settle.rt:169:17
 shared-slice-read-c : tie.Need-shared-slice-read-c Inv-loop μ-loop
 shared-slice-read-c c = omega (arith, c .before .before .before .before .before .before .pre .1 .0, c .before .before .before .before .before .before .pre .1 .1)
 
--- src/settle.rt:177:5
+-- src/settle.rt:170:5
 loop-holds : tie.Need-loop-holds Inv-loop μ-loop
 loop-holds c = (le-refl _, c .before .before .before .before .before .before .pre .1 .2 _ (c .before .before .before .before .before .before .pre .1 .0), few-start _ _ _ _ _ (c .before .before .before .before .before .before .pre .0 .setting) _ _ _, omega arith)
 
--- src/settle.rt:179:13
+-- src/settle.rt:172:13
 returns : tie.Need-returns Inv-loop μ-loop
 returns c = (λ z. absurd (z refl), omega (arith, c .before .before .loop .inv .3, c .before .before .before .before .before .before .before .before .before .pre .1 .3))
 
--- src/settle.rt:185:13
+-- src/settle.rt:178:13
 look-at-requires : tie.Need-look-at-requires Inv-loop μ-loop
-look-at-requires c κs = (c .before .before .before .before .before .before .before .before .before .pre .0, (c .before .before .before .before .before .before .before .before .before .pre .1 .0, c .before .before .before .before .before .before .before .before .before .pre .1 .1, c .before .before .before .before .before .before .before .before .before .pre .1 .2, (⊎-elim (λ h. h) (λ h. absurd (omega (arith, h, c .before .loop-test .taken))) (c .before .before .loop .inv .1)), c .before .before .before .before .before .before .before .before .before .pre .1 .4))
+look-at-requires c κs = (c .before .before .before .before .before .before .before .before .before .pre .0, (c .before .before .before .before .before .before .before .before .before .pre .1 .0, c .before .before .before .before .before .before .before .before .before .pre .1 .1, c .before .before .before .before .before .before .before .before .before .pre .1 .2, (⊎-elim (λ h. h) (λ h. absurd (omega (arith, h, c .before .loop-test .taken))) (c .before .before .loop .inv .1)), c .before .before .before .before .before .before .before .before .before .pre .1 .4, c .before .before .before .before .before .before .before .before .before .pre .1 .5 (λ e. omega (arith, e, c .before .before .loop .inv .0, c .before .loop-test .taken))))
 
--- src/settle.rt:199:18
+-- src/settle.rt:192:18
 add-walked : tie.Need-add-walked Inv-loop μ-loop
 add-walked c = omega (arith, c .before .look-at .ensures .1, c .before .before .if1 .left, c .before .before .before .before .before .before .before .before .before .before .before .pre .1 .3)
 
--- src/settle.rt:203:24
+-- src/settle.rt:196:24
 add-t21 : tie.Need-add-t21 Inv-loop μ-loop
 add-t21 c = omega (arith, c .before .before .before .before .look-at .ensures .2)
 
--- src/settle.rt:203:24
+-- src/settle.rt:196:24
 sub-t22 : tie.Need-sub-t22 Inv-loop μ-loop
 sub-t22 c = omega (arith, c .before .if2 .taken)
 
--- src/settle.rt:201:13
+-- src/settle.rt:194:13
 returns-2 : tie.Need-returns-2 Inv-loop μ-loop
 returns-2 c = (λ z. look-found _ _ _ _ _ (c .before .before .before .before .before .before .before .before .before .before .before .before .before .before .pre .0 .setting) _ (c .before .before .before .before .before .before .before .loop .inv .2) (c .before .before .before .before .before .before .before .loop .inv .0) (c .before .before .before .before .look-at .ensures .0) (c .before .if2 .taken) (⊎-elim (λ h. h) (λ h. absurd (omega (arith, h, c .before .before .before .before .before .before .loop-test .taken))) (c .before .before .before .before .before .before .before .loop .inv .1)) refl, omega (arith, c .before .before .before .before .look-at .ensures .1, c .before .before .before .before .before .if1 .left, c .before .before .before .before .before .before .before .before .before .before .before .before .before .before .pre .1 .3))
 
--- src/settle.rt:209:13
+-- src/settle.rt:202:13
 returns-3 : tie.Need-returns-3 Inv-loop μ-loop
 returns-3 c = (λ z. look-never _ _ _ _ _ (c .before .before .before .before .before .before .before .before .before .before .before .before .before .before .pre .0 .setting) _ (look-next _ _ _ _ _ (c .before .before .before .before .before .before .before .before .before .before .before .before .before .before .pre .0 .setting) _ (c .before .before .before .before .before .before .before .loop .inv .2) (c .before .before .before .before .look-at .ensures .0) (c .before .if2 .left) .0) (omega (arith, look-next _ _ _ _ _ (c .before .before .before .before .before .before .before .before .before .before .before .before .before .before .pre .0 .setting) _ (c .before .before .before .before .before .before .before .loop .inv .2) (c .before .before .before .before .look-at .ensures .0) (c .before .if2 .left) .1, c .before .before .before .before .before .before .before .loop .inv .0)) (c .if3 .taken) refl, omega (arith, c .before .before .before .before .look-at .ensures .1, c .before .before .before .before .before .if1 .left, c .before .before .before .before .before .before .before .before .before .before .before .before .before .before .pre .1 .3))
 
--- src/settle.rt:215:20
+-- src/settle.rt:208:20
 add-both : tie.Need-add-both Inv-loop μ-loop
 add-both c = omega (arith, c .before .before .before .before .before .look-at .ensures .2)
 
--- src/settle.rt:219:24
+-- src/settle.rt:212:24
 add-t23 : tie.Need-add-t23 Inv-loop μ-loop
 add-t23 c = omega (arith, c .before .before .before .before .before .before .look-at .ensures .2)
 
--- src/settle.rt:219:24
+-- src/settle.rt:212:24
 sub-t24 : tie.Need-sub-t24 Inv-loop μ-loop
 sub-t24 c = omega (arith, c .if4 .taken)
 
--- src/settle.rt:217:13
+-- src/settle.rt:210:13
 returns-4 : tie.Need-returns-4 Inv-loop μ-loop
 returns-4 c = (λ z. look-then _ _ _ _ _ (c .before .before .before .before .before .before .before .before .before .before .before .before .before .before .before .before .pre .0 .setting) _ (c .before .before .before .before .before .before .before .before .before .loop .inv .2) (c .before .before .before .before .before .before .before .before .before .loop .inv .0) (c .before .before .before .before .before .before .look-at .ensures .0) (c .before .before .before .if2 .left) (c .before .before .if3 .left) (c .if4 .taken) refl, omega (arith, c .before .before .before .before .before .before .look-at .ensures .1, c .before .before .before .before .before .before .before .if1 .left, c .before .before .before .before .before .before .before .before .before .before .before .before .before .before .before .before .pre .1 .3))
 
--- src/settle.rt:177:5
+-- src/settle.rt:170:5
 loop-less : tie.Need-loop-less Inv-loop μ-loop
 loop-less c = omega (arith, look-next _ _ _ _ _ (c .before .before .before .before .before .before .before .before .before .before .before .before .before .before .before .before .pre .0 .setting) _ (c .before .before .before .before .before .before .before .before .before .loop .inv .2) (c .before .before .before .before .before .before .look-at .ensures .0) (c .before .before .before .if2 .left) .1, c .before .before .before .before .before .before .before .before .loop-test .taken)
 
--- src/settle.rt:177:5
+-- src/settle.rt:170:5
 loop-again : tie.Need-loop-again Inv-loop μ-loop
 loop-again c = (omega (arith, look-next _ _ _ _ _ (c .before .before .before .before .before .before .before .before .before .before .before .before .before .before .before .before .pre .0 .setting) _ (c .before .before .before .before .before .before .before .before .before .loop .inv .2) (c .before .before .before .before .before .before .look-at .ensures .0) (c .before .before .before .if2 .left) .1, c .before .before .before .before .before .before .before .before .before .loop .inv .0), look-next _ _ _ _ _ (c .before .before .before .before .before .before .before .before .before .before .before .before .before .before .before .before .pre .0 .setting) _ (c .before .before .before .before .before .before .before .before .before .loop .inv .2) (c .before .before .before .before .before .before .look-at .ensures .0) (c .before .before .before .if2 .left) .2, look-next _ _ _ _ _ (c .before .before .before .before .before .before .before .before .before .before .before .before .before .before .before .before .pre .0 .setting) _ (c .before .before .before .before .before .before .before .before .before .loop .inv .2) (c .before .before .before .before .before .before .look-at .ensures .0) (c .before .before .before .if2 .left) .0, omega (arith, c .before .before .before .before .before .before .look-at .ensures .1, c .before .before .before .before .before .before .before .if1 .left))
 
--- src/settle.rt:157:1
+-- src/settle.rt:150:1
 returns-5 : tie.Need-returns-5 Inv-loop μ-loop
 returns-5 c = (λ z. look-never _ _ _ _ _ (c .before .before .before .before .before .before .before .before .pre .0 .setting) _ (c .before .loop .inv .2) (c .before .loop .inv .0) (⊎-elim (λ h. absurd (omega (arith, h, c .loop-test .left, c .before .before .before .before .before .before .before .before .pre .0 .setting .fits))) (λ h. h) (c .before .loop .inv .1)) refl, omega (arith, c .before .loop .inv .3, c .before .before .before .before .before .before .before .before .pre .1 .3))
 

@@ -1,6 +1,6 @@
-use Rattle.rings.proofs.AlongLaws.{ahead-of}
+use Rattle.rings.proofs.FallLaws.{guess-at}
 use lib.ListN.{length-set}
-use Rattle.rings.proofs.SettleLaws.{account-same, account-rise, account-days, account-now, account-raised}
+use Rattle.rings.proofs.SettleLaws.{account-same, account-rise, account-days, account-now, account-never, account-every, account-raised}
 use mathlib.Core.Path.{sym, _∙_}
 use native.Mathlib.Omega.{arith}
 use borrow.Author.Needs.{needs}
@@ -10,116 +10,112 @@ use Rattle.rings.proofs.settle.settle_account.Reads as reads
 use Rattle.rings.proofs.settle.settle_account.Lts as lts
 use Rattle.rings.proofs.links.entry.Reads as entry-reads
 use Rattle.rings.proofs.links.put.Reads as put-reads
+use Rattle.rings.proofs.settle.first_from.Reads as first-from-reads
 use Rattle.rings.proofs.settle.look.Reads as look-reads
 use Rattle.rings.proofs.settle.lose_others.Reads as lose-others-reads
 
--- src/settle.rt:327:9
+-- src/settle.rt:347:9
 entry-requires : tie.Need-entry-requires
 entry-requires c κs = search needs
 
--- src/settle.rt:328:29
-add-entry : tie.Need-add-entry
-add-entry c = omega (arith, c .entry .ensures, c .before .before .before .before .before .before .before .before .before .before .pre .1 .0 .7)
+-- src/settle.rt:348:9
+first-from-requires : tie.Need-first-from-requires
+first-from-requires c κs = (c .before .before .before .before .before .before .before .before .before .before .pre .0 .sound, (c .before .before .before .before .before .before .before .before .before .before .pre .0 .shelves, (omega (arith, c .entry .ensures, c .before .before .before .before .before .before .before .before .before .before .pre .1 .0 .7))))
 
--- src/settle.rt:328:9
-entry-requires-2 : tie.Need-entry-requires-2
-entry-requires-2 c κs = omega (arith, c .entry .ensures, c .before .before .before .before .before .before .before .before .before .before .pre .1 .0 .7, c .before .before .before .before .before .before .before .before .before .before .pre .0 .linked .long)
-
--- src/settle.rt:329:15
+-- src/settle.rt:349:15
 mul-old : tie.Need-mul-old
 mul-old c = search needs
 
--- src/settle.rt:329:15
+-- src/settle.rt:349:15
 slice-read-old : tie.Need-slice-read-old
 slice-read-old c = search needs
 
--- src/settle.rt:330:9
+-- src/settle.rt:350:9
 look-requires : tie.Need-look-requires
-look-requires c κs = (c .before .before .before .before .before .before .before .before .before .before .before .before .before .pre .0, ((omega (arith, c .before .before .before .entry .ensures, c .before .before .before .before .before .before .before .before .before .before .before .before .before .pre .1 .0 .7)), c .before .before .before .before .before .before .before .before .before .before .before .before .before .pre .1 .0 .4, c .before .before .before .before .before .before .before .before .before .before .before .before .before .pre .1 .0 .8, c .before .before .before .before .before .before .before .before .before .before .before .before .before .pre .1 .0 .0, (ahead-of _ _ _ _ (c .before .before .before .before .before .before .before .before .before .before .before .before .before .pre .0 .sound) (c .before .before .before .before .before .before .before .before .before .before .before .before .before .pre .0 .linked) (omega (arith, c .before .before .before .entry .ensures, c .before .before .before .before .before .before .before .before .before .before .before .before .before .pre .1 .0 .7)) (c .before .before .before .before .before .before .before .before .before .before .before .before .before .pre .0 .setting .from-lo) (c .before .before .entry2 .ensures))))
+look-requires c κs = (c .before .before .before .before .before .before .before .before .before .before .before .before .before .pre .0, ((omega (arith, c .before .before .before .entry .ensures, c .before .before .before .before .before .before .before .before .before .before .before .before .before .pre .1 .0 .7)), c .before .before .before .before .before .before .before .before .before .before .before .before .before .pre .1 .0 .4, c .before .before .before .before .before .before .before .before .before .before .before .before .before .pre .1 .0 .8, c .before .before .before .before .before .before .before .before .before .before .before .before .before .pre .1 .0 .0, c .before .before .first-from .ensures, λ n. c .before .before .before .before .before .before .before .before .before .before .before .before .before .pre .1 .0 .9 .rows _ (omega (arith, c .before .before .before .entry .ensures, c .before .before .before .before .before .before .before .before .before .before .before .before .before .pre .1 .0 .7)) (λ e. n (sym (guess-at (c .before .before .before .before .before .before .before .before .before .before .before .before .before .args .times .now) _ (c .before .before .before .before .before .before .before .before .before .before .before .before .before .pre .1 .0 .4) (omega (arith, c .before .before .before .entry .ensures, c .before .before .before .before .before .before .before .before .before .before .before .before .before .pre .1 .0 .7))) ∙ e))))
 
--- src/settle.rt:346:9
+-- src/settle.rt:366:9
 same-length : tie.Need-same-length
 same-length c = search needs
 
--- src/settle.rt:346:9
+-- src/settle.rt:366:9
 same-length-2 : tie.Need-same-length-2
 same-length-2 c = search needs
 
--- src/settle.rt:346:9
+-- src/settle.rt:366:9
 returns : tie.Need-returns
-returns c = ((c .before .look .ensures .1, λ h. absurd (omega (arith, h))), λ h. absurd (omega (arith, h)))
+returns c = ((c .before .look .ensures .1, λ h. absurd (omega (arith, h))), (λ v e. e, λ h. absurd (omega (arith, h))))
 
--- src/settle.rt:352:5
+-- src/settle.rt:372:5
 mul-spare : tie.Need-mul-spare
-mul-spare c = search needs
+mul-spare c = omega (arith, c .before .before .before .before .before .entry .ensures, c .before .before .before .before .before .before .before .before .before .before .before .before .before .before .before .pre .1 .0 .7)
 
--- src/settle.rt:352:5
+-- src/settle.rt:372:5
 slice-write-spare : tie.Need-slice-write-spare
-slice-write-spare c = search needs
+slice-write-spare c = omega (arith, c .before .before .before .before .before .entry .ensures, c .before .before .before .before .before .before .before .before .before .before .before .before .before .before .before .pre .1 .0 .7, c .before .before .before .before .before .before .before .before .before .before .before .before .before .before .before .pre .1 .0 .5)
 
--- src/settle.rt:354:9
+-- src/settle.rt:374:9
 same-length-3 : tie.Need-same-length-3
 same-length-3 c = search needs
 
--- src/settle.rt:354:9
+-- src/settle.rt:374:9
 same-length-4 : tie.Need-same-length-4
 same-length-4 c = search needs
 
--- src/settle.rt:354:9
+-- src/settle.rt:374:9
 same-length-5 : tie.Need-same-length-5
 same-length-5 c = search needs
 
--- src/settle.rt:354:9
+-- src/settle.rt:374:9
 returns-2 : tie.Need-returns-2
-returns-2 c = ((c .before .before .look .ensures .1, λ h xs Z. account-same _ _ _ _ _ (c .before .before .before .before .before .before .before .before .before .before .before .before .before .before .before .before .pre .0 .setting) (Z .settling) (omega (arith, c .before .before .before .before .before .before .entry .ensures, c .before .before .before .before .before .before .before .before .before .before .before .before .before .before .before .before .pre .1 .0 .7)) (c .before .before .look .ensures .0 (c .before .if1 .left)) (Z .waiting) (sym (c .before .before .before .before .before .before .entry .ensures)) (Z .behind) (Z .risen) (c .before .before .before .before .before .before .before .before .before .before .before .before .before .before .before .before .pre .1 .0 .1) (c .before .before .before .before .before .before .before .before .before .before .before .before .before .before .before .before .pre .1 .0 .2) (c .if2 .taken)), λ h y. c .before .before .before .before .before .before .before .before .before .before .before .before .before .before .before .before .pre .1 .1 y .1)
+returns-2 c = ((c .before .before .look .ensures .1, λ h xs Z. account-same _ _ _ _ _ (c .before .before .before .before .before .before .before .before .before .before .before .before .before .before .before .before .pre .0 .setting) (Z .settling) (omega (arith, c .before .before .before .before .before .before .entry .ensures, c .before .before .before .before .before .before .before .before .before .before .before .before .before .before .before .before .pre .1 .0 .7)) (c .before .before .look .ensures .0 (c .before .if1 .left)) (Z .waiting) (sym (c .before .before .before .before .before .before .entry .ensures)) (Z .behind) (Z .risen) (c .before .before .before .before .before .before .before .before .before .before .before .before .before .before .before .before .pre .1 .0 .1) (c .before .before .before .before .before .before .before .before .before .before .before .before .before .before .before .before .pre .1 .0 .2) (c .if2 .taken)), (λ v e. e, λ h y. c .before .before .before .before .before .before .before .before .before .before .before .before .before .before .before .before .pre .1 .1 y .1))
 
--- src/settle.rt:360:5
+-- src/settle.rt:380:5
 mul-times : tie.Need-mul-times
-mul-times c = search needs
+mul-times c = omega (arith, c .before .before .before .before .before .before .entry .ensures, c .before .before .before .before .before .before .before .before .before .before .before .before .before .before .before .before .pre .1 .0 .7)
 
--- src/settle.rt:360:5
+-- src/settle.rt:380:5
 slice-write-times : tie.Need-slice-write-times
-slice-write-times c = search needs
+slice-write-times c = omega (arith, c .before .before .before .before .before .before .entry .ensures, c .before .before .before .before .before .before .before .before .before .before .before .before .before .before .before .before .pre .1 .0 .7, c .before .before .before .before .before .before .before .before .before .before .before .before .before .before .before .before .pre .1 .0 .4)
 
--- src/settle.rt:361:5
+-- src/settle.rt:381:5
 put-requires : tie.Need-put-requires
 put-requires c κs = (omega (arith, c .before .before .before .before .before .before .before .before .before .before .before .before .before .before .before .before .before .pre .1 .0 .1, c .before .before .before .before .before .before .before .before .before .before .before .before .before .before .before .before .before .pre .1 .0 .2, c .before .before .before .before .before .before .before .before .before .before .before .before .before .before .before .before .before .pre .1 .0 .3, c .before .before .before .before .before .before .before .before .before .before .before .before .before .before .before .before .before .pre .1 .0 .6), omega (arith, c .before .before .before .before .before .before .before .entry .ensures, c .before .before .before .before .before .before .before .before .before .before .before .before .before .before .before .before .before .pre .1 .0 .7))
 
--- src/settle.rt:362:9
+-- src/settle.rt:382:9
 lose-others-requires : tie.Need-lose-others-requires
-lose-others-requires c κs = (c .before .before .before .before .before .before .before .before .before .before .before .before .before .before .before .before .before .before .before .before .before .before .before .before .pre .0, (((omega (arith, c .before .before .before .before .before .before .before .before .before .before .before .before .before .before .entry .ensures, c .before .before .before .before .before .before .before .before .before .before .before .before .before .before .before .before .before .before .before .before .before .before .before .before .pre .1 .0 .7)), search (needs, c .before .before .before .before .before .before .before .before .before .before .before .before .before .before .before .before .before .before .before .before .before .before .before .before .pre .1 .0 .4), search (needs, c .before .before .before .before .before .before .before .before .before .before .before .before .before .before .before .before .before .before .before .before .before .before .before .before .pre .1 .0 .5), c .before .before .before .before .before .before .put .kept .0 ∙ c .before .before .before .before .before .before .before .before .before .before .before .before .before .before .before .before .before .before .before .before .before .before .before .before .pre .1 .0 .6, (ahead-of _ _ _ _ (c .before .before .before .before .before .before .before .before .before .before .before .before .before .before .before .before .before .before .before .before .before .before .before .before .pre .0 .sound) (c .before .before .before .before .before .before .before .before .before .before .before .before .before .before .before .before .before .before .before .before .before .before .before .before .pre .0 .linked) (omega (arith, c .before .before .before .before .before .before .before .before .before .before .before .before .before .before .entry .ensures, c .before .before .before .before .before .before .before .before .before .before .before .before .before .before .before .before .before .before .before .before .before .before .before .before .pre .1 .0 .7)) (c .before .before .before .before .before .before .before .before .before .before .before .before .before .before .before .before .before .before .before .before .before .before .before .before .pre .0 .setting .from-lo) (c .before .before .before .before .before .before .before .before .before .before .before .before .before .entry2 .ensures)), account-days (c .before .before .before .before .before .before .before .before .before .before .before .before .before .before .before .before .before .before .before .before .before .before .before .before .args .times .now) (omega (arith, c .before .before .before .before .before .before .before .before .before .before .before .before .before .before .before .before .before .before .before .before .before .before .before .before .pre .0 .setting .fits)) (c .before .before .before .before .before .before .before .before .before .before .before .before .before .before .before .before .before .before .before .before .before .before .before .before .pre .1 .0 .4) (omega (arith, c .before .before .before .before .before .before .before .before .before .before .before .before .before .before .entry .ensures, c .before .before .before .before .before .before .before .before .before .before .before .before .before .before .before .before .before .before .before .before .before .before .before .before .pre .1 .0 .7)) (c .before .before .before .before .before .before .before .before .before .before .before .before .before .before .before .before .before .before .before .before .before .before .before .before .pre .1 .0 .8) (c .before .before .before .before .before .before .before .before .before .before .look .ensures .0 (c .before .before .before .before .before .before .before .before .before .if1 .left)), account-now (c .before .before .before .before .before .before .before .before .before .before .before .before .before .before .before .before .before .before .before .before .before .before .before .before .args .times .now) (omega (arith, c .before .before .before .before .before .before .before .before .before .before .before .before .before .before .before .before .before .before .before .before .before .before .before .before .pre .0 .setting .fits)) (c .before .before .before .before .before .before .before .before .before .before .before .before .before .before .before .before .before .before .before .before .before .before .before .before .pre .1 .0 .4) (omega (arith, c .before .before .before .before .before .before .before .before .before .before .before .before .before .before .entry .ensures, c .before .before .before .before .before .before .before .before .before .before .before .before .before .before .before .before .before .before .before .before .before .before .before .before .pre .1 .0 .7)) (c .before .before .before .before .before .before .before .before .before .before .before .before .before .before .before .before .before .before .before .before .before .before .before .before .pre .1 .0 .8) (c .before .before .before .before .before .before .before .before .before .before .look .ensures .0 (c .before .before .before .before .before .before .before .before .before .if1 .left))), λ y. account-raised (c .before .before .before .before .before .before .before .before .before .before .before .before .before .before .before .before .before .before .before .before .before .before .before .before .args .times .now) (omega (arith, c .before .before .before .before .before .before .before .before .before .before .before .before .before .before .before .before .before .before .before .before .before .before .before .before .pre .0 .setting .fits)) (c .before .before .before .before .before .before .before .before .before .before .before .before .before .before .before .before .before .before .before .before .before .before .before .before .pre .1 .0 .4) (omega (arith, c .before .before .before .before .before .before .before .before .before .before .before .before .before .before .entry .ensures, c .before .before .before .before .before .before .before .before .before .before .before .before .before .before .before .before .before .before .before .before .before .before .before .before .pre .1 .0 .7)) (c .before .before .before .before .before .before .before .before .before .before .before .before .before .before .before .before .before .before .before .before .before .before .before .before .pre .1 .0 .8) (c .before .before .before .before .before .before .before .before .before .before .look .ensures .0 (c .before .before .before .before .before .before .before .before .before .if1 .left)) (c .before .before .before .before .before .before .before .before .if2 .left) (c .before .before .before .before .before .before .before .before .before .before .before .before .before .before .before .before .before .before .before .before .before .before .before .before .pre .1 .1 y .0) (c .before .before .before .before .before .before .before .before .before .before .before .before .before .before .before .before .before .before .before .before .before .before .before .before .pre .1 .1 y .1)))
+lose-others-requires c κs = (c .before .before .before .before .before .before .before .before .before .before .before .before .before .before .before .before .before .before .before .before .before .before .before .before .pre .0, (((omega (arith, c .before .before .before .before .before .before .before .before .before .before .before .before .before .before .entry .ensures, c .before .before .before .before .before .before .before .before .before .before .before .before .before .before .before .before .before .before .before .before .before .before .before .before .pre .1 .0 .7)), search (needs, c .before .before .before .before .before .before .before .before .before .before .before .before .before .before .before .before .before .before .before .before .before .before .before .before .pre .1 .0 .4), search (needs, c .before .before .before .before .before .before .before .before .before .before .before .before .before .before .before .before .before .before .before .before .before .before .before .before .pre .1 .0 .5), c .before .before .before .before .before .before .put .kept .0 ∙ c .before .before .before .before .before .before .before .before .before .before .before .before .before .before .before .before .before .before .before .before .before .before .before .before .pre .1 .0 .6, c .before .before .before .before .before .before .before .before .before .before .before .before .before .first-from .ensures, account-every (c .before .before .before .before .before .before .before .before .before .before .before .before .before .before .before .before .before .before .before .before .before .before .before .before .args .times .now) (omega (arith, c .before .before .before .before .before .before .before .before .before .before .before .before .before .before .before .before .before .before .before .before .before .before .before .before .pre .0 .setting .fits)) (c .before .before .before .before .before .before .before .before .before .before .before .before .before .before .before .before .before .before .before .before .before .before .before .before .pre .1 .0 .4) (omega (arith, c .before .before .before .before .before .before .before .before .before .before .before .before .before .before .entry .ensures, c .before .before .before .before .before .before .before .before .before .before .before .before .before .before .before .before .before .before .before .before .before .before .before .before .pre .1 .0 .7)) (c .before .before .before .before .before .before .before .before .before .before .before .before .before .before .before .before .before .before .before .before .before .before .before .before .pre .1 .0 .8) (c .before .before .before .before .before .before .before .before .before .before .look .ensures .0 (c .before .before .before .before .before .before .before .before .before .if1 .left)) (c .before .before .before .before .before .before .before .before .if2 .left) (c .before .before .before .before .before .before .before .before .before .before .before .before .before .before .before .before .before .before .before .before .before .before .before .before .pre .1 .0 .9), account-days (c .before .before .before .before .before .before .before .before .before .before .before .before .before .before .before .before .before .before .before .before .before .before .before .before .args .times .now) (omega (arith, c .before .before .before .before .before .before .before .before .before .before .before .before .before .before .before .before .before .before .before .before .before .before .before .before .pre .0 .setting .fits)) (c .before .before .before .before .before .before .before .before .before .before .before .before .before .before .before .before .before .before .before .before .before .before .before .before .pre .1 .0 .4) (omega (arith, c .before .before .before .before .before .before .before .before .before .before .before .before .before .before .entry .ensures, c .before .before .before .before .before .before .before .before .before .before .before .before .before .before .before .before .before .before .before .before .before .before .before .before .pre .1 .0 .7)) (c .before .before .before .before .before .before .before .before .before .before .before .before .before .before .before .before .before .before .before .before .before .before .before .before .pre .1 .0 .8) (c .before .before .before .before .before .before .before .before .before .before .look .ensures .0 (c .before .before .before .before .before .before .before .before .before .if1 .left)), account-now (c .before .before .before .before .before .before .before .before .before .before .before .before .before .before .before .before .before .before .before .before .before .before .before .before .args .times .now) (omega (arith, c .before .before .before .before .before .before .before .before .before .before .before .before .before .before .before .before .before .before .before .before .before .before .before .before .pre .0 .setting .fits)) (c .before .before .before .before .before .before .before .before .before .before .before .before .before .before .before .before .before .before .before .before .before .before .before .before .pre .1 .0 .4) (omega (arith, c .before .before .before .before .before .before .before .before .before .before .before .before .before .before .entry .ensures, c .before .before .before .before .before .before .before .before .before .before .before .before .before .before .before .before .before .before .before .before .before .before .before .before .pre .1 .0 .7)) (c .before .before .before .before .before .before .before .before .before .before .before .before .before .before .before .before .before .before .before .before .before .before .before .before .pre .1 .0 .8) (c .before .before .before .before .before .before .before .before .before .before .look .ensures .0 (c .before .before .before .before .before .before .before .before .before .if1 .left))), λ y. account-raised (c .before .before .before .before .before .before .before .before .before .before .before .before .before .before .before .before .before .before .before .before .before .before .before .before .args .times .now) (omega (arith, c .before .before .before .before .before .before .before .before .before .before .before .before .before .before .before .before .before .before .before .before .before .before .before .before .pre .0 .setting .fits)) (c .before .before .before .before .before .before .before .before .before .before .before .before .before .before .before .before .before .before .before .before .before .before .before .before .pre .1 .0 .4) (omega (arith, c .before .before .before .before .before .before .before .before .before .before .before .before .before .before .entry .ensures, c .before .before .before .before .before .before .before .before .before .before .before .before .before .before .before .before .before .before .before .before .before .before .before .before .pre .1 .0 .7)) (c .before .before .before .before .before .before .before .before .before .before .before .before .before .before .before .before .before .before .before .before .before .before .before .before .pre .1 .0 .8) (c .before .before .before .before .before .before .before .before .before .before .look .ensures .0 (c .before .before .before .before .before .before .before .before .before .if1 .left)) (c .before .before .before .before .before .before .before .before .if2 .left) (c .before .before .before .before .before .before .before .before .before .before .before .before .before .before .before .before .before .before .before .before .before .before .before .before .pre .1 .1 y .0) (c .before .before .before .before .before .before .before .before .before .before .before .before .before .before .before .before .before .before .before .before .before .before .before .before .pre .1 .1 y .1)))
 
--- src/settle.rt:383:16
+-- src/settle.rt:403:16
 add-t26 : tie.Need-add-t26
 add-t26 c = omega (arith, c .before .before .before .before .before .before .before .before .before .before .before .before .before .before .before .before .before .before .before .before .before .before .before .before .before .before .before .before .before .before .before .pre .1 .0 .1, c .before .before .before .before .before .before .before .before .before .before .before .before .before .before .before .before .before .before .before .before .before .before .before .before .before .before .before .before .before .before .before .pre .1 .0 .2, c .before .before .before .before .before .before .before .before .before .before .before .before .before .before .before .before .before .before .before .before .before .before .before .before .before .before .before .before .before .before .before .pre .1 .0 .3)
 
--- src/settle.rt:302:1
+-- src/settle.rt:321:1
 same-length-6 : tie.Need-same-length-6
 same-length-6 c = search needs
 
--- src/settle.rt:302:1
+-- src/settle.rt:321:1
 same-length-7 : tie.Need-same-length-7
 same-length-7 c = c .before .before .before .before .before .before .lose-others .kept .1 .1 .1 .1 .1 .1 .1 .1 .1 .1 .1 .1 .1 .1 .0 ∙ length-set (c .before .before .before .before .before .before .before .before .before .before .before .before .before .before .before .before .before .before .before .before .before .before .before .before .before .before .before .before .before .before .before .args .spare .now) (c .before .before .before .before .before .before .before .before .before .before .before .before .before .before .before .before .before .before .before .before .before .entry .result) (c .before .before .before .before .before .before .before .before .before .before .before .before .before .before .before .before .before .look .result .spare)
 
--- src/settle.rt:302:1
+-- src/settle.rt:321:1
 same-length-8 : tie.Need-same-length-8
 same-length-8 c = search needs
 
--- src/settle.rt:302:1
+-- src/settle.rt:321:1
 same-length-9 : tie.Need-same-length-9
 same-length-9 c = search needs
 
--- src/settle.rt:302:1
+-- src/settle.rt:321:1
 returns-3 : tie.Need-returns-3
-returns-3 c = ((c .before .before .before .before .before .before .before .before .before .before .before .before .before .before .before .before .before .look .ensures .1, λ h xs Z. account-rise _ _ _ _ _ (c .before .before .before .before .before .before .before .before .before .before .before .before .before .before .before .before .before .before .before .before .before .before .before .before .before .before .before .before .before .before .before .pre .0 .setting) (Z .settling) (omega (arith, c .before .before .before .before .before .before .before .before .before .before .before .before .before .before .before .before .before .before .before .before .before .entry .ensures, c .before .before .before .before .before .before .before .before .before .before .before .before .before .before .before .before .before .before .before .before .before .before .before .before .before .before .before .before .before .before .before .pre .1 .0 .7)) (c .before .before .before .before .before .before .before .before .before .before .before .before .before .before .before .before .before .look .ensures .0 (c .before .before .before .before .before .before .before .before .before .before .before .before .before .before .before .before .if1 .left)) (Z .waiting) (sym (c .before .before .before .before .before .before .before .before .before .before .before .before .before .before .before .before .before .before .before .before .before .entry .ensures)) (Z .behind) (Z .risen) (c .before .before .before .before .before .before .before .before .before .before .before .before .before .before .before .before .before .before .before .before .before .before .before .before .before .before .before .before .before .before .before .pre .1 .0 .1) (c .before .before .before .before .before .before .before .before .before .before .before .before .before .before .before .before .before .before .before .before .before .before .before .before .before .before .before .before .before .before .before .pre .1 .0 .2) (c .before .before .before .before .before .before .before .before .before .before .before .before .before .put .ensures) (c .before .before .before .before .before .before .lose-others .ensures h .0) (c .before .before .before .before .before .before .lose-others .ensures h .1) h), λ h y. c .before .before .before .before .before .before .lose-others .ensures h .2 y)
+returns-3 c = ((c .before .before .before .before .before .before .before .before .before .before .before .before .before .before .before .before .before .look .ensures .1, λ h xs Z. account-rise _ _ _ _ _ (c .before .before .before .before .before .before .before .before .before .before .before .before .before .before .before .before .before .before .before .before .before .before .before .before .before .before .before .before .before .before .before .pre .0 .setting) (Z .settling) (omega (arith, c .before .before .before .before .before .before .before .before .before .before .before .before .before .before .before .before .before .before .before .before .before .entry .ensures, c .before .before .before .before .before .before .before .before .before .before .before .before .before .before .before .before .before .before .before .before .before .before .before .before .before .before .before .before .before .before .before .pre .1 .0 .7)) (c .before .before .before .before .before .before .before .before .before .before .before .before .before .before .before .before .before .look .ensures .0 (c .before .before .before .before .before .before .before .before .before .before .before .before .before .before .before .before .if1 .left)) (Z .waiting) (sym (c .before .before .before .before .before .before .before .before .before .before .before .before .before .before .before .before .before .before .before .before .before .entry .ensures)) (Z .behind) (Z .risen) (c .before .before .before .before .before .before .before .before .before .before .before .before .before .before .before .before .before .before .before .before .before .before .before .before .before .before .before .before .before .before .before .pre .1 .0 .1) (c .before .before .before .before .before .before .before .before .before .before .before .before .before .before .before .before .before .before .before .before .before .before .before .before .before .before .before .before .before .before .before .pre .1 .0 .2) (c .before .before .before .before .before .before .before .before .before .before .before .before .before .put .ensures) (c .before .before .before .before .before .before .lose-others .ensures h .0) (c .before .before .before .before .before .before .lose-others .ensures h .1) h), (account-never (c .before .before .before .before .before .before .before .before .before .before .before .before .before .before .before .before .before .before .before .before .before .before .before .before .before .before .before .before .before .before .before .args .times .now) (omega (arith, c .before .before .before .before .before .before .before .before .before .before .before .before .before .before .before .before .before .before .before .before .before .before .before .before .before .before .before .before .before .before .before .pre .0 .setting .fits)) (c .before .before .before .before .before .before .before .before .before .before .before .before .before .before .before .before .before .before .before .before .before .before .before .before .before .before .before .before .before .before .before .pre .1 .0 .4) (omega (arith, c .before .before .before .before .before .before .before .before .before .before .before .before .before .before .before .before .before .before .before .before .before .entry .ensures, c .before .before .before .before .before .before .before .before .before .before .before .before .before .before .before .before .before .before .before .before .before .before .before .before .before .before .before .before .before .before .before .pre .1 .0 .7)) (c .before .before .before .before .before .before .before .before .before .before .before .before .before .before .before .before .before .before .before .before .before .before .before .before .before .before .before .before .before .before .before .pre .1 .0 .8) (c .before .before .before .before .before .before .before .before .before .before .before .before .before .before .before .before .before .look .ensures .0 (c .before .before .before .before .before .before .before .before .before .before .before .before .before .before .before .before .if1 .left)), λ h y. c .before .before .before .before .before .before .lose-others .ensures h .2 y))
 
 pub settle-account-spec : {M : Type 1} → statement M
 settle-account-spec =
     tie.close
     (tie.spec
     entry-requires
-    add-entry
-    entry-requires-2
+    first-from-requires
     mul-old
     slice-read-old
     look-requires

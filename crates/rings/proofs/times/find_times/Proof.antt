@@ -1,9 +1,9 @@
-use mathlib.Core.Path.{_∙_, ap, refl}
-use Prim.Native.Nat.{ℕ}
-use lib.ListN.{replicate}
-use Rattle.rings.proofs.DayLaws.{ready-of, split-none, span-of}
-use Rattle.rings.proofs.TimeLaws.{accounts-are}
 use native.Mathlib.Omega.{arith}
+use Rattle.rings.proofs.TimeLaws.{accounts-are}
+use Rattle.rings.proofs.DayLaws.{ready-of, framed-of, split-none, span-of}
+use lib.ListN.{replicate}
+use Prim.Native.Nat.{ℕ}
+use mathlib.Core.Path.{_∙_, ap, refl}
 use borrow.Author.Needs.{needs}
 use Rattle.rings.proofs.times.find_times.Statement.{statement}
 use Rattle.rings.proofs.times.find_times.Tie as tie
@@ -16,61 +16,61 @@ use Rattle.rings.proofs.peel.peel.Reads as peel-reads
 use Rattle.rings.proofs.table.rows_before.Reads as rows-before-reads
 use Rattle.rings.proofs.times.time_rows.Reads as time-rows-reads
 
--- src/times.rt:117:9
+-- src/times.rt:114:9
 rows-before-requires : tie.Need-rows-before-requires
 rows-before-requires c κs = search needs
 
--- src/times.rt:118:33
+-- src/times.rt:115:33
 add-rows-before : tie.Need-add-rows-before
 add-rows-before c = search needs
 
--- src/times.rt:118:9
+-- src/times.rt:115:9
 rows-before-requires-2 : tie.Need-rows-before-requires-2
 rows-before-requires-2 c κs = search needs
 
--- src/times.rt:121:5
+-- src/times.rt:118:5
 link-requires : tie.Need-link-requires
 link-requires c κs = search needs
 
--- src/times.rt:122:5
+-- src/times.rt:119:5
 move-heads-requires : tie.Need-move-heads-requires
 move-heads-requires c κs = (c .before .before .before .before .before .before .before .before .before .before .before .before .before .pre .0, (c .before .before .before .link .ensures, (omega arith, split-none _, c .before .before .before .before .before .before .rows-before .ensures)))
 
--- src/times.rt:134:9
+-- src/times.rt:131:9
 slice-aggregate-peel : tie.Need-slice-aggregate-peel
 slice-aggregate-peel c = search needs
 
--- src/times.rt:135:9
+-- src/times.rt:132:9
 slice-aggregate-peel-2 : tie.Need-slice-aggregate-peel-2
 slice-aggregate-peel-2 c = search needs
 
--- src/times.rt:123:5
+-- src/times.rt:120:5
 peel-requires : tie.Need-peel-requires
 peel-requires c κs = (ready-of (c .before .before .before .before .before .before .before .before .before .before .before .before .before .before .before .before .before .before .before .before .pre .0) (c .before .before .before .before .before .before .move-heads .ensures .0) (c .before .before .before .before .before .before .before .before .before .before .before .before .before .before .before .before .before .before .before .before .pre .1 .0) (c .before .before .before .before .before .before .before .before .before .before .before .before .before .before .before .before .before .before .before .before .pre .1 .2) (c .before .before .before .before .before .before .before .before .before .before .before .before .before .rows-before .ensures), (span-of (c .before .before .before .before .before .before .before .before .before .before .before .before .before .before .before .before .before .before .before .before .pre .1 .1) (c .before .before .before .before .before .before .before .before .before .before .before .before .before .rows-before .ensures) (c .before .before .before .before .before .before .before .before .before .before .before .before .rows-before2 .ensures), (c .before .before .before .before .before .before .before .before .before .before .before .before .before .before .before .before .before .before .before .before .pre .1 .3, refl, omega arith)))
 
--- src/times.rt:137:5
+-- src/times.rt:134:5
 time-rows-requires : tie.Need-time-rows-requires
-time-rows-requires c κs = (ready-of (c .before .before .before .before .before .before .before .before .before .before .before .before .before .before .before .before .before .before .before .before .before .before .before .before .before .before .before .before .pre .0) (c .before .before .before .before .before .before .before .before .before .before .before .before .before .before .move-heads .ensures .0) (c .before .before .before .before .before .before .before .before .before .before .before .before .before .before .before .before .before .before .before .before .before .before .before .before .before .before .before .before .pre .1 .0) (c .before .before .before .before .before .before .before .before .before .before .before .before .before .before .before .before .before .before .before .before .before .before .before .before .before .before .before .before .pre .1 .2) (c .before .before .before .before .before .before .before .before .before .before .before .before .before .before .before .before .before .before .before .before .before .rows-before .ensures), (span-of (c .before .before .before .before .before .before .before .before .before .before .before .before .before .before .before .before .before .before .before .before .before .before .before .before .before .before .before .before .pre .1 .1) (c .before .before .before .before .before .before .before .before .before .before .before .before .before .before .before .before .before .before .before .before .before .rows-before .ensures) (c .before .before .before .before .before .before .before .before .before .before .before .before .before .before .before .before .before .before .before .before .rows-before2 .ensures), (c .before .before .before .before .before .before .before .peel .ensures, c .before .before .before .before .before .before .before .before .before .before .before .before .before .before .before .before .before .before .before .before .before .before .before .before .before .before .before .before .pre .1 .4)))
+time-rows-requires c κs = (framed-of (c .before .before .before .before .before .before .before .before .before .before .before .before .before .before .before .before .before .before .before .before .before .before .before .before .before .before .before .pre .0) (c .before .before .before .before .before .before .before .before .before .before .before .before .before .before .before .before .before .before .before .before .before .before .before .before .before .before .before .pre .1 .0) (c .before .before .before .before .before .before .before .before .before .before .before .before .before .before .before .before .before .before .before .before .before .before .before .before .before .before .before .pre .1 .2) (c .before .before .before .before .before .before .before .before .before .before .before .before .before .before .before .before .before .before .before .before .rows-before .ensures), (span-of (c .before .before .before .before .before .before .before .before .before .before .before .before .before .before .before .before .before .before .before .before .before .before .before .before .before .before .before .pre .1 .1) (c .before .before .before .before .before .before .before .before .before .before .before .before .before .before .before .before .before .before .before .before .rows-before .ensures) (c .before .before .before .before .before .before .before .before .before .before .before .before .before .before .before .before .before .before .before .rows-before2 .ensures), (c .before .before .before .before .before .before .peel .ensures, c .before .before .before .before .before .before .before .before .before .before .before .before .before .before .before .before .before .before .before .before .before .before .before .before .before .before .before .pre .1 .4)))
 
--- src/times.rt:150:5
+-- src/times.rt:146:5
 clear-requires : tie.Need-clear-requires
 clear-requires c κs = search needs
 
--- src/times.rt:102:1
+-- src/times.rt:99:1
 same-length : tie.Need-same-length
 same-length c = search needs
 
--- src/times.rt:102:1
+-- src/times.rt:99:1
 same-length-2 : tie.Need-same-length-2
 same-length-2 c = search needs
 
--- src/times.rt:102:1
+-- src/times.rt:99:1
 same-length-3 : tie.Need-same-length-3
 same-length-3 c = search needs
 
--- src/times.rt:102:1
+-- src/times.rt:99:1
 returns : tie.Need-returns
-returns c = (accounts-are (c .before .before .before .before .before .before .before .before .before .before .before .before .before .before .peel .ensures), c .before .before .before .before .before .before .time-rows .ensures, c .before .before .clear .ensures ∙ ap (λ (m : ℕ). replicate m 0) (c .before .before .before .before .before .before .before .before .before .before .before .before .before .before .before .before .before .before .before .before .before .move-heads .kept .1 .1 .1 .0 ∙ c .before .before .before .before .before .before .before .before .before .before .before .before .before .before .before .before .before .before .before .before .before .before .before .before .before .link .kept .1 .1 .1 .0))
+returns c = (accounts-are (c .before .before .before .before .before .before .before .before .before .before .before .before .before .peel .ensures), c .before .before .before .before .before .before .time-rows .ensures, c .before .before .clear .ensures ∙ ap (λ (m : ℕ). replicate m 0) (c .before .before .before .before .before .before .before .before .before .before .before .before .before .before .before .before .before .before .before .before .move-heads .kept .1 .1 .1 .0 ∙ c .before .before .before .before .before .before .before .before .before .before .before .before .before .before .before .before .before .before .before .before .before .before .before .before .link .kept .1 .1 .1 .0))
 
 pub find-times-spec : {M : Type 1} → statement M
 find-times-spec =

@@ -1,5 +1,5 @@
-use Rattle.rings.proofs.TimeLaws.{row-early, row-late, row-reads, row-mid}
 use native.Mathlib.Omega.{arith}
+use Rattle.rings.proofs.TimeLaws.{row-early, row-late, row-reads, row-mid}
 use borrow.Author.Needs.{needs}
 use Rattle.rings.proofs.times.row_time.Statement.{statement}
 use Rattle.rings.proofs.times.row_time.Tie as tie
@@ -8,57 +8,57 @@ use Rattle.rings.proofs.times.row_time.Lts as lts
 use Rattle.rings.proofs.links.entry.Reads as entry-reads
 use Rattle.rings.proofs.times.greater.Reads as greater-reads
 
--- src/times.rt:40:9
+-- src/times.rt:51:9
 returns : tie.Need-returns
-returns c = row-early _ _ _ _ _ (c .before .before .before .before .before .before .pre .0) (c .before .before .before .before .before .before .pre .1 .0) (c .before .before .before .before .before .before .pre .1 .1 .0) (c .before .before .before .before .before .before .pre .1 .1 .1) (c .if1 .taken)
+returns c = row-early _ _ _ _ (c .before .before .before .before .before .pre .0) (c .before .before .before .before .before .pre .1 .0) (c .before .before .before .before .before .pre .1 .1 .0) (c .before .before .before .before .before .pre .1 .1 .1) (c .if1 .taken)
 
--- src/times.rt:43:9
+-- src/times.rt:54:9
 returns-2 : tie.Need-returns-2
-returns-2 c = row-late _ _ _ _ _ (c .before .before .before .before .before .before .before .pre .0) (c .before .before .before .before .before .before .before .pre .1 .0) (c .before .before .before .before .before .before .before .pre .1 .1 .0) (c .before .before .before .before .before .before .before .pre .1 .1 .1) (c .if2 .taken)
+returns-2 c = row-late _ _ _ _ (c .before .before .before .before .before .before .pre .0) (c .before .before .before .before .before .before .pre .1 .0) (c .before .before .before .before .before .before .pre .1 .1 .0) (c .before .before .before .before .before .before .pre .1 .1 .1) (c .if2 .taken)
 
--- src/times.rt:45:9
+-- src/times.rt:56:9
 entry-requires : tie.Need-entry-requires
 entry-requires c κs = search needs
 
--- src/times.rt:46:9
+-- src/times.rt:57:9
 entry-requires-2 : tie.Need-entry-requires-2
 entry-requires-2 c κs = search needs
 
--- src/times.rt:47:21
+-- src/times.rt:58:21
 mul-greater : tie.Need-mul-greater
-mul-greater c = omega (arith, row-reads _ _ _ _ _ (c .before .before .before .before .before .before .before .before .before .pre .0) (c .before .before .before .before .before .before .before .before .before .pre .1 .0) (c .before .before .before .before .before .before .before .before .before .pre .1 .1 .0) (c .before .before .before .before .before .before .before .before .before .pre .1 .1 .1) (c .before .entry .ensures) (c .entry2 .ensures))
+mul-greater c = omega (arith, row-reads _ _ _ _ (c .before .before .before .before .before .before .before .before .pre .0) (c .before .before .before .before .before .before .before .before .pre .1 .0) (c .before .before .before .before .before .before .before .before .pre .1 .1 .0) (c .before .before .before .before .before .before .before .before .pre .1 .1 .1) (c .before .entry .ensures) (c .entry2 .ensures))
 
--- src/times.rt:47:21
+-- src/times.rt:58:21
 shared-slice-read-greater : tie.Need-shared-slice-read-greater
-shared-slice-read-greater c = row-reads _ _ _ _ _ (c .before .before .before .before .before .before .before .before .before .before .pre .0) (c .before .before .before .before .before .before .before .before .before .before .pre .1 .0) (c .before .before .before .before .before .before .before .before .before .before .pre .1 .1 .0) (c .before .before .before .before .before .before .before .before .before .before .pre .1 .1 .1) (c .before .before .entry .ensures) (c .before .entry2 .ensures) .2
+shared-slice-read-greater c = row-reads _ _ _ _ (c .before .before .before .before .before .before .before .before .before .pre .0) (c .before .before .before .before .before .before .before .before .before .pre .1 .0) (c .before .before .before .before .before .before .before .before .before .pre .1 .1 .0) (c .before .before .before .before .before .before .before .before .before .pre .1 .1 .1) (c .before .before .entry .ensures) (c .before .entry2 .ensures) .2
 
--- src/times.rt:47:31
+-- src/times.rt:58:31
 mul-greater-2 : tie.Need-mul-greater-2
-mul-greater-2 c = omega (arith, row-reads _ _ _ _ _ (c .before .before .before .before .before .before .before .before .before .before .pre .0) (c .before .before .before .before .before .before .before .before .before .before .pre .1 .0) (c .before .before .before .before .before .before .before .before .before .before .pre .1 .1 .0) (c .before .before .before .before .before .before .before .before .before .before .pre .1 .1 .1) (c .before .before .entry .ensures) (c .before .entry2 .ensures))
+mul-greater-2 c = omega (arith, row-reads _ _ _ _ (c .before .before .before .before .before .before .before .before .before .pre .0) (c .before .before .before .before .before .before .before .before .before .pre .1 .0) (c .before .before .before .before .before .before .before .before .before .pre .1 .1 .0) (c .before .before .before .before .before .before .before .before .before .pre .1 .1 .1) (c .before .before .entry .ensures) (c .before .entry2 .ensures))
 
--- src/times.rt:47:31
+-- src/times.rt:58:31
 shared-slice-read-greater-2 : tie.Need-shared-slice-read-greater-2
-shared-slice-read-greater-2 c = row-reads _ _ _ _ _ (c .before .before .before .before .before .before .before .before .before .before .before .pre .0) (c .before .before .before .before .before .before .before .before .before .before .before .pre .1 .0) (c .before .before .before .before .before .before .before .before .before .before .before .pre .1 .1 .0) (c .before .before .before .before .before .before .before .before .before .before .before .pre .1 .1 .1) (c .before .before .before .entry .ensures) (c .before .before .entry2 .ensures) .3
+shared-slice-read-greater-2 c = row-reads _ _ _ _ (c .before .before .before .before .before .before .before .before .before .before .pre .0) (c .before .before .before .before .before .before .before .before .before .before .pre .1 .0) (c .before .before .before .before .before .before .before .before .before .before .pre .1 .1 .0) (c .before .before .before .before .before .before .before .before .before .before .pre .1 .1 .1) (c .before .before .before .entry .ensures) (c .before .before .entry2 .ensures) .3
 
--- src/times.rt:47:13
+-- src/times.rt:58:13
 greater-requires : tie.Need-greater-requires
 greater-requires c κs = search needs
 
--- src/times.rt:47:42
+-- src/times.rt:58:42
 mul-greater-3 : tie.Need-mul-greater-3
 mul-greater-3 c = search needs
 
--- src/times.rt:47:42
+-- src/times.rt:58:42
 shared-slice-read-greater-3 : tie.Need-shared-slice-read-greater-3
 shared-slice-read-greater-3 c = search needs
 
--- src/times.rt:47:5
+-- src/times.rt:58:5
 greater-requires-2 : tie.Need-greater-requires-2
 greater-requires-2 c κs = search needs
 
 -- src/times.rt:32:1
 returns-3 : tie.Need-returns-3
-returns-3 c = row-mid _ _ _ _ _ (c .before .before .before .before .before .before .before .before .before .before .before .before .before .before .pre .0) (c .before .before .before .before .before .before .before .before .before .before .before .before .before .before .pre .1 .0) (c .before .before .before .before .before .before .before .before .before .before .before .before .before .before .pre .1 .1 .0) (c .before .before .before .before .before .before .before .before .before .before .before .before .before .before .pre .1 .1 .1) (c .before .before .before .before .before .before .before .before .if1 .left) (c .before .before .before .before .before .before .before .if2 .left) (c .before .before .before .before .before .before .entry .ensures) (c .before .before .before .before .before .entry2 .ensures) (c .before .before .greater .ensures) (c .greater2 .ensures)
+returns-3 c = row-mid _ _ _ _ (c .before .before .before .before .before .before .before .before .before .before .before .before .before .pre .0) (c .before .before .before .before .before .before .before .before .before .before .before .before .before .pre .1 .0) (c .before .before .before .before .before .before .before .before .before .before .before .before .before .pre .1 .1 .0) (c .before .before .before .before .before .before .before .before .before .before .before .before .before .pre .1 .1 .1) (c .before .before .before .before .before .before .before .before .if1 .left) (c .before .before .before .before .before .before .before .if2 .left) (c .before .before .before .before .before .before .entry .ensures) (c .before .before .before .before .before .entry2 .ensures) (c .before .before .greater .ensures) (c .greater2 .ensures)
 
 pub row-time-spec : {M : Type 1} → statement M
 row-time-spec =

@@ -1,11 +1,10 @@
-use Rattle.rings.proofs.TimeLaws.{Filled, fill-start, fill-next, fill-end}
-use Rattle.rings.specs.Inner.Peeling.{query}
-use Rattle.rings.specs.CoreTimes.{rowTime}
-use Rattle.rings.specs.Table.{tableOf}
-use lib.ListN.{length}
-use Prim.Native.Nat.{_-_, _≤_}
 use native.Mathlib.Omega.{arith}
-use borrow.Author.Needs.{needs}
+use Prim.Native.Nat.{_-_, _≤_}
+use lib.ListN.{length}
+use Rattle.rings.specs.Table.{tableOf}
+use Rattle.rings.specs.CoreTimes.{rowTime}
+use Rattle.rings.specs.Inner.Peeling.{query}
+use Rattle.rings.proofs.TimeLaws.{Filled, fill-start, fill-next, fill-end}
 use Rattle.rings.proofs.times.time_rows.Statement.{statement}
 use Rattle.rings.proofs.times.time_rows.Tie as tie
 use Rattle.rings.proofs.times.time_rows.Reads as reads
@@ -13,46 +12,46 @@ use Rattle.rings.proofs.times.time_rows.Lts as lts
 use Rattle.rings.proofs.times.row_time.Reads as row-time-reads
 
 abbrev Inv-loop : tie.InvT-loop
-Inv-loop days first second links k start stop lo end times rows₀ j₀ rows j = (j ≤ length days) × Filled (rowTime (tableOf days first second) (query k) stop start) j rows₀ rows
+Inv-loop days first second k start stop lo end times rows₀ j₀ rows j = (j ≤ length days) × Filled (rowTime (tableOf days first second) (query k) stop start) j rows₀ rows
 
 abbrev μ-loop : tie.MeasureT-loop
-μ-loop days first second links k start stop lo end times rows₀ j₀ rows j = length days - j
+μ-loop days first second k start stop lo end times rows₀ j₀ rows j = length days - j
 
--- src/times.rt:59:5
+-- src/times.rt:81:5
 loop-holds : tie.Need-loop-holds Inv-loop μ-loop
 loop-holds c = (omega arith, fill-start _ _)
 
--- src/times.rt:60:19
+-- src/times.rt:82:19
 row-time-requires : tie.Need-row-time-requires Inv-loop μ-loop
-row-time-requires c κs = (c .before .before .before .before .before .before .before .before .pre .0, (c .before .before .before .before .before .before .before .before .pre .1 .0, (c .before .before .before .before .before .before .before .before .pre .1 .1 .0, c .loop-test .taken)))
+row-time-requires c κs = (c .before .before .before .before .before .before .before .pre .0, (c .before .before .before .before .before .before .before .pre .1 .0, (c .before .before .before .before .before .before .before .pre .1 .1 .0, c .loop-test .taken)))
 
--- src/times.rt:60:9
+-- src/times.rt:82:9
 mul-rows : tie.Need-mul-rows Inv-loop μ-loop
-mul-rows c = omega (arith, c .before .loop-test .taken, c .before .before .before .before .before .before .before .before .before .pre .0 .sound .most)
+mul-rows c = omega (arith, c .before .loop-test .taken, c .before .before .before .before .before .before .before .before .pre .0 .sound .most)
 
--- src/times.rt:60:9
+-- src/times.rt:82:9
 slice-write-rows : tie.Need-slice-write-rows Inv-loop μ-loop
-slice-write-rows c = omega (arith, c .before .loop-test .taken, c .before .before .before .before .before .before .before .before .before .pre .1 .1 .1, c .before .before .loop .inv .1 .long)
+slice-write-rows c = omega (arith, c .before .loop-test .taken, c .before .before .before .before .before .before .before .before .pre .1 .1 .1, c .before .before .loop .inv .1 .long)
 
--- src/times.rt:61:9
+-- src/times.rt:94:9
 add-j : tie.Need-add-j Inv-loop μ-loop
-add-j c = omega (arith, c .before .loop-test .taken, c .before .before .before .before .before .before .before .before .before .pre .0 .sound .most)
+add-j c = omega (arith, c .before .loop-test .taken, c .before .before .before .before .before .before .before .before .pre .0 .sound .most)
 
--- src/times.rt:59:5
+-- src/times.rt:81:5
 loop-less : tie.Need-loop-less Inv-loop μ-loop
 loop-less c = omega (arith, c .before .loop-test .taken)
 
--- src/times.rt:59:5
+-- src/times.rt:81:5
 loop-again : tie.Need-loop-again Inv-loop μ-loop
-loop-again c = (omega (arith, c .before .loop-test .taken), fill-next (c .before .before .loop .inv .1) (omega (arith, c .before .loop-test .taken, c .before .before .before .before .before .before .before .before .before .pre .1 .1 .1, c .before .before .loop .inv .1 .long)) (c .row-time .ensures))
+loop-again c = (omega (arith, c .before .loop-test .taken), fill-next (c .before .before .loop .inv .1) (omega (arith, c .before .loop-test .taken, c .before .before .before .before .before .before .before .before .pre .1 .1 .1, c .before .before .loop .inv .1 .long)) (c .row-time .ensures))
 
--- src/times.rt:51:1
+-- src/times.rt:62:1
 same-length : tie.Need-same-length Inv-loop μ-loop
 same-length c = c .before .loop .inv .1 .long
 
--- src/times.rt:51:1
+-- src/times.rt:62:1
 returns : tie.Need-returns Inv-loop μ-loop
-returns c = fill-end _ (c .before .loop .inv .1) (c .before .before .before .before .before .before .before .before .pre .1 .1 .1) (c .loop-test .left)
+returns c = fill-end _ (c .before .loop .inv .1) (c .before .before .before .before .before .before .before .pre .1 .1 .1) (c .loop-test .left)
 
 pub time-rows-spec : {M : Type 1} → statement M
 time-rows-spec =

@@ -1,0 +1,85 @@
+use Prim.Native.Nat.{_-_}
+use native.Mathlib.Omega.{arith}
+use mathlib.Core.Path.{_≡_, refl, _∙_}
+use lib.ListN.{length}
+use Rattle.rings.specs.Inner.Peeling.{guess}
+use Rattle.rings.specs.Table.{tableOf}
+use Rattle.rings.proofs.TrimLaws.{Trimming, trimming-start, trimming-next}
+use Rattle.rings.proofs.shelf.trim.Statement.{statement}
+use Rattle.rings.proofs.shelf.trim.Tie as tie
+use Rattle.rings.proofs.shelf.trim.Reads as reads
+use Rattle.rings.proofs.shelf.trim.Lts as lts
+use Rattle.rings.proofs.shelf.trim_account.Reads as trim-account-reads
+
+abbrev Inv-loop : tie.InvT-loop
+Inv-loop days first second scratch₀ day times u₀ scratch u = (length scratch ≡ length scratch₀) × Trimming (tableOf days first second) (guess times) scratch₀ scratch
+
+abbrev μ-loop : tie.MeasureT-loop
+μ-loop days first second scratch₀ day times u₀ scratch u = 4096 - u
+
+-- src/shelf.rt:89:5
+loop-holds : tie.Need-loop-holds Inv-loop μ-loop
+loop-holds c = (refl, trimming-start _ (c .before .before .before .before .before .pre .1 .0))
+
+-- src/shelf.rt:90:12
+mul-if1 : tie.Need-mul-if1 Inv-loop μ-loop
+mul-if1 c = omega (arith, c .loop-test .taken)
+
+-- src/shelf.rt:90:12
+shared-slice-read-if1 : tie.Need-shared-slice-read-if1 Inv-loop μ-loop
+shared-slice-read-if1 c = omega (arith, c .before .loop-test .taken, c .before .before .before .before .before .before .before .before .pre .1 .1)
+
+-- src/shelf.rt:91:13
+add-u : tie.Need-add-u Inv-loop μ-loop
+add-u c = omega (arith, c .before .before .loop-test .taken)
+
+-- src/shelf.rt:89:5
+loop-less : tie.Need-loop-less Inv-loop μ-loop
+loop-less c = omega (arith, c .before .before .loop-test .taken)
+
+-- src/shelf.rt:89:5
+loop-again : tie.Need-loop-again Inv-loop μ-loop
+loop-again c = (c .before .before .before .loop .inv .0, c .before .before .before .loop .inv .1)
+
+-- src/shelf.rt:94:9
+trim-account-requires : tie.Need-trim-account-requires Inv-loop μ-loop
+trim-account-requires c κs = (c .before .before .before .before .before .before .before .before .before .before .pre .0, (c .before .before .before .before .loop .inv .1 .shelves, c .before .before .before .before .before .before .before .before .before .before .pre .1 .1, c .before .before .before .loop-test .taken))
+
+-- src/shelf.rt:95:9
+add-u-2 : tie.Need-add-u-2 Inv-loop μ-loop
+add-u-2 c = omega (arith, c .before .before .before .before .before .before .loop-test .taken)
+
+-- src/shelf.rt:89:5
+loop-less-2 : tie.Need-loop-less-2 Inv-loop μ-loop
+loop-less-2 c = omega (arith, c .before .before .before .before .before .before .loop-test .taken)
+
+-- src/shelf.rt:89:5
+loop-again-2 : tie.Need-loop-again-2 Inv-loop μ-loop
+loop-again-2 c = (c .before .before .trim-account .ensures .long ∙ c .before .before .before .before .before .before .before .loop .inv .0, trimming-next (c .before .before .before .before .before .before .before .loop .inv .1) (c .before .before .before .before .before .before .loop-test .taken) (c .before .before .trim-account .ensures))
+
+-- src/shelf.rt:83:1
+same-length : tie.Need-same-length Inv-loop μ-loop
+same-length c = c .before .loop .inv .0
+
+-- src/shelf.rt:83:1
+returns : tie.Need-returns Inv-loop μ-loop
+returns c = (c .before .loop .inv .1 .shelves, c .before .loop .inv .1 .covered)
+
+pub trim-spec : {M : Type 1} → statement M
+trim-spec =
+    tie.close
+    (tie.spec
+    Inv-loop
+    μ-loop
+    loop-holds
+    mul-if1
+    shared-slice-read-if1
+    add-u
+    loop-less
+    loop-again
+    trim-account-requires
+    add-u-2
+    loop-less-2
+    loop-again-2
+    same-length
+    returns)
