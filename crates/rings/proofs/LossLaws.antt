@@ -5,7 +5,7 @@
 --     leaving-start, leaving-row, leaving-last                          the rows that leave
 --     first-is, second-is, day-of, first-small, second-small             what the code reads of a row
 -- Assumes nothing.
-use Prim.Native.Nat.{ℕ, suc, min, _+_, _-_, _*_, _≤_, _<_}
+use Prim.Native.Nat.{ℕ, suc, min, max, _+_, _-_, _*_, _≤_, _<_}
 use native.Mathlib.Nat.{le-refl, le-trans, le-antisymm, eq-or-lt-of-le}
 use native.Mathlib.Numerals.{add-one}
 use native.Mathlib.Omega.{arith}
@@ -232,8 +232,8 @@ module _ (d f g links : List ℕ) (r : Season) (R : Open d f g links r) (xs : Li
         pub wave-small : v < 4096
         wave-small = subst (λ (w : ℕ). w < 4096) (sym w-other) (other-small tw (query (r .k)) (r .start) (r .end) (r .lo) (R .setting) j u w-below (reading-touch d f g links (R .sound) (R .shelves) small (W .reading) ee more ej))
 
-        pub wave-next : {y w : Bool} {z end′ : ℕ} {sp′ ws′ : List ℕ} → end < 4352 → y ≡ (leb (r .lo) j and leb (getD links (8192 + 2 * length d + j) 0) (r .lo)) → z ≡ getD xs v 0 → w ≡ ((leb old z && leb day z) && ltb z new) → Losing (y && w) v end sp ws sp′ ws′ end′ → Wave d f g links r xs u old new tail sp₀ ws₀ (j + 1) (p + 1) end′ sp′ ws′
-        wave-next {y} {w} {z} room ey ez ew L =
+        pub wave-next : {y w : Bool} {z own end′ : ℕ} {sp′ ws′ : List ℕ} → end < 4352 → y ≡ (leb (r .lo) j and leb (getD links (8192 + 2 * length d + j) 0) (r .lo)) → z ≡ getD xs v 0 → own ≡ max old day → w ≡ (leb own z && ltb z new) → Losing (y && w) v end sp ws sp′ ws′ end′ → Wave d f g links r xs u old new tail sp₀ ws₀ (j + 1) (p + 1) end′ sp′ ws′
+        wave-next {y} {w} {z} {own} room ey ez eo ew L =
             record {
               reading = reading-next d f g links (R .sound) (R .shelves) small (W .reading) ee more ej;
               done = lessened-next tw (guess xs) (r .lo) u old new sp₀ (W .done) j (λ i a k z y o. over (w-gap i a k y) z o) w-other wave-small lost L;
@@ -244,7 +244,7 @@ module _ (d f g links : List ℕ) (r : Season) (R : Open d f g links r) (xs : Li
             time = ez ∙ sym (guess-at xs v len wave-small)
 
             lost : fresh tw (r .lo) j ≡ true → old ≤ guess xs v → dayOf tw j ≤ guess xs v → guess xs v < new → (y && w) ≡ true
-            lost h a c n = let t = time in let e = w-day in both (reading-fresh d f g links (R .sound) (R .shelves) small (W .reading) ee more ej (r .lo) ey ∙ h) (ew ∙ lost-i old z day new (omega arith) (omega arith) (omega arith))
+            lost h a c n = let t = time in let e = w-day in both (reading-fresh d f g links (R .sound) (R .shelves) small (W .reading) ee more ej (r .lo) ey ∙ h) (ew ∙ both (le-leb own z (omega arith)) (lt-ltb z new (omega arith)))
 
 -- ---- who loses one by a row that leaves
 

@@ -74,7 +74,7 @@ module _ (d f g links : List ℕ) (r : Season) (R : Open d f g links r) (xs : Li
         λ y. rise-all tt q (r .start) (r .end) (r .lo) (R .setting) u old new xs small (Z .shift y) (λ i a k o. ⊎-elim keeps (λ z. _⊎_.inr (_⊎_.inr z)) (wave-late d f g links r R xs len small E D old new en tail sp₀ ws₀ (Z .wave) ee more ej ed eu h i a k o)),
       )
 
-      module _ (before : day < until) {a e v z : ℕ} (ea : a ≡ getD f j 0) (eb : e ≡ getD g j 0) (ev : v ≡ pickOther (eqb a u) a e) (ez : z ≡ getD xs v 0) {w time : ℕ} (ew : w ≡ max old z) (et : time ≡ max w day) where
+      module _ (before : day < until) {a e v z : ℕ} (ea : a ≡ getD f j 0) (eb : e ≡ getD g j 0) (ev : v ≡ pickOther (eqb a u) a e) (ez : z ≡ getD xs v 0) {own time : ℕ} (eo : own ≡ max old day) (et : time ≡ max own z) where
         w-day : day ≡ dayOf tt j
         unfolding dayOf at
         w-day = ed
@@ -104,13 +104,13 @@ module _ (d f g links : List ℕ) (r : Season) (R : Open d f g links r) (xs : Li
               rise-asks tt q (r .start) (r .end) (r .lo) (R .setting) u old new xs small (Z .shift h) from (reading-row d f g links (R .sound) (R .shelves) small (Z .wave .reading) ee more ej)
               (reading-touch d f g links (R .sound) (R .shelves) small (Z .wave .reading) ee more ej) (λ i a k o. over (reading-gap d f g links (R .sound) (R .shelves) small (Z .wave .reading) ee more ej E i a k o)) (omega arith) (omega arith) z-is (omega arith) yes not z-day new-day (R .sound .most)
 
-          pub surge-next : {fr lost : Bool} {end′ m′ : ℕ} {sp′ ws′ counts′ : List ℕ} → end < 4352 → fr ≡ (leb (r .lo) j and leb (getD links (8192 + 2 * length d + j) 0) (r .lo)) → lost ≡ ((leb old z && leb day z) && ltb z new) → Losing (fr && lost) v end sp ws sp′ ws′ end′ → (counting ≡ true → Taking test time m counts counts′ m′) → Surge d f g links r xs u old new tail sp₀ ws₀ counting (p + 1) end′ m′ sp′ ws′ counts′
+          pub surge-next : {fr lost : Bool} {end′ m′ : ℕ} {sp′ ws′ counts′ : List ℕ} → end < 4352 → fr ≡ (leb (r .lo) j and leb (getD links (8192 + 2 * length d + j) 0) (r .lo)) → lost ≡ (leb own z && ltb z new) → Losing (fr && lost) v end sp ws sp′ ws′ end′ → (counting ≡ true → Taking test time m counts counts′ m′) → Surge d f g links r xs u old new tail sp₀ ws₀ counting (p + 1) end′ m′ sp′ ws′ counts′
           surge-next room ef el L T =
               let dd = w-day in
               record {
                 b = j + 1;
                 late = let a = Z .late in let c = from in omega arith;
-                wave = wave-next d f g links r R xs len small E D old new en tail sp₀ ws₀ (Z .wave) ee more ej ed ea eb ev room ef ez el L;
+                wave = wave-next d f g links r R xs len small E D old new en tail sp₀ ws₀ (Z .wave) ee more ej ed ea eb ev room ef ez eo el L;
                 shift = λ h. rise-row tt q (r .start) (r .end) (r .lo) (R .setting) u old new xs small (Z .shift h) from (reading-row d f g links (R .sound) (R .shelves) small (Z .wave .reading) ee more ej)
                     (reading-touch d f g links (R .sound) (R .shelves) small (Z .wave .reading) ee more ej) (λ i a k o. over (reading-gap d f g links (R .sound) (R .shelves) small (Z .wave .reading) ee more ej E i a k o)) (omega arith) (omega arith) z-is (omega arith) yes not z-day new-day (T h);
               }

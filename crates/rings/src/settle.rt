@@ -289,10 +289,11 @@ fn lose_others(
         let b = entry(second, j);
         let v = other(a, b, u);
         let z = times[v];
-        let lost = is_lost(z, day, old, new);
-        end = lose(spare, queue, end, v, fresh & lost);
-        let time = greater(greater(old, z), day);
+        let own = greater(old, day);
         let moves = z < new;
+        let lost = (own <= z) & moves;
+        end = lose(spare, queue, end, v, fresh & lost);
+        let time = greater(own, z);
         moved = take_count(counting, counts, moves, time, moved);
     }
     pay_counts(counting, counts, new, moved);

@@ -1,12 +1,12 @@
-use Rattle.rings.proofs.SurgeLaws.{Surge, surge-start, surge-out, surge-late, surge-stop, surge-asks, surge-next, surge-pays}
-use Rattle.rings.proofs.LossLaws.{wave-small}
-use Rattle.rings.proofs.CountingLaws.{owing-end}
-use Rattle.rings.proofs.ShelfLaws.{reading-place, reading-few, reading-row, reading-ends, reading-fresh-place}
-use Rattle.rings.specs.Inner.Peeling.{season}
-use mathlib.Core.Path.{_≡_, refl, _∙_, sym}
-use lib.ListN.{length, getD}
-use Prim.Native.Nat.{_-_}
 use native.Mathlib.Omega.{arith}
+use Prim.Native.Nat.{_-_}
+use lib.ListN.{length, getD}
+use mathlib.Core.Path.{_≡_, refl, _∙_, sym}
+use Rattle.rings.specs.Inner.Peeling.{season}
+use Rattle.rings.proofs.ShelfLaws.{reading-place, reading-few, reading-row, reading-ends, reading-fresh-place}
+use Rattle.rings.proofs.CountingLaws.{owing-end}
+use Rattle.rings.proofs.LossLaws.{wave-small}
+use Rattle.rings.proofs.SurgeLaws.{Surge, surge-start, surge-out, surge-late, surge-stop, surge-asks, surge-next, surge-pays}
 use borrow.Author.Needs.{needs}
 use Rattle.rings.proofs.settle.lose_others.Statement.{statement}
 use Rattle.rings.proofs.settle.lose_others.Tie as tie
@@ -18,7 +18,6 @@ use Rattle.rings.proofs.counts.take_count.Reads as take-count-reads
 use Rattle.rings.proofs.links.entry.Reads as entry-reads
 use Rattle.rings.proofs.links.other.Reads as other-reads
 use Rattle.rings.proofs.peel.is_first.Reads as is-first-reads
-use Rattle.rings.proofs.settle.is_lost.Reads as is-lost-reads
 use Rattle.rings.proofs.settle.lose.Reads as lose-reads
 use Rattle.rings.proofs.times.greater.Reads as greater-reads
 
@@ -125,34 +124,30 @@ shared-slice-read-z : tie.Need-shared-slice-read-z Inv-loop μ-loop
 shared-slice-read-z c = omega (arith, wave-small _ _ _ _ _ (c .before .before .before .before .before .before .before .before .before .before .before .before .before .before .before .before .before .before .before .before .before .pre .0) _ (c .before .before .before .before .before .before .before .before .before .before .before .before .before .before .before .before .before .before .before .before .before .pre .1 .0 .1) (c .before .before .before .before .before .before .before .before .before .before .before .before .before .before .before .before .before .before .before .before .before .pre .1 .0 .0) (c .before .before .before .before .before .before .before .before .before .before .before .before .before .before .before .before .before .before .before .before .before .pre .1 .0 .5) (c .before .before .before .before .before .before .before .before .before .before .before .before .before .before .before .before .before .before .before .before .before .pre .1 .0 .6) _ _ (c .before .before .before .before .before .before .before .before .before .before .before .before .before .before .before .before .before .before .before .before .before .pre .1 .0 .7) _ _ _ (c .before .before .before .before .before .before .before .before .before .before .loop .inv .3 .wave) (c .before .before .before .before .before .before .before .before .before .before .loop .inv .1) (c .before .before .before .before .before .before .before .before .before .loop-test .taken) (c .before .before .before .before .before .before .before .before .entry2 .ensures) refl (c .before .before .before .entry3 .ensures) (c .before .before .entry4 .ensures) (c .before .other .ensures), c .before .before .before .before .before .before .before .before .before .before .before .before .before .before .before .before .before .before .before .before .before .pre .1 .0 .1)
 
 -- src/settle.rt:292:13
-is-lost-requires : tie.Need-is-lost-requires Inv-loop μ-loop
-is-lost-requires c κs = search needs
-
--- src/settle.rt:293:9
-lose-requires : tie.Need-lose-requires Inv-loop μ-loop
-lose-requires c κs = (c .before .before .before .before .before .before .before .before .before .before .before .before .before .loop .inv .3 .wave .done .long, c .before .before .before .before .before .before .before .before .before .before .before .before .before .loop .inv .3 .wave .queued .long, wave-small _ _ _ _ _ (c .before .before .before .before .before .before .before .before .before .before .before .before .before .before .before .before .before .before .before .before .before .before .before .before .pre .0) _ (c .before .before .before .before .before .before .before .before .before .before .before .before .before .before .before .before .before .before .before .before .before .before .before .before .pre .1 .0 .1) (c .before .before .before .before .before .before .before .before .before .before .before .before .before .before .before .before .before .before .before .before .before .before .before .before .pre .1 .0 .0) (c .before .before .before .before .before .before .before .before .before .before .before .before .before .before .before .before .before .before .before .before .before .before .before .before .pre .1 .0 .5) (c .before .before .before .before .before .before .before .before .before .before .before .before .before .before .before .before .before .before .before .before .before .before .before .before .pre .1 .0 .6) _ _ (c .before .before .before .before .before .before .before .before .before .before .before .before .before .before .before .before .before .before .before .before .before .before .before .before .pre .1 .0 .7) _ _ _ (c .before .before .before .before .before .before .before .before .before .before .before .before .before .loop .inv .3 .wave) (c .before .before .before .before .before .before .before .before .before .before .before .before .before .loop .inv .1) (c .before .before .before .before .before .before .before .before .before .before .before .before .loop-test .taken) (c .before .before .before .before .before .before .before .before .before .before .before .entry2 .ensures) refl (c .before .before .before .before .before .before .entry3 .ensures) (c .before .before .before .before .before .entry4 .ensures) (c .before .before .before .before .other .ensures), c .before .before .before .before .before .before .before .before .if2 .left)
-
--- src/settle.rt:294:28
 greater-requires : tie.Need-greater-requires Inv-loop μ-loop
 greater-requires c κs = search needs
 
--- src/settle.rt:294:13
+-- src/settle.rt:295:9
+lose-requires : tie.Need-lose-requires Inv-loop μ-loop
+lose-requires c κs = (c .before .before .before .before .before .before .before .before .before .before .before .before .before .loop .inv .3 .wave .done .long, c .before .before .before .before .before .before .before .before .before .before .before .before .before .loop .inv .3 .wave .queued .long, wave-small _ _ _ _ _ (c .before .before .before .before .before .before .before .before .before .before .before .before .before .before .before .before .before .before .before .before .before .before .before .before .pre .0) _ (c .before .before .before .before .before .before .before .before .before .before .before .before .before .before .before .before .before .before .before .before .before .before .before .before .pre .1 .0 .1) (c .before .before .before .before .before .before .before .before .before .before .before .before .before .before .before .before .before .before .before .before .before .before .before .before .pre .1 .0 .0) (c .before .before .before .before .before .before .before .before .before .before .before .before .before .before .before .before .before .before .before .before .before .before .before .before .pre .1 .0 .5) (c .before .before .before .before .before .before .before .before .before .before .before .before .before .before .before .before .before .before .before .before .before .before .before .before .pre .1 .0 .6) _ _ (c .before .before .before .before .before .before .before .before .before .before .before .before .before .before .before .before .before .before .before .before .before .before .before .before .pre .1 .0 .7) _ _ _ (c .before .before .before .before .before .before .before .before .before .before .before .before .before .loop .inv .3 .wave) (c .before .before .before .before .before .before .before .before .before .before .before .before .before .loop .inv .1) (c .before .before .before .before .before .before .before .before .before .before .before .before .loop-test .taken) (c .before .before .before .before .before .before .before .before .before .before .before .entry2 .ensures) refl (c .before .before .before .before .before .before .entry3 .ensures) (c .before .before .before .before .before .entry4 .ensures) (c .before .before .before .before .other .ensures), c .before .before .before .before .before .before .before .before .if2 .left)
+
+-- src/settle.rt:296:13
 greater-requires-2 : tie.Need-greater-requires-2 Inv-loop μ-loop
 greater-requires-2 c κs = search needs
 
--- src/settle.rt:296:9
+-- src/settle.rt:297:9
 take-count-requires : tie.Need-take-count-requires Inv-loop μ-loop
-take-count-requires c κs = λ h. surge-asks _ _ _ _ _ (c .before .before .before .before .before .before .before .before .before .before .before .before .before .before .before .before .before .before .before .before .before .before .before .before .before .before .before .before .before .before .before .before .pre .0) _ (c .before .before .before .before .before .before .before .before .before .before .before .before .before .before .before .before .before .before .before .before .before .before .before .before .before .before .before .before .before .before .before .before .pre .1 .0 .1) (c .before .before .before .before .before .before .before .before .before .before .before .before .before .before .before .before .before .before .before .before .before .before .before .before .before .before .before .before .before .before .before .before .pre .1 .0 .0) (c .before .before .before .before .before .before .before .before .before .before .before .before .before .before .before .before .before .before .before .before .before .before .before .before .before .before .before .before .before .before .before .before .pre .1 .0 .5) (c .before .before .before .before .before .before .before .before .before .before .before .before .before .before .before .before .before .before .before .before .before .before .before .before .before .before .before .before .before .before .before .before .pre .1 .0 .6) _ _ (c .before .before .before .before .before .before .before .before .before .before .before .before .before .before .before .before .before .before .before .before .before .before .before .before .before .before .before .before .before .before .before .before .pre .1 .0 .7) _ _ _ _ (c .before .before .before .before .before .before .before .before .before .before .before .before .before .before .before .before .before .before .before .before .before .loop .inv .3) (c .before .before .before .before .before .before .before .before .before .before .before .before .before .before .before .before .before .before .before .before .before .loop .inv .1) (c .before .before .before .before .before .before .before .before .before .before .before .before .before .before .before .before .before .before .before .before .loop-test .taken) (c .before .before .before .before .before .before .before .before .before .before .before .before .before .before .before .before .before .before .before .entry2 .ensures) refl (c .before .before .before .before .before .before .before .before .before .before .before .before .before .before .before .before .before .before .before .before .before .before .lesser .ensures) (c .before .before .before .before .before .before .before .before .before .before .before .before .before .before .before .before .before .if1 .left) (c .before .before .before .before .before .before .before .before .before .before .before .before .before .before .entry3 .ensures) (c .before .before .before .before .before .before .before .before .before .before .before .before .before .entry4 .ensures) (c .before .before .before .before .before .before .before .before .before .before .before .before .other .ensures) refl (c .before .before .greater .ensures) (c .before .greater2 .ensures) refl h
+take-count-requires c κs = λ h. surge-asks _ _ _ _ _ (c .before .before .before .before .before .before .before .before .before .before .before .before .before .before .before .before .before .before .before .before .before .before .before .before .before .before .before .before .before .before .before .pre .0) _ (c .before .before .before .before .before .before .before .before .before .before .before .before .before .before .before .before .before .before .before .before .before .before .before .before .before .before .before .before .before .before .before .pre .1 .0 .1) (c .before .before .before .before .before .before .before .before .before .before .before .before .before .before .before .before .before .before .before .before .before .before .before .before .before .before .before .before .before .before .before .pre .1 .0 .0) (c .before .before .before .before .before .before .before .before .before .before .before .before .before .before .before .before .before .before .before .before .before .before .before .before .before .before .before .before .before .before .before .pre .1 .0 .5) (c .before .before .before .before .before .before .before .before .before .before .before .before .before .before .before .before .before .before .before .before .before .before .before .before .before .before .before .before .before .before .before .pre .1 .0 .6) _ _ (c .before .before .before .before .before .before .before .before .before .before .before .before .before .before .before .before .before .before .before .before .before .before .before .before .before .before .before .before .before .before .before .pre .1 .0 .7) _ _ _ _ (c .before .before .before .before .before .before .before .before .before .before .before .before .before .before .before .before .before .before .before .before .loop .inv .3) (c .before .before .before .before .before .before .before .before .before .before .before .before .before .before .before .before .before .before .before .before .loop .inv .1) (c .before .before .before .before .before .before .before .before .before .before .before .before .before .before .before .before .before .before .before .loop-test .taken) (c .before .before .before .before .before .before .before .before .before .before .before .before .before .before .before .before .before .before .entry2 .ensures) refl (c .before .before .before .before .before .before .before .before .before .before .before .before .before .before .before .before .before .before .before .before .before .lesser .ensures) (c .before .before .before .before .before .before .before .before .before .before .before .before .before .before .before .before .if1 .left) (c .before .before .before .before .before .before .before .before .before .before .before .before .before .entry3 .ensures) (c .before .before .before .before .before .before .before .before .before .before .before .before .entry4 .ensures) (c .before .before .before .before .before .before .before .before .before .before .before .other .ensures) refl (c .before .before .before .before .before .before .before .before .before .greater .ensures) (c .before .greater2 .ensures) refl h
 
 -- src/settle.rt:276:5
 loop-less : tie.Need-loop-less Inv-loop μ-loop
-loop-less c = omega (arith, c .before .before .before .before .before .before .before .before .before .before .before .before .before .before .before .before .before .before .before .before .before .before .before .loop-test .taken)
+loop-less c = omega (arith, c .before .before .before .before .before .before .before .before .before .before .before .before .before .before .before .before .before .before .before .before .before .before .loop-test .taken)
 
 -- src/settle.rt:276:5
 loop-again : tie.Need-loop-again Inv-loop μ-loop
-loop-again c = (c .before .before .before .before .before .before .before .before .before .before .before .before .before .before .before .before .before .before .before .before .before .before .before .before .loop .inv .0, c .before .before .before .before .before .before .before .before .before .before .before .before .before .before .before .before .before .before .before .before .before .before .before .before .loop .inv .1, search (needs, c .before .before .before .before .before .before .before .before .before .before .before .before .before .before .before .before .before .before .before .before .before .before .before .before .loop .inv .2), surge-next _ _ _ _ _ (c .before .before .before .before .before .before .before .before .before .before .before .before .before .before .before .before .before .before .before .before .before .before .before .before .before .before .before .before .before .before .before .before .before .before .before .pre .0) _ (c .before .before .before .before .before .before .before .before .before .before .before .before .before .before .before .before .before .before .before .before .before .before .before .before .before .before .before .before .before .before .before .before .before .before .before .pre .1 .0 .1) (c .before .before .before .before .before .before .before .before .before .before .before .before .before .before .before .before .before .before .before .before .before .before .before .before .before .before .before .before .before .before .before .before .before .before .before .pre .1 .0 .0) (c .before .before .before .before .before .before .before .before .before .before .before .before .before .before .before .before .before .before .before .before .before .before .before .before .before .before .before .before .before .before .before .before .before .before .before .pre .1 .0 .5) (c .before .before .before .before .before .before .before .before .before .before .before .before .before .before .before .before .before .before .before .before .before .before .before .before .before .before .before .before .before .before .before .before .before .before .before .pre .1 .0 .6) _ _ (c .before .before .before .before .before .before .before .before .before .before .before .before .before .before .before .before .before .before .before .before .before .before .before .before .before .before .before .before .before .before .before .before .before .before .before .pre .1 .0 .7) _ _ _ _ (c .before .before .before .before .before .before .before .before .before .before .before .before .before .before .before .before .before .before .before .before .before .before .before .before .loop .inv .3) (c .before .before .before .before .before .before .before .before .before .before .before .before .before .before .before .before .before .before .before .before .before .before .before .before .loop .inv .1) (c .before .before .before .before .before .before .before .before .before .before .before .before .before .before .before .before .before .before .before .before .before .before .before .loop-test .taken) (c .before .before .before .before .before .before .before .before .before .before .before .before .before .before .before .before .before .before .before .before .before .before .entry2 .ensures) refl (c .before .before .before .before .before .before .before .before .before .before .before .before .before .before .before .before .before .before .before .before .before .before .before .before .before .lesser .ensures) (c .before .before .before .before .before .before .before .before .before .before .before .before .before .before .before .before .before .before .before .before .if1 .left) (c .before .before .before .before .before .before .before .before .before .before .before .before .before .before .before .before .before .entry3 .ensures) (c .before .before .before .before .before .before .before .before .before .before .before .before .before .before .before .before .entry4 .ensures) (c .before .before .before .before .before .before .before .before .before .before .before .before .before .before .before .other .ensures) refl (c .before .before .before .before .before .greater .ensures) (c .before .before .before .before .greater2 .ensures) refl {fr = c .before .before .before .before .before .before .before .before .before .before .before .before .before .before .before .before .before .before .is-first .result} (c .before .before .before .before .before .before .before .before .before .before .before .before .before .before .before .before .before .before .before .if2 .left) (rw (sym (c .before .before .before .before .before .before .before .before .before .before .before .before .before .before .before .before .before .before .before .before .before .before .before .before .loop .inv .0)) (c .before .before .before .before .before .before .before .before .before .before .before .before .before .before .before .before .before .before .is-first .ensures)) (c .before .before .before .before .before .before .before .before .before .before .before .before .before .is-lost .ensures) (c .before .before .before .before .before .before .before .before .before .before .lose .ensures) (c .before .before .take-count .ensures))
+loop-again c = (c .before .before .before .before .before .before .before .before .before .before .before .before .before .before .before .before .before .before .before .before .before .before .before .loop .inv .0, c .before .before .before .before .before .before .before .before .before .before .before .before .before .before .before .before .before .before .before .before .before .before .before .loop .inv .1, search (needs, c .before .before .before .before .before .before .before .before .before .before .before .before .before .before .before .before .before .before .before .before .before .before .before .loop .inv .2), surge-next _ _ _ _ _ (c .before .before .before .before .before .before .before .before .before .before .before .before .before .before .before .before .before .before .before .before .before .before .before .before .before .before .before .before .before .before .before .before .before .before .pre .0) _ (c .before .before .before .before .before .before .before .before .before .before .before .before .before .before .before .before .before .before .before .before .before .before .before .before .before .before .before .before .before .before .before .before .before .before .pre .1 .0 .1) (c .before .before .before .before .before .before .before .before .before .before .before .before .before .before .before .before .before .before .before .before .before .before .before .before .before .before .before .before .before .before .before .before .before .before .pre .1 .0 .0) (c .before .before .before .before .before .before .before .before .before .before .before .before .before .before .before .before .before .before .before .before .before .before .before .before .before .before .before .before .before .before .before .before .before .before .pre .1 .0 .5) (c .before .before .before .before .before .before .before .before .before .before .before .before .before .before .before .before .before .before .before .before .before .before .before .before .before .before .before .before .before .before .before .before .before .before .pre .1 .0 .6) _ _ (c .before .before .before .before .before .before .before .before .before .before .before .before .before .before .before .before .before .before .before .before .before .before .before .before .before .before .before .before .before .before .before .before .before .before .pre .1 .0 .7) _ _ _ _ (c .before .before .before .before .before .before .before .before .before .before .before .before .before .before .before .before .before .before .before .before .before .before .before .loop .inv .3) (c .before .before .before .before .before .before .before .before .before .before .before .before .before .before .before .before .before .before .before .before .before .before .before .loop .inv .1) (c .before .before .before .before .before .before .before .before .before .before .before .before .before .before .before .before .before .before .before .before .before .before .loop-test .taken) (c .before .before .before .before .before .before .before .before .before .before .before .before .before .before .before .before .before .before .before .before .before .entry2 .ensures) refl (c .before .before .before .before .before .before .before .before .before .before .before .before .before .before .before .before .before .before .before .before .before .before .before .before .lesser .ensures) (c .before .before .before .before .before .before .before .before .before .before .before .before .before .before .before .before .before .before .before .if1 .left) (c .before .before .before .before .before .before .before .before .before .before .before .before .before .before .before .before .entry3 .ensures) (c .before .before .before .before .before .before .before .before .before .before .before .before .before .before .before .entry4 .ensures) (c .before .before .before .before .before .before .before .before .before .before .before .before .before .before .other .ensures) refl (c .before .before .before .before .before .before .before .before .before .before .before .before .greater .ensures) (c .before .before .before .before .greater2 .ensures) refl {fr = c .before .before .before .before .before .before .before .before .before .before .before .before .before .before .before .before .before .is-first .result} (c .before .before .before .before .before .before .before .before .before .before .before .before .before .before .before .before .before .before .if2 .left) (rw (sym (c .before .before .before .before .before .before .before .before .before .before .before .before .before .before .before .before .before .before .before .before .before .before .before .loop .inv .0)) (c .before .before .before .before .before .before .before .before .before .before .before .before .before .before .before .before .before .is-first .ensures)) refl (c .before .before .before .before .before .before .before .before .before .lose .ensures) (c .before .before .take-count .ensures))
 
--- src/settle.rt:298:5
+-- src/settle.rt:299:5
 pay-counts-requires-2 : tie.Need-pay-counts-requires-2 Inv-loop μ-loop
 pay-counts-requires-2 c κs = λ h. surge-pays (c .before .before .before .before .before .before .before .before .before .before .before .before .before .args .times .now) (c .before .before .before .before .before .before .before .before .before .before .before .before .before .pre .0) (c .before .before .before .before .before .before .before .before .before .before .before .before .before .pre .1 .0 .0) (c .before .before .before .before .before .before .before .before .before .before .before .before .before .pre .1 .0 .6) (c .before .before .before .before .before .before .before .before .before .before .before .before .before .pre .1 .0 .7) (c .before .before .before .before .before .before .before .before .before .before .before .before .before .pre .1 .1 h .top) (surge-out _ _ _ _ _ (c .before .before .before .before .before .before .before .before .before .before .before .before .before .pre .0) _ (c .before .before .before .before .before .before .before .before .before .before .before .before .before .pre .1 .0 .1) (c .before .before .before .before .before .before .before .before .before .before .before .before .before .pre .1 .0 .0) (c .before .before .before .before .before .before .before .before .before .before .before .before .before .pre .1 .0 .5) (c .before .before .before .before .before .before .before .before .before .before .before .before .before .pre .1 .0 .6) _ _ (c .before .before .before .before .before .before .before .before .before .before .before .before .before .pre .1 .0 .7) _ _ _ _ (c .before .before .loop .inv .3) (c .before .before .loop .inv .1) (c .before .loop-test .left) .1 h)
 
@@ -202,9 +197,8 @@ lose-others-spec =
     other-requires
     mul-z
     shared-slice-read-z
-    is-lost-requires
-    lose-requires
     greater-requires
+    lose-requires
     greater-requires-2
     take-count-requires
     loop-less
