@@ -7,7 +7,7 @@
 --     along-place, along-few     a place before the end lies in the book
 --     along-row, along-touch, along-from, along-none    the row there is the next of u from b on
 --     along-next     and the walk goes on behind it
---     ahead-of, places-few    the rows before the head are below the first row of its day
+--     ahead-of       the rows before the head are below the first row of its day
 --     Begun, begun   a walk may begin there
 --     along-fresh, along-fresh-place, along-ends, along-other    what the code reads of that row
 -- Assumes nothing.
@@ -146,9 +146,6 @@ module _ (d f s links : List ℕ) (S : Sound d f s) {day : ℕ} (L : Linked (tab
         to = let a = H .to in omega arith;
         before = λ i l k h. ⊎-elim (λ y. let a = late i l (leb-true lo i y) in let b = H .before i l k (omega arith) in absurd (omega arith)) (λ y. leb-false lo i y) (look (leb lo i));
       }
-
-  pub places-few : placeOf tb (suc u) ≤ 32768
-  places-few = let y = places-most tb (suc u) in let c = S .most in omega arith
 
 -- what `other` returns
 pub other-sum : {a b u r : ℕ} → (a ≡ u) ⊎ (b ≡ u) → r ≡ a + b - u → r ≡ pickOther (eqb a u) a b
