@@ -1,4 +1,4 @@
--- A look at an account (src/settle.rt): why the day that it finds is the least with k supporters.
+-- A look at an account (src/look.rt): why the day that it finds is the least with k supporters.
 --     backing-e, backing-i, backers-are     the rows that back u, each the first of its pair, are as many as its supporters
 --     seen-start, seen-stale, seen-note, seen-count, seen-stop, seen-out     the rows of u as they stand on a day
 --     few-start, look-next, look-found, look-never     a look rises from day to day, and stops at the first with k supporters

@@ -1,4 +1,4 @@
--- Who loses a supporter (src/settle.rt), and who waits for a look by that.
+-- Who loses a supporter (src/loss.rt), and who waits for a look by that.
 --     at-place, in-list         equal places, equal lists
 --     under, losing, losing-on, losing-less, queued-start, queued-losing, queued-then     a loss, and the queue after it
 --     Wave, wave-start, wave-out, wave-late, wave-stop, wave-small, wave-next      the walk of `lose_others` in the book

@@ -1,4 +1,4 @@
--- The day counts while an account rises (src/settle.rt, lose_others): each of its rows whose time moves is taken off its day, and counted on the new one at last.
+-- The day counts while an account rises (src/loss.rt, lose_others): each of its rows whose time moves is taken off its day, and counted on the new one at last.
 --     mixed                   the times of the rows below b after the rise, of the others before it
 --     shift-start, shift-asks, shift-row, shift-all             the rows of u, one after the other: each keeps its time or moves to the new one
 --     Shift, rise-start, rise-asks, rise-row, rise-all          the same in the state of the loop

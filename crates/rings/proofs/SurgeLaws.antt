@@ -1,4 +1,4 @@
--- The loop of lose_others (src/settle.rt): the rows of an account that rises. Who is lost by it waits (LossLaws.Wave), and the day counts go along (ShiftLaws.Shift).
+-- The loop of lose_others (src/loss.rt): the rows of an account that rises. Who is lost by it waits (LossLaws.Wave), and the day counts go along (ShiftLaws.Shift).
 --     Surge, surge-start, surge-out, surge-late, surge-stop, surge-asks, surge-next    the state of the loop, and its ways
 --     Owed, surge-pays     what is still to be counted at the end
 -- Assumes nothing.

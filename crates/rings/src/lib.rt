@@ -4,6 +4,8 @@ pub mod checks;
 pub mod choice;
 pub mod counts;
 pub mod links;
+pub mod look;
+pub mod loss;
 pub mod peel;
 pub mod recalling;
 pub mod refusal;

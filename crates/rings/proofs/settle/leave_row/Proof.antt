@@ -9,8 +9,8 @@ use Rattle.rings.proofs.settle.leave_row.Reads as reads
 use Rattle.rings.proofs.settle.leave_row.Lts as lts
 use Rattle.rings.proofs.links.entry.Reads as entry-reads
 use Rattle.rings.proofs.peel.is_fresh.Reads as is-fresh-reads
-use Rattle.rings.proofs.settle.is_lost.Reads as is-lost-reads
-use Rattle.rings.proofs.settle.lose.Reads as lose-reads
+use Rattle.rings.proofs.loss.is_lost.Reads as is-lost-reads
+use Rattle.rings.proofs.loss.lose.Reads as lose-reads
 
 -- src/settle.rt:473:9
 returns : tie.Need-returns

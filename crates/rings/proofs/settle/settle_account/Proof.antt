@@ -10,9 +10,9 @@ use Rattle.rings.proofs.settle.settle_account.Reads as reads
 use Rattle.rings.proofs.settle.settle_account.Lts as lts
 use Rattle.rings.proofs.links.entry.Reads as entry-reads
 use Rattle.rings.proofs.links.put.Reads as put-reads
-use Rattle.rings.proofs.settle.first_from.Reads as first-from-reads
-use Rattle.rings.proofs.settle.look.Reads as look-reads
-use Rattle.rings.proofs.settle.lose_others.Reads as lose-others-reads
+use Rattle.rings.proofs.look.first_from.Reads as first-from-reads
+use Rattle.rings.proofs.look.look.Reads as look-reads
+use Rattle.rings.proofs.loss.lose_others.Reads as lose-others-reads
 
 -- src/settle.rt:347:9
 entry-requires : tie.Need-entry-requires

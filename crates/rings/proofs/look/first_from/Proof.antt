@@ -3,10 +3,10 @@ use native.Mathlib.Omega.{arith}
 use mathlib.Core.Path.{_≡_}
 use lib.ListN.{getD}
 use Rattle.rings.proofs.ShelfLaws.{Seeking, seeking-start, seeking-next, seeking-found, seeking-out}
-use Rattle.rings.proofs.settle.first_from.Statement.{statement}
-use Rattle.rings.proofs.settle.first_from.Tie as tie
-use Rattle.rings.proofs.settle.first_from.Reads as reads
-use Rattle.rings.proofs.settle.first_from.Lts as lts
+use Rattle.rings.proofs.look.first_from.Statement.{statement}
+use Rattle.rings.proofs.look.first_from.Tie as tie
+use Rattle.rings.proofs.look.first_from.Reads as reads
+use Rattle.rings.proofs.look.first_from.Lts as lts
 use Rattle.rings.proofs.links.entry.Reads as entry-reads
 
 abbrev Inv-loop : tie.InvT-loop

@@ -9,11 +9,11 @@ use lib.ListN.{getD}
 use Prim.Native.Nat.{ℕ, _+_, _-_, _≤_, _<_}
 use native.Mathlib.Nat.{le-refl}
 use native.Mathlib.Omega.{arith}
-use Rattle.rings.proofs.settle.look.Statement.{statement}
-use Rattle.rings.proofs.settle.look.Tie as tie
-use Rattle.rings.proofs.settle.look.Reads as reads
-use Rattle.rings.proofs.settle.look.Lts as lts
-use Rattle.rings.proofs.settle.look_at.Reads as look-at-reads
+use Rattle.rings.proofs.look.look.Statement.{statement}
+use Rattle.rings.proofs.look.look.Tie as tie
+use Rattle.rings.proofs.look.look.Reads as reads
+use Rattle.rings.proofs.look.look.Lts as lts
+use Rattle.rings.proofs.look.look_at.Reads as look-at-reads
 
 abbrev Inv-loop : tie.InvT-loop
 Inv-loop days first second links k start stop lo times u from budget walked₀ c₀ walked c = (getD times u 0 ≤ c) × ((c ≤ stop) ⊎ (c ≡ never)) × ((a : ℕ) → getD times u 0 ≤ a → a < c → a ≤ stop → supporters (tableOf days first second) (guess times) start a u < k) × (walked ≤ budget + 32768)

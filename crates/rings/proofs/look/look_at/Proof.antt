@@ -8,16 +8,16 @@ use Rattle.rings.specs.Inner.Peeling.{season}
 use Rattle.rings.proofs.ShelfLaws.{reading-place, reading-few, reading-row, reading-ends, reading-fresh-place}
 use Rattle.rings.proofs.LookLaws.{Glance, glance-start, glance-out, glance-most, glance-few, glance-late, glance-over, glance-small, glance-mark}
 use borrow.Author.Needs.{needs}
-use Rattle.rings.proofs.settle.look_at.Statement.{statement}
-use Rattle.rings.proofs.settle.look_at.Tie as tie
-use Rattle.rings.proofs.settle.look_at.Reads as reads
-use Rattle.rings.proofs.settle.look_at.Lts as lts
+use Rattle.rings.proofs.look.look_at.Statement.{statement}
+use Rattle.rings.proofs.look.look_at.Tie as tie
+use Rattle.rings.proofs.look.look_at.Reads as reads
+use Rattle.rings.proofs.look.look_at.Lts as lts
 use Rattle.rings.proofs.choice.pick.Reads as pick-reads
 use Rattle.rings.proofs.links.entry.Reads as entry-reads
 use Rattle.rings.proofs.links.other.Reads as other-reads
 use Rattle.rings.proofs.peel.is_first.Reads as is-first-reads
-use Rattle.rings.proofs.settle.is_over.Reads as is-over-reads
-use Rattle.rings.proofs.settle.note.Reads as note-reads
+use Rattle.rings.proofs.look.is_over.Reads as is-over-reads
+use Rattle.rings.proofs.look.note.Reads as note-reads
 use Rattle.rings.proofs.times.greater.Reads as greater-reads
 
 abbrev Inv-loop : tie.InvT-loop

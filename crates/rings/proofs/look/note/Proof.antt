@@ -1,10 +1,10 @@
 use Rattle.rings.proofs.LookLaws.{by-most, noted}
 use native.Mathlib.Omega.{arith}
 use borrow.Author.Needs.{needs}
-use Rattle.rings.proofs.settle.note.Statement.{statement}
-use Rattle.rings.proofs.settle.note.Tie as tie
-use Rattle.rings.proofs.settle.note.Reads as reads
-use Rattle.rings.proofs.settle.note.Lts as lts
+use Rattle.rings.proofs.look.note.Statement.{statement}
+use Rattle.rings.proofs.look.note.Tie as tie
+use Rattle.rings.proofs.look.note.Reads as reads
+use Rattle.rings.proofs.look.note.Lts as lts
 use Rattle.rings.proofs.choice.one.Reads as one-reads
 use Rattle.rings.proofs.choice.pick.Reads as pick-reads
 

@@ -2,10 +2,10 @@ use Rattle.rings.specs.Inner.Settling.{Over}
 use mathlib.Core.Path.{refl, sym}
 use mathlib.Core.Logic.{_⊎_}
 use Rattle.rings.proofs.WordLaws.{clash}
-use Rattle.rings.proofs.settle.is_over.Statement.{statement}
-use Rattle.rings.proofs.settle.is_over.Tie as tie
-use Rattle.rings.proofs.settle.is_over.Reads as reads
-use Rattle.rings.proofs.settle.is_over.Lts as lts
+use Rattle.rings.proofs.look.is_over.Statement.{statement}
+use Rattle.rings.proofs.look.is_over.Tie as tie
+use Rattle.rings.proofs.look.is_over.Reads as reads
+use Rattle.rings.proofs.look.is_over.Lts as lts
 
 -- src/settle.rt:50:9
 returns : tie.Need-returns

@@ -8,17 +8,17 @@ use Rattle.rings.proofs.CountingLaws.{owing-end}
 use Rattle.rings.proofs.LossLaws.{wave-small}
 use Rattle.rings.proofs.SurgeLaws.{Surge, surge-start, surge-out, surge-late, surge-stop, surge-asks, surge-next, surge-pays}
 use borrow.Author.Needs.{needs}
-use Rattle.rings.proofs.settle.lose_others.Statement.{statement}
-use Rattle.rings.proofs.settle.lose_others.Tie as tie
-use Rattle.rings.proofs.settle.lose_others.Reads as reads
-use Rattle.rings.proofs.settle.lose_others.Lts as lts
+use Rattle.rings.proofs.loss.lose_others.Statement.{statement}
+use Rattle.rings.proofs.loss.lose_others.Tie as tie
+use Rattle.rings.proofs.loss.lose_others.Reads as reads
+use Rattle.rings.proofs.loss.lose_others.Lts as lts
 use Rattle.rings.proofs.choice.lesser.Reads as lesser-reads
 use Rattle.rings.proofs.counts.pay_counts.Reads as pay-counts-reads
 use Rattle.rings.proofs.counts.take_count.Reads as take-count-reads
 use Rattle.rings.proofs.links.entry.Reads as entry-reads
 use Rattle.rings.proofs.links.other.Reads as other-reads
 use Rattle.rings.proofs.peel.is_first.Reads as is-first-reads
-use Rattle.rings.proofs.settle.lose.Reads as lose-reads
+use Rattle.rings.proofs.loss.lose.Reads as lose-reads
 use Rattle.rings.proofs.times.greater.Reads as greater-reads
 
 abbrev Inv-loop : tie.InvT-loop

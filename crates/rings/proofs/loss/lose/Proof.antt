@@ -3,10 +3,10 @@ use native.Mathlib.Omega.{arith}
 use Rattle.rings.proofs.LookLaws.{by-most}
 use Rattle.rings.proofs.LossLaws.{losing, under}
 use borrow.Author.Needs.{needs}
-use Rattle.rings.proofs.settle.lose.Statement.{statement}
-use Rattle.rings.proofs.settle.lose.Tie as tie
-use Rattle.rings.proofs.settle.lose.Reads as reads
-use Rattle.rings.proofs.settle.lose.Lts as lts
+use Rattle.rings.proofs.loss.lose.Statement.{statement}
+use Rattle.rings.proofs.loss.lose.Tie as tie
+use Rattle.rings.proofs.loss.lose.Reads as reads
+use Rattle.rings.proofs.loss.lose.Lts as lts
 use Rattle.rings.proofs.links.put.Reads as put-reads
 use Rattle.rings.proofs.links.wide.Reads as wide-reads
 use Rattle.rings.proofs.choice.one.Reads as one-reads

@@ -1,0 +1,228 @@
+// A look at an account: the first day, from its time on, on which it has k supporters, by walks over its rows in the book.
+ghost use mathlib.Core.Path.{_≡_};
+ghost use mathlib.Core.Bool.{true, false};
+ghost use Prim.Native.Nat.{_+_, _≤_, _<_};
+ghost use lib.ListN.{length, getD};
+ghost use Rattle.rings.specs.Table.{tableOf};
+ghost use Rattle.rings.specs.CoreTimes.{never};
+ghost use Rattle.rings.specs.Inner.Sound.{Sound};
+ghost use Rattle.rings.specs.Inner.Peeling.{guess, season, Open};
+ghost use Rattle.rings.specs.Inner.Links.{Shelves, Reading, Every};
+ghost use Rattle.rings.specs.Inner.Settling.{Days, Over, Noting, Glanced, Looked};
+use crate::choice::one;
+use crate::choice::pick;
+use crate::links::entry;
+use crate::links::other;
+use crate::peel::is_first;
+use crate::times::greater;
+
+// How many support an account on a day, the least later day on which one more may, and how many more then.
+struct Noted {
+    count: u16,
+    above: u16,
+    more: u16,
+}
+
+// The same with the number of rows that a walk passed.
+struct Found {
+    count: u16,
+    above: u16,
+    more: u16,
+    walked: usize,
+}
+
+// What a look finds: the account's time, 0 where it gave up; its spare supporters, counted from 1; the rows that it passed.
+pub struct View {
+    pub time: u16,
+    pub spare: u16,
+    pub walked: usize,
+}
+
+// A row dated on this day, and all later ones, can change nothing: they support on no day up to c, and either enough do already, or they lie behind the range or behind the day above.
+fn is_over(day: u16, c: u16, stop: u16, above: u16, k: u16, count: u16) -> bool
+    ensures { λ r. ⌜ Over day c stop above k count r ⌝ }
+{
+    if day <= c {
+        return false;
+    }
+    if k <= count {
+        return true;
+    }
+    if stop < day {
+        return true;
+    }
+    if above < day {
+        return true;
+    }
+    false
+}
+
+// One row more, which supports from day z on; never says that it does not. The day above lies after c. Sums and choices and no branch: which way a row goes no processor foresees.
+fn note(z: u16, c: u16, count: u16, above: u16, more: u16) -> Noted
+    requires { ⌜ (count < 16384) × (more < 16384) × (c < above) ⌝ }
+    ensures { λ r. ⌜ Noting z c count above more (r .count) (r .above) (r .more) ⌝ }
+{
+    let within = z <= c;
+    let nearer = (c < z) & (z < above);
+    let level = z == above;
+    Noted {
+        count: count + one(within),
+        above: pick(nearer, z, above),
+        more: pick(nearer, 1, more + one(level)),
+    }
+}
+
+// The rows of u on day c. They stand in rising order: the walk stops at the first that can change nothing.
+fn look_at(
+    days: &[u16],
+    first: &[u16],
+    second: &[u16],
+    links: &[u16],
+    k: u16,
+    start: u16,
+    stop: u16,
+    lo: usize,
+    times: &[u16],
+    u: usize,
+    from: usize,
+    c: u16,
+) -> Found
+    requires { ⌜ Open (now days) (now first) (now second) (now links) (season k start stop lo) ⌝ }
+    requires { ⌜ (u < 4096) × (length (now times) ≡ 4096) × Days stop (now times) × (c ≤ stop) × Reading (now links) u lo from × Every (tableOf (now days) (now first) (now second)) (guess (now times)) lo u (now links) ⌝ }
+    ensures { λ r. ⌜ Glanced (tableOf (now (days .entry)) (now (first .entry)) (now (second .entry))) (guess (now (times .entry))) lo stop c u (length (now (days .entry))) k (r .count) (r .above) (r .more) × (r .walked ≤ 32768) × (r .count + r .more ≤ 16384) ⌝ }
+{
+    let n = days.len();
+    let last = entry(links, u);
+    let mut p = from;
+    let mut count = 0;
+    let mut above = 65535;
+    let mut more = 0;
+    while p < last {
+        let j = entry(links, 8192 + p);
+        let day = days[j];
+        if is_over(day, c, stop, above, k, count) {
+            return Found {
+                count: count,
+                above: above,
+                more: more,
+                walked: p - from,
+            };
+        }
+        p += 1;
+        let fresh = is_first(links, n, lo, j);
+        let a = entry(first, j);
+        let b = entry(second, j);
+        let v = other(a, b, u);
+        let z = greater(times[v], day);
+        let seen = note(pick(fresh, z, 65535), c, count, above, more);
+        count = seen.count;
+        above = seen.above;
+        more = seen.more;
+    }
+    Found {
+        count: count,
+        above: above,
+        more: more,
+        walked: p - from,
+    }
+}
+
+// The first day from the time of u on with k supporters, or never. It gives up when it has passed more rows than the budget allows.
+pub fn look(
+    days: &[u16],
+    first: &[u16],
+    second: &[u16],
+    links: &[u16],
+    k: u16,
+    start: u16,
+    stop: u16,
+    lo: usize,
+    times: &[u16],
+    u: usize,
+    from: usize,
+    budget: usize,
+) -> View
+    requires { ⌜ Open (now days) (now first) (now second) (now links) (season k start stop lo) ⌝ }
+    requires { ⌜ (u < 4096) × (length (now times) ≡ 4096) × Days stop (now times) × (budget ≤ 65536) × Reading (now links) u lo from × ((getD (now times) u 0 ≡ never → ⊥) → Every (tableOf (now days) (now first) (now second)) (guess (now times)) lo u (now links)) ⌝ }
+    ensures { λ r. ⌜ ((r .time ≡ 0 → ⊥) → Looked (tableOf (now (days .entry)) (now (first .entry)) (now (second .entry))) (guess (now (times .entry))) start k stop (getD (now (times .entry)) u 0) u (r .time) (r .spare)) × (r .walked ≤ 98304) ⌝ }
+{
+    let mut walked: usize = 0;
+    let mut c = times[u];
+    while c < 65535 {
+        if budget < walked {
+            return View {
+                time: 0,
+                spare: 0,
+                walked: walked,
+            };
+        }
+        let seen = look_at(
+            days,
+            first,
+            second,
+            links,
+            k,
+            start,
+            stop,
+            lo,
+            times,
+            u,
+            from,
+            c,
+        );
+        walked = walked + seen.walked;
+        if k <= seen.count {
+            return View {
+                time: c,
+                spare: seen.count + 1 - k,
+                walked: walked,
+            };
+        }
+        c = seen.above;
+        if c == 65535 {
+            return View {
+                time: c,
+                spare: 1,
+                walked: walked,
+            };
+        }
+        let both = seen.count + seen.more;
+        if k <= both {
+            return View {
+                time: c,
+                spare: both + 1 - k,
+                walked: walked,
+            };
+        }
+    }
+    View {
+        time: c,
+        spare: 1,
+        walked: walked,
+    }
+}
+
+// Where the rows of u from lo on begin in the book: at its head, which has passed those that left. The search makes it sure, so no walk asks for it row by row.
+pub fn first_from(
+    days: &[u16],
+    first: &[u16],
+    second: &[u16],
+    links: &[u16],
+    u: usize,
+    lo: usize,
+) -> usize
+    requires { ⌜ Sound (now days) (now first) (now second) ⌝ }
+    requires { ⌜ Shelves (tableOf (now days) (now first) (now second)) (now links) × (u < 4096) ⌝ }
+    ensures { λ r. ⌜ Reading (now (links .entry)) u lo r ⌝ }
+{
+    let last = entry(links, u);
+    let mut p = entry(links, 4096 + u);
+    while p < last {
+        let j = entry(links, 8192 + p);
+        if lo <= j {
+            return p;
+        }
+        p += 1;
+    }
+    p
+}
