@@ -147,14 +147,12 @@ renamed F none =
 
 -- a loss leaves the head of the queue where it is
 grown : {k e head tail v tail′ : ℕ} {x d w x′ d′ w′ : List ℕ} → Lost k e tail v x d w x′ d′ w′ tail′ → head < tail → head < tail′
-grown (Lost.fallen-before f ex ed ew et) l = omega arith
-grown (Lost.stays z h ex ed ew et) l = omega arith
-grown (Lost.falls z h ex ed ew et) l = omega arith
+grown (Lost.stays h ex ed ew et) l = omega arith
+grown (Lost.falls h ex ed ew et) l = omega arith
 
 same-front : {k e head tail v tail′ : ℕ} {x d w x′ d′ w′ : List ℕ} → Lost k e tail v x d w x′ d′ w′ tail′ → head < tail → getD w′ head 0 ≡ getD w head 0
-same-front {head = head} (Lost.fallen-before f ex ed ew et) l = ap (λ (y : List ℕ). getD y head 0) ew
-same-front {head = head} (Lost.stays z h ex ed ew et) l = ap (λ (y : List ℕ). getD y head 0) ew
-same-front {head = head} {tail = tail} {v = v} {w = w} (Lost.falls z h ex ed ew et) l = ap (λ (y : List ℕ). getD y head 0) ew ∙ getD-set-other w tail head v 0 (λ y. omega arith)
+same-front {head = head} (Lost.stays h ex ed ew et) l = ap (λ (y : List ℕ). getD y head 0) ew
+same-front {head = head} {tail = tail} {v = v} {w = w} (Lost.falls h ex ed ew et) l = ap (λ (y : List ℕ). getD y head 0) ew ∙ getD-set-other w tail head v 0 (λ y. omega arith)
 
 module _ (t : Table) (q : Query) (s hi lo : ℕ) (S : Setting t q s hi lo) where
   other-joins : (j u v : ℕ) → j < size t → joins t j u v ≡ true → otherOf t j u ≡ v
@@ -326,12 +324,38 @@ module _ (t : Table) (q : Query) (s hi lo : ℕ) (S : Setting t q s hi lo) where
     counted : F .live j v ≡ true
     counted = F .rows .live-all j v here fresh-other new
 
-    -- an account that has not fallen has a neighbour to lose
-    pub lose-one : getD x v 0 ≡ 0 → 0 < getD d v 0
-    lose-one z =
-        let a : getD d v 0 ≡ count (λ i. F .live i v) (size t) = F .counts .degrees v k z in
-        let c : count (λ i. F .live i v) (size t) ≡ suc (count (λ i. without (F .live) j v i v) (size t)) = count-drop (λ i. F .live i v) (λ i. without (F .live) j v i v) (size t) j (here .below) counted (without-this (F .live) j v) (λ i y. without-other (F .live) j v i v (λ e. y (e .0))) in
-        omega arith
+    one-fewer : count (λ i. F .live i v) (size t) ≡ suc (count (λ i. without (F .live) j v i v) (size t))
+    one-fewer = count-drop (λ i. F .live i v) (λ i. without (F .live) j v i v) (size t) j (here .below) counted (without-this (F .live) j v) (λ i y. without-other (F .live) j v i v (λ e. y (e .0)))
+
+    most-live : count (λ i. F .live i v) (size t) ≤ getD d v 0
+    most-live = ⊎-elim (λ z. let a : getD d v 0 ≡ count (λ i. F .live i v) (size t) = F .counts .degrees v k z in omega arith) (λ f. F .counts .many v k f) (fell-look x v)
+
+    -- v has a neighbour to lose
+    pub lose-one : 0 < getD d v 0
+    lose-one = let a = most-live in let c = one-fewer in omega arith
+
+    -- with k left it has not fallen
+    not-yet : getD d v 0 ≡ q .k → getD x v 0 ≡ 0
+    not-yet h = ⊎-elim (λ z. z) (λ f. let a = F .counts .few v k f in absurd (omega arith)) (fell-look x v)
+
+    pub lose-room : getD d v 0 ≡ q .k → tail < 4096
+    lose-room h = subst (λ (a : ℕ). a < 4096) (sym (F .queue .tail-is)) (room x v k (not-yet h))
+
+    now-less : getD (set d v (getD d v 0 - 1)) v 0 ≡ getD d v 0 - 1
+    now-less = getD-set-same d v (getD d v 0 - 1) 0 (let n = F .len-d in omega arith)
+
+    -- of v, and of those who have fallen
+    many-now : (u : ℕ) → u < 4096 → (u ≡ v) ⊎ Fell x u → count (λ i. without (F .live) j v i u) (size t) ≤ getD (set d v (getD d v 0 - 1)) u 0
+    many-now u a o =
+        ⊎-elim (λ y. subst (λ (c : ℕ). count (λ i. without (F .live) j v i c) (size t) ≤ getD (set d v (getD d v 0 - 1)) c 0) (sym y) (let m = most-live in let n = one-fewer in let g = now-less in omega arith))
+        (λ y. let g : getD (set d v (getD d v 0 - 1)) u 0 ≡ getD d u 0 = getD-set-other d v u (getD d v 0 - 1) 0 y in
+        let c : count (λ i. without (F .live) j v i u) (size t) ≡ count (λ i. F .live i u) (size t) = count-same (λ i. without (F .live) j v i u) (λ i. F .live i u) (size t) (λ i b. without-other (F .live) j v i u (λ e. y (e .1))) in
+        ⊎-elim (λ e. absurd (y e)) (λ f. let m = F .counts .many u a f in omega arith) o) (same-or u v)
+
+    few-now : (u : ℕ) → u < 4096 → (u ≡ v → getD d v 0 ≤ q .k) → (u ≡ v) ⊎ Fell x u → getD (set d v (getD d v 0 - 1)) u 0 < q .k
+    few-now u a le o =
+        ⊎-elim (λ y. subst (λ (c : ℕ). getD (set d v (getD d v 0 - 1)) c 0 < q .k) (sym y) (let m = le y in let n = lose-one in let g = now-less in omega arith))
+        (λ y. let g : getD (set d v (getD d v 0 - 1)) u 0 ≡ getD d u 0 = getD-set-other d v u (getD d v 0 - 1) 0 y in ⊎-elim (λ e. absurd (y e)) (λ f. let m = F .counts .few u a f in omega arith) o) (same-or u v)
 
     why-all : (i u : ℕ) → i < size t → passed′ i u ≡ true → ((otherOf t i u < 4096) × Fell x (otherOf t i u)) ⊎ (e ≤ dayOf t i)
     why-all i u l h =
@@ -339,21 +363,29 @@ module _ (t : Table) (q : Query) (s hi lo : ℕ) (S : Setting t q s hi lo) where
         (λ a. F .passed-why i u l (sym (P .rest i u (λ e. a (e .0))) ∙ h)) (same-or i j)
 
     -- the three outcomes of a loss
-    kept-state : Fell x v → Fall t q s hi lo 4096 e r head tail passed′ x d w
+    kept-state : Fell x v → Fall t q s hi lo 4096 e r head tail passed′ x (set d v (getD d v 0 - 1)) w
     kept-state f =
         record {
           len-x = F .len-x;
-          len-d = F .len-d;
+          len-d = length-set d v (getD d v 0 - 1) ∙ F .len-d;
           len-w = F .len-w;
           walked = F .walked;
           live = without (F .live) j v;
           rows = rows-pass j v P (F .rows);
           queue = F .queue;
-          counts = record { degrees = counts-kept (F .live) x d j v f (F .counts .degrees); enough = F .counts .enough };
+          counts = record {
+            degrees = λ u a g. getD-set-other d v u (getD d v 0 - 1) 0 (not-v u g) ∙ counts-kept (F .live) x d j v f (F .counts .degrees) u a g;
+            enough = λ u a b g. rw (getD-set-other d v u (getD d v 0 - 1) 0 (not-v u g)) (F .counts .enough u a b g);
+            many = λ u a g. many-now u a (_⊎_.inr g);
+            few = λ u a g. few-now u a (λ y. let m = F .counts .few v k f in omega arith) (_⊎_.inr g);
+          };
           times = F .times;
           passed-why = why-all;
           left-why = F .left-why;
         }
+      where
+        not-v : (u : ℕ) → getD x u 0 ≡ 0 → u ≡ v → ⊥
+        not-v u g y = f (ap (λ (c : ℕ). getD x c 0) (sym y) ∙ g)
 
     lower-state : getD x v 0 ≡ 0 → q .k < getD d v 0 → Fall t q s hi lo 4096 e r head tail passed′ x (set d v (getD d v 0 - 1)) w
     lower-state z h =
@@ -368,6 +400,8 @@ module _ (t : Table) (q : Query) (s hi lo : ℕ) (S : Setting t q s hi lo) where
           counts = record {
             degrees = counts-lost (F .live) x d j v (here .below) k (F .len-d) counted z (F .counts .degrees);
             enough = λ u a b g. ⊎-elim (λ y. subst (λ (c : ℕ). q .k ≤ getD (set d v (getD d v 0 - 1)) c 0) (sym y) (rw (getD-set-same d v (getD d v 0 - 1) 0 (let n = F .len-d in omega arith)) (omega arith))) (λ y. rw (getD-set-other d v u (getD d v 0 - 1) 0 y) (F .counts .enough u a b g)) (same-or u v);
+            many = λ u a g. many-now u a (_⊎_.inr g);
+            few = λ u a g. few-now u a (λ y. absurd (g (ap (λ (c : ℕ). getD x c 0) y ∙ z))) (_⊎_.inr g);
           };
           times = F .times;
           passed-why = why-all;
@@ -387,6 +421,8 @@ module _ (t : Table) (q : Query) (s hi lo : ℕ) (S : Setting t q s hi lo) where
           counts = record {
             degrees = λ u a g. ⊎-elim (λ y. absurd (fell-v u y g)) (λ y. D u a (sym (still (F .len-x) (F .times) v k z u y) ∙ g)) (same-or u v);
             enough = λ u a b g. ⊎-elim (λ y. absurd (fell-v u y g)) (λ y. rw (getD-set-other d v u (getD d v 0 - 1) 0 y) (F .counts .enough u a b (sym (still (F .len-x) (F .times) v k z u y) ∙ g))) (same-or u v);
+            many = λ u a g. many-now u a (fell-now u g);
+            few = λ u a g. few-now u a (λ y. h) (fell-now u g);
           };
           times = times-fall (F .len-x) (F .times) v k z (fall-lower R (F .queue .walked-fell) (F .times) why-all (F .left-why) v few);
           passed-why = λ i u l p. ⊎-elim (λ f. _⊎_.inl (f .0, keep-fell (otherOf t i u) (f .1))) _⊎_.inr (why-all i u l p);
@@ -399,9 +435,12 @@ module _ (t : Table) (q : Query) (s hi lo : ℕ) (S : Setting t q s hi lo) where
         D : (u : ℕ) → u < 4096 → getD x u 0 ≡ 0 → getD (set d v (getD d v 0 - 1)) u 0 ≡ count (λ i. without (F .live) j v i u) (size t)
         D = counts-lost (F .live) x d j v (here .below) k (F .len-d) counted z (F .counts .degrees)
 
+        fell-now : (u : ℕ) → Fell (set x v e) u → (u ≡ v) ⊎ Fell x u
+        fell-now u g = ⊎-elim _⊎_.inl (λ y. _⊎_.inr (fell-other x u v e y g)) (same-or u v)
+
         few : count (λ i. without (F .live) j v i v) (size t) < q .k
         few =
-            let a : 0 < getD d v 0 = lose-one z in
+            let a : 0 < getD d v 0 = lose-one in
             let c : getD (set d v (getD d v 0 - 1)) v 0 ≡ getD d v 0 - 1 = getD-set-same d v (getD d v 0 - 1) 0 (let n = F .len-d in omega arith) in
             let g : getD (set d v (getD d v 0 - 1)) v 0 ≡ count (λ i. without (F .live) j v i v) (size t) = D v k z in omega arith
 
@@ -413,9 +452,8 @@ module _ (t : Table) (q : Query) (s hi lo : ℕ) (S : Setting t q s hi lo) where
 
     -- what `lose` leaves
     pub lost-step : {x′ d′ w′ : List ℕ} {tail′ : ℕ} → Lost (q .k) e tail v x d w x′ d′ w′ tail′ → Fall t q s hi lo 4096 e r head tail′ passed′ x′ d′ w′
-    lost-step (Lost.fallen-before f ex ed ew et) = moved ex ed ew et (kept-state f)
-    lost-step (Lost.stays z h ex ed ew et) = moved ex ed ew et (lower-state z h)
-    lost-step (Lost.falls z h ex ed ew et) = moved ex ed ew et (fall-state z h)
+    lost-step (Lost.stays h ex ed ew et) = moved ex ed ew et (⊎-elim (λ z. lower-state z (⊎-elim (λ y. absurd (h (sym y))) (λ y. y) (eq-or-lt-of-le (F .counts .enough v k k z)))) kept-state (fell-look x v))
+    lost-step (Lost.falls h ex ed ew et) = moved ex ed ew et (fall-state (not-yet h) (omega arith))
 
   -- who has not fallen has not been walked
   pub not-walked : {b e r head tail : ℕ} {passed : ℕ → ℕ → Bool} {x d w : List ℕ} (F : Fall t q s hi lo b e r head tail passed x d w) (u : ℕ) → getD x u 0 ≡ 0 → F .walked u ≡ false
@@ -510,8 +548,8 @@ module _ (t : Table) (q : Query) (s hi lo : ℕ) (S : Setting t q s hi lo) where
       next-small = other-small j u l touch
 
       -- a fresh row that has not left: its other account loses a neighbour
-      pub walk-lose-one : j < r → fresh t lo j ≡ true → getD x (otherOf t j u) 0 ≡ 0 → 0 < getD d (otherOf t j u) 0
-      walk-lose-one k f = lose-one (W .state) j (otherOf t j u) next-small (next-here k f) next-not next-new next-pass next-why
+      pub walk-lose-one : j < r → fresh t lo j ≡ true → (0 < getD d (otherOf t j u) 0) × (getD d (otherOf t j u) 0 ≡ q .k → tail < 4096)
+      walk-lose-one k f = (lose-one (W .state) j (otherOf t j u) next-small (next-here k f) next-not next-new next-pass next-why, lose-room (W .state) j (otherOf t j u) next-small (next-here k f) next-not next-new next-pass next-why)
 
       pub walk-lost : j < r → fresh t lo j ≡ true → {x′ d′ w′ : List ℕ} {tail′ : ℕ} → Lost (q .k) e tail (otherOf t j u) x d w x′ d′ w′ tail′ → Walk t q s hi lo (j + 1) e r head tail′ u x′ d′ w′
       walk-lost k f L = record { state = lost-step (W .state) j (otherOf t j u) next-small (next-here k f) next-not next-new next-pass next-why L; front = grown L (W .front); at-front = same-front L (W .front) ∙ W .at-front }
@@ -596,7 +634,7 @@ module _ (t : Table) (q : Query) (s hi lo : ℕ) (S : Setting t q s hi lo) where
           live-passed = λ i v h. refl;
           live-all = λ i v a c p. let b = a .before in and-i (F .rows .live-all i v (record { below = a .below; before = omega arith; is-fresh = a .is-fresh; touch = a .touch }) c (⊎-elim (λ y. let o = only i v y in absurd (omega arith)) (λ y. y) (look (passed i v)))) (lt-ltb i j b);
         };
-        counts = record { degrees = λ u k g. F .counts .degrees u k g ∙ count-same (λ i. F .live i u) (λ i. live′ i u) (size t) (λ i o. same-truth (F .live i u) (live′ i u) (new u k g i) (old i u)); enough = F .counts .enough };
+        counts = record { degrees = λ u k g. F .counts .degrees u k g ∙ count-same (λ i. F .live i u) (λ i. live′ i u) (size t) (λ i o. same-truth (F .live i u) (live′ i u) (new u k g i) (old i u)); enough = F .counts .enough; many = λ u k g. le-trans (count-mono (λ i. live′ i u) (λ i. F .live i u) (size t) (λ i o. old i u)) (F .counts .many u k g); few = F .counts .few };
       }
     where
       live′ : ℕ → ℕ → Bool
@@ -671,17 +709,19 @@ module _ (t : Table) (q : Query) (s hi lo : ℕ) (S : Setting t q s hi lo) where
     second-small : secondOf t j < 4096
     second-small = touch-small j (secondOf t j) l (touch-second t j)
 
-    pub leave-first-one : getD x (firstOf t j) 0 ≡ 0 → 0 < getD d (firstOf t j) 0
-    leave-first-one = lose-one F j (firstOf t j) first-small (here-row (firstOf t j) (touch-first t j)) (not-walked F (otherOf t j (firstOf t j)) (ap (λ (c : ℕ). getD x c 0) (other-first t j) ∙ zb)) refl first-pass (_⊎_.inr day)
+    pub leave-first-one : (0 < getD d (firstOf t j) 0) × (getD d (firstOf t j) 0 ≡ q .k → head < 4096)
+    leave-first-one = (
+      lose-one F j (firstOf t j) first-small (here-row (firstOf t j) (touch-first t j)) (not-walked F (otherOf t j (firstOf t j)) (ap (λ (c : ℕ). getD x c 0) (other-first t j) ∙ zb)) refl first-pass (_⊎_.inr day),
+      lose-room F j (firstOf t j) first-small (here-row (firstOf t j) (touch-first t j)) (not-walked F (otherOf t j (firstOf t j)) (ap (λ (c : ℕ). getD x c 0) (other-first t j) ∙ zb)) refl first-pass (_⊎_.inr day),
+    )
 
     after-first : {x₁ d₁ w₁ : List ℕ} {tail₁ : ℕ} → Lost (q .k) e head (firstOf t j) x d w x₁ d₁ w₁ tail₁ → Fall t q s hi lo 4096 e (suc j) head tail₁ (pair (firstOf t j)) x₁ d₁ w₁
     after-first L = lost-step F j (firstOf t j) first-small (here-row (firstOf t j) (touch-first t j)) (not-walked F (otherOf t j (firstOf t j)) (ap (λ (c : ℕ). getD x c 0) (other-first t j) ∙ zb)) refl first-pass (_⊎_.inr day) L
 
     -- the first account has not been walked after that either
     first-not : {x₁ d₁ w₁ : List ℕ} {tail₁ : ℕ} (L : Lost (q .k) e head (firstOf t j) x d w x₁ d₁ w₁ tail₁) (G : Fall t q s hi lo 4096 e (suc j) head tail₁ (pair (firstOf t j)) x₁ d₁ w₁) → G .walked (firstOf t j) ≡ false
-    first-not (Lost.fallen-before n ex ed ew et) G = absurd (n za)
-    first-not (Lost.stays z h ex ed ew et) G = not-walked G (firstOf t j) (ap (λ (y : List ℕ). getD y (firstOf t j) 0) ex ∙ z)
-    first-not {w₁ = w₁} (Lost.falls z h ex ed ew et) G =
+    first-not (Lost.stays h ex ed ew et) G = not-walked G (firstOf t j) (ap (λ (y : List ℕ). getD y (firstOf t j) 0) ex ∙ za)
+    first-not {w₁ = w₁} (Lost.falls h ex ed ew et) G =
         subst (λ (c : ℕ). G .walked c ≡ false) (ap (λ (y : List ℕ). getD y head 0) ew ∙ getD-set-same w head (firstOf t j) 0 (let a : head < 4096 = subst (λ (c : ℕ). c < 4096) (sym (F .queue .tail-is)) (room x (firstOf t j) first-small za) in let b = F .len-w in omega arith))
         (G .queue .waiting-not head (le-refl head) (omega arith))
 
@@ -692,11 +732,11 @@ module _ (t : Table) (q : Query) (s hi lo : ℕ) (S : Setting t q s hi lo) where
     second-new = ⊎-elim (λ h. let y = pair-e (firstOf t j) j (secondOf t j) h .1 in let a = S .accounts j l in absurd (omega arith)) (λ h. h) (look (pair (firstOf t j) j (secondOf t j)))
 
     module _ {x₁ d₁ w₁ : List ℕ} {tail₁ : ℕ} (L : Lost (q .k) e head (firstOf t j) x d w x₁ d₁ w₁ tail₁) where
-      pub leave-tail : tail₁ ≡ fallen x₁
-      leave-tail = after-first L .queue .tail-is
-
-      pub leave-second-one : getD x₁ (secondOf t j) 0 ≡ 0 → 0 < getD d₁ (secondOf t j) 0
-      leave-second-one = lose-one (after-first L) j (secondOf t j) second-small (here-row (secondOf t j) (touch-second t j)) (second-other L (after-first L)) second-new second-pass (_⊎_.inr day)
+      pub leave-second-one : (0 < getD d₁ (secondOf t j) 0) × (getD d₁ (secondOf t j) 0 ≡ q .k → tail₁ < 4096)
+      leave-second-one = (
+        lose-one (after-first L) j (secondOf t j) second-small (here-row (secondOf t j) (touch-second t j)) (second-other L (after-first L)) second-new second-pass (_⊎_.inr day),
+        lose-room (after-first L) j (secondOf t j) second-small (here-row (secondOf t j) (touch-second t j)) (second-other L (after-first L)) second-new second-pass (_⊎_.inr day),
+      )
 
       pub leave-both : {x₂ d₂ w₂ : List ℕ} {tail₂ : ℕ} → Lost (q .k) e tail₁ (secondOf t j) x₁ d₁ w₁ x₂ d₂ w₂ tail₂ → Fall t q s hi lo 4096 e j head tail₂ nothing x₂ d₂ w₂
       unfolding both

@@ -21,7 +21,7 @@ use Rattle.rings.specs.Inner.Peeling.{Lost, fallen, Season, Ready, query
 use Rattle.rings.proofs.WordLaws.{look, clash, and-i, and-l, and-r, no-i, no-e, same-truth, count-same, count-none, count-pos, count-le, same-or}
 use Rattle.rings.proofs.RingLaws.{touch-cases, touch-first, touch-second}
 use Rattle.rings.proofs.PairLaws.{count-drop}
-use Rattle.rings.proofs.FallLaws.{fell-look, room, times-fall, queue-fall, fall-lower, walk-start, leave-stale, leave-fell, leave-first-one, leave-tail, leave-second-one, leave-both, next-day, fall-times}
+use Rattle.rings.proofs.FallLaws.{fell-look, room, times-fall, queue-fall, fall-lower, walk-start, leave-stale, leave-fell, leave-first-one, leave-second-one, leave-both, next-day, fall-times}
 
 -- nobody has fallen exactly where all times are 0
 fallen-none : (x : List ℕ) → ((u : ℕ) → u < 4096 → getD x u 0 ≡ 0) → fallen x ≡ 0
@@ -119,31 +119,22 @@ module _ (d f s links : List ℕ) (q : Season) (R : Ready d f s links q) where
       zero-c : getD x (secondOf t j) 0 ≡ 0
       zero-c = ap (λ (g : ℕ). getD x g 0) (sym c-is) ∙ (sym vc-is ∙ zc)
 
-      pub leave-room-a : ((a < 4096) × (length x ≡ 4096) × (length l ≡ 4096) × (4096 ≤ length w)) × (getD x a 0 ≡ 0 → (0 < getD l a 0) × (tail < 4096))
+      pub leave-room-a : ((a < 4096) × (length x ≡ 4096) × (length l ≡ 4096) × (4096 ≤ length w)) × ((0 < getD l a 0) × (getD l a 0 ≡ q .k → tail < 4096))
       leave-room-a =
           let k = a-small in (
             (omega arith, F .len-x, F .len-d, F .len-w),
-            λ z. (
-              subst (λ (g : ℕ). 0 < getD l g 0) (sym a-is) (leave-first-one t (query (q .k)) (q .start) (q .end) (q .lo) (R .setting) G e-day b f-is zero-a zero-c zero-a),
-              subst (λ (g : ℕ). g < 4096) (sym (F .queue .tail-is)) (room x a (omega arith) z),
-            ),
+            subst (λ (g : ℕ). (0 < getD l g 0) × (getD l g 0 ≡ q .k → tail < 4096)) (sym a-is) (leave-first-one t (query (q .k)) (q .start) (q .end) (q .lo) (R .setting) G e-day b f-is zero-a zero-c),
           )
 
       module _ {x₁ l₁ w₁ : List ℕ} {one : ℕ} (n₁ : length x₁ ≡ length x) (n₂ : length l₁ ≡ length l) (n₃ : length w₁ ≡ length w) (L : Lost (q .k) e tail a x l w x₁ l₁ w₁ one) where
         L′ : Lost (q .k) e tail (firstOf t j) x l w x₁ l₁ w₁ one
         L′ = subst (λ (g : ℕ). Lost (q .k) e tail g x l w x₁ l₁ w₁ one) a-is L
 
-        one-is : one ≡ fallen x₁
-        one-is = leave-tail t (query (q .k)) (q .start) (q .end) (q .lo) (R .setting) G e-day b f-is zero-a zero-c L′
-
-        pub leave-room-b : ((c < 4096) × (length x₁ ≡ 4096) × (length l₁ ≡ 4096) × (4096 ≤ length w₁)) × (getD x₁ c 0 ≡ 0 → (0 < getD l₁ c 0) × (one < 4096))
+        pub leave-room-b : ((c < 4096) × (length x₁ ≡ 4096) × (length l₁ ≡ 4096) × (4096 ≤ length w₁)) × ((0 < getD l₁ c 0) × (getD l₁ c 0 ≡ q .k → one < 4096))
         leave-room-b =
             let k = b-small in (
               (omega arith, n₁ ∙ F .len-x, n₂ ∙ F .len-d, let o = F .len-w in omega arith),
-              λ z. (
-                subst (λ (g : ℕ). 0 < getD l₁ g 0) (sym c-is) (leave-second-one t (query (q .k)) (q .start) (q .end) (q .lo) (R .setting) G e-day b f-is zero-a zero-c L′ (ap (λ (g : ℕ). getD x₁ g 0) (sym c-is) ∙ z)),
-                subst (λ (g : ℕ). g < 4096) (sym one-is) (room x₁ c (omega arith) z),
-              ),
+              subst (λ (g : ℕ). (0 < getD l₁ g 0) × (getD l₁ g 0 ≡ q .k → one < 4096)) (sym c-is) (leave-second-one t (query (q .k)) (q .start) (q .end) (q .lo) (R .setting) G e-day b f-is zero-a zero-c L′),
             )
 
         pub leave-now : {x₂ l₂ w₂ : List ℕ} {two : ℕ} → Lost (q .k) e one c x₁ l₁ w₁ x₂ l₂ w₂ two → Falls 4096 e j tail two x₂ l₂ w₂
@@ -322,7 +313,7 @@ module _ (d f s links : List ℕ) (q : Season) (R : Ready d f s links q) where
           in-order = le-refl 0;
           tail-is = sym nobody;
         };
-        counts = record { degrees = λ u k z. C .rows u k; enough = λ u a b z. absurd (not-suc-le-zero a) };
+        counts = record { degrees = λ u k z. C .rows u k; enough = λ u a b z. absurd (not-suc-le-zero a); many = λ u k h. absurd (h (zero u k)); few = λ u k h. absurd (h (zero u k)) };
         times = record {
           e-pos = omega arith;
           e-day = _⊎_.inr refl;
@@ -372,7 +363,7 @@ module _ (d f s links : List ℕ) (q : Season) (R : Ready d f s links q) where
             times = F .times;
             passed-why = F .passed-why;
             left-why = F .left-why;
-            counts = record { degrees = F .counts .degrees; enough = λ v a b z. ⊎-elim (λ e. subst (λ (c : ℕ). q .k ≤ getD l c 0) (sym e) h) (λ o. F .counts .enough v o b z) (eq-or-lt-of-le (omega arith)) };
+            counts = record { degrees = F .counts .degrees; many = F .counts .many; few = F .counts .few; enough = λ v a b z. ⊎-elim (λ e. subst (λ (c : ℕ). q .k ≤ getD l c 0) (sym e) h) (λ o. F .counts .enough v o b z) (eq-or-lt-of-le (omega arith)) };
           };
           rest = λ v a b. W .rest v (omega arith) b;
         }
@@ -405,6 +396,8 @@ module _ (d f s links : List ℕ) (q : Season) (R : Ready d f s links q) where
                 counts = record {
                   degrees = λ v a z. ⊎-elim (λ y. absurd (fell-u v y z)) (λ y. F .counts .degrees v a (sym (same v y) ∙ z)) (same-or v u);
                   enough = λ v a b z. ⊎-elim (λ y. absurd (fell-u v y z)) (λ y. F .counts .enough v (⊎-elim (λ e. absurd (y e)) (λ o. o) (eq-or-lt-of-le (omega arith))) b (sym (same v y) ∙ z)) (same-or v u);
+                  many = λ v a z. ⊎-elim (λ y. subst (λ (c : ℕ). count (λ j. F .live j c) (length d) ≤ getD l c 0) (sym y) (let m : getD l u 0 ≡ count (λ j. F .live j u) (length d) = F .counts .degrees u k zero-u in omega arith)) (λ y. F .counts .many v a (λ e. z (same v y ∙ e))) (same-or v u);
+                  few = λ v a z. ⊎-elim (λ y. subst (λ (c : ℕ). getD l c 0 < q .k) (sym y) h) (λ y. F .counts .few v a (λ e. z (same v y ∙ e))) (same-or v u);
                 };
                 passed-why = λ j v a p. clash refl (sym p);
                 left-why = F .left-why;

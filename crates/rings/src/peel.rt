@@ -32,7 +32,7 @@ pub fn is_first(links: &[u16], n: usize, lo: usize, j: usize) -> bool
     earlier <= lo
 }
 
-// Account v loses a neighbour; with fewer than k left it falls, dated e, and waits in the queue.
+// Account v loses a neighbour; with the k-th it falls, dated e, and waits in the queue. Who fell before has fewer left, so one test that nearly always fails is enough, and whether v fell, which no processor foresees, is not asked.
 fn lose(
     k: u16,
     e: u16,
@@ -43,15 +43,12 @@ fn lose(
     queue: &mut [u16],
 ) -> usize
     requires { ⌜ (v < 4096) × (length (now times) ≡ 4096) × (length (now left) ≡ 4096) × (4096 ≤ length (now queue)) ⌝ }
-    requires { ⌜ (getD (now times) v 0 ≡ 0 → (0 < getD (now left) v 0) × (tail < 4096)) ⌝ }
+    requires { ⌜ (0 < getD (now left) v 0) × (getD (now left) v 0 ≡ k → tail < 4096) ⌝ }
     ensures { λ r. ⌜ Lost k e tail v (now (times .entry)) (now (left .entry)) (now (queue .entry)) (now (times .exit)) (now (left .exit)) (now (queue .exit)) r ⌝ }
 {
-    if times[v] != 0 {
-        return tail;
-    }
     let n = left[v];
     left[v] = n - 1;
-    if k < n {
+    if n != k {
         return tail;
     }
     times[v] = e;

@@ -4,7 +4,7 @@
 --     Setting      the table, the window and the query
 --     Rows         which rows count for which accounts
 --     Queue        who waits to be walked
---     Degrees      d counts the rows that count, and no account below b that has not fallen has fewer than k
+--     Degrees      d counts the rows that count, and no account below b that has not fallen has fewer than k; who has fallen has fewer, and the rows that count at least
 --     Times        x is a lower bound of the core times, closed at the fallen; no core time that is still open passes e
 --     Fall         all of it
 --     Season       what is peeled
@@ -33,11 +33,10 @@ use Rattle.rings.specs.Inner.Links.{otherOf, fresh, Linked, Paired, Shel
 use Rattle.rings.specs.Inner.Support.{supporters}
 use Rattle.rings.specs.declared.Query.{Query}
 
--- account v loses a neighbour: x are the times (0: it has not fallen), d the numbers of neighbours left, w the queue up to tail
+-- account v loses a neighbour: x are the times, d the numbers of neighbours left, w the queue up to tail. With the k-th it falls; who fell before has fewer than k left
 pub data Lost (k e tail v : ℕ) (x d w x′ d′ w′ : List ℕ) (tail′ : ℕ) : Type 0 where
-  fallen-before : (getD x v 0 ≡ 0 → ⊥) → x′ ≡ x → d′ ≡ d → w′ ≡ w → tail′ ≡ tail → Lost k e tail v x d w x′ d′ w′ tail′
-  stays : getD x v 0 ≡ 0 → k < getD d v 0 → x′ ≡ x → d′ ≡ set d v (getD d v 0 - 1) → w′ ≡ w → tail′ ≡ tail → Lost k e tail v x d w x′ d′ w′ tail′
-  falls : getD x v 0 ≡ 0 → getD d v 0 ≤ k → x′ ≡ set x v e → d′ ≡ set d v (getD d v 0 - 1) → w′ ≡ set w tail v → tail′ ≡ tail + 1 → Lost k e tail v x d w x′ d′ w′ tail′
+  stays : (getD d v 0 ≡ k → ⊥) → x′ ≡ x → d′ ≡ set d v (getD d v 0 - 1) → w′ ≡ w → tail′ ≡ tail → Lost k e tail v x d w x′ d′ w′ tail′
+  falls : getD d v 0 ≡ k → x′ ≡ set x v e → d′ ≡ set d v (getD d v 0 - 1) → w′ ≡ set w tail v → tail′ ≡ tail + 1 → Lost k e tail v x d w x′ d′ w′ tail′
 
 pub record Setting (t : Table) (q : Query) (s hi lo : ℕ) : Type 0 where
   pub fits : hi < never
@@ -87,6 +86,8 @@ pub record Queue (head tail : ℕ) (walked : ℕ → Bool) (x w : List ℕ) : Ty
 pub record Degrees (t : Table) (q : Query) (b : ℕ) (live : ℕ → ℕ → Bool) (x d : List ℕ) : Type 0 where
   pub degrees : (u : ℕ) → u < 4096 → getD x u 0 ≡ 0 → getD d u 0 ≡ count (λ j. live j u) (size t)
   pub enough : (u : ℕ) → u < b → u < 4096 → getD x u 0 ≡ 0 → q .k ≤ getD d u 0
+  pub many : (u : ℕ) → u < 4096 → Fell x u → count (λ j. live j u) (size t) ≤ getD d u 0
+  pub few : (u : ℕ) → u < 4096 → Fell x u → getD d u 0 < q .k
 
 -- the times as a guess of the core times: never past the accounts
 unfoldable pub guess : List ℕ → ℕ → ℕ
