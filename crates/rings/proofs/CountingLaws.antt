@@ -1,9 +1,11 @@
 -- Day counts (src/counts.rt): how many rows have each day as their time.
 --     by-in, by-out, by-core, by-later, is-time   the time of a row by those of its accounts
+--     count-past              rows that do not count
 --     hist-start, hist-few, hist-next, hist-past, hist-same      the rows are counted one after the other
 --     hist-has, hist-drop     one row fewer: it has no time any more
 --     take-place, take-less, take-few, take-end    what `take_count` does
 --     owing-start, owing-same, owing-has, owing-room, owing-move, owing-end    rows that move to one day are taken off theirs first, and counted there at last
+--     Moves, moving-asks, moving-hist, moving-room, moving-made     or they go from one day to another time at once
 -- Assumes nothing.
 use Prim.Native.Nat.{ℕ, zero, suc, max, _+_, _-_, _≤_, _<_}
 use native.Mathlib.Nat.{le-refl, eq-or-lt-of-le}
@@ -21,8 +23,8 @@ use Rattle.rings.specs.Words.{_and_, count}
 use Rattle.rings.specs.Table.{Table, tableOf, dayOf, firstOf, secondOf, inWindow}
 use Rattle.rings.specs.CoreTimes.{never, accountTime, rowTime}
 use Rattle.rings.specs.Inner.Peeling.{Setting, query, season, guess, CoreTimesAre}
-use Rattle.rings.specs.Inner.Counting.{timeBy, IsTime, Histogram, owed, Owing, Adding, Removing, Taking}
-use Rattle.rings.proofs.WordLaws.{look, and-i, and-l, and-r, tally-yes, tally-no, count-le, count-same, count-none, count-pos, same-or}
+use Rattle.rings.specs.Inner.Counting.{timeBy, IsTime, Histogram, owed, Owing, Adding, Removing, Taking, Moving}
+use Rattle.rings.proofs.WordLaws.{look, and-i, and-l, and-r, tally-yes, tally-no, count-le, count-mono, count-same, count-none, count-pos, same-or}
 use Rattle.rings.specs.declared.Query.{Query}
 use Rattle.rings.proofs.PairLaws.{count-drop}
 use Rattle.rings.proofs.CoreTimeLaws.{row-time, row-max, row-before, row-after}
@@ -69,7 +71,7 @@ is-time t q hi s j top {x} e = ⊎-elim (λ y. _⊎_.inr (e ∙ y)) (λ y. let h
 
 -- ---- rows counted one after the other
 
-count-past : (p : ℕ → Bool) (m n : ℕ) → m ≤ n → ((i : ℕ) → m ≤ i → i < n → p i ≡ false) → count p n ≡ count p m
+pub count-past : (p : ℕ → Bool) (m n : ℕ) → m ≤ n → ((i : ℕ) → m ≤ i → i < n → p i ≡ false) → count p n ≡ count p m
 unfolding count
 count-past p m zero l h = ap (count p) (let e : 0 ≡ m = omega arith in e)
 count-past p m (suc n) l h =
@@ -234,3 +236,80 @@ module _ (xs : List ℕ) {test : Bool} {time e more : ℕ} (w : (test ≡ true �
   take-end {m} =
       ⊎-elim (λ y. Taking.one y (ap (λ (c : ℕ). set xs c (getD xs c 0 - more)) (w .0 y) ∙ ap (λ (c : ℕ). set xs time (getD xs time 0 - c)) (o .0 y)) (ap (λ (c : ℕ). m + c) (o .0 y)))
       (λ y. Taking.none y (ap (λ (c : ℕ). set xs e (getD xs e 0 - c)) (o .1 y) ∙ (ap (set xs e) (let z : getD xs e 0 - 0 ≡ getD xs e 0 = omega arith in z) ∙ set-getD xs e 0)) (let z = o .1 y in omega arith)) (look test)
+
+-- ---- rows that go from one day to another time at once
+
+-- mv says of each of the first n rows whether it goes from old to new; the others keep their times
+abbrev pub Moves : (ℕ → ℕ) → (ℕ → ℕ) → (ℕ → Bool) → ℕ → ℕ → ℕ → Type 0
+Moves g g′ mv old new n = (j : ℕ) → j < n → (mv j ≡ true → (g j ≡ old) × (g′ j ≡ new)) × (mv j ≡ false → g′ j ≡ g j)
+
+module _ (mv : ℕ → Bool) where
+  one-yes : (n : ℕ) → mv n ≡ true → count mv (suc n) ≡ suc (count mv n)
+  unfolding count
+  one-yes n h = tally-yes (count mv n) h
+
+  one-no : (n : ℕ) → mv n ≡ false → count mv (suc n) ≡ count mv n
+  unfolding count
+  one-no n h = tally-no (count mv n) h
+
+  -- a row that moves is one more with its time, and one more that moves
+  owed-one : (f : ℕ → ℕ) (d e n : ℕ) → mv n ≡ true → f n ≡ d → count (λ j. eqb (f j) e) (suc n) + owed d (count mv n) e ≡ count (λ j. eqb (f j) e) n + owed d (count mv (suc n)) e
+  owed-one f d e n h k =
+      let m = one-yes n h in
+      ⊎-elim (λ y. let a = owed-here d (count mv n) e y in let b = owed-here d (count mv (suc n)) e y in let c = count-yes f e n (eq-eqb (f n) e (k ∙ y)) in omega arith)
+      (λ y. let a = owed-else d (count mv n) e y in let b = owed-else d (count mv (suc n)) e y in let c = count-no f e n (ne-eqb (f n) e (λ z. y (sym k ∙ z))) in omega arith) (same-or d e)
+
+  count-stays : (g g′ : ℕ → ℕ) (e n : ℕ) → g′ n ≡ g n → count (λ j. eqb (g′ j) e) (suc n) + count (λ j. eqb (g j) e) n ≡ count (λ j. eqb (g j) e) (suc n) + count (λ j. eqb (g′ j) e) n
+  count-stays g g′ e n k =
+      ⊎-elim (λ y. let a = count-yes g e n y in let b = count-yes g′ e n (ap (λ (c : ℕ). eqb c e) k ∙ y) in omega arith)
+      (λ y. let a = count-no g e n y in let b = count-no g′ e n (ap (λ (c : ℕ). eqb c e) k ∙ y) in omega arith) (look (eqb (g n) e))
+
+  module _ (g g′ : ℕ → ℕ) (old new : ℕ) where
+    count-moves : (e n : ℕ) → Moves g g′ mv old new n → count (λ j. eqb (g′ j) e) n + owed old (count mv n) e ≡ count (λ j. eqb (g j) e) n + owed new (count mv n) e
+    unfolding count
+    count-moves e zero h = let a = owed-none old e in let b = owed-none new e in omega arith
+    count-moves e (suc n) h =
+        let before = count-moves e n (λ j l. h j (omega arith)) in
+        let w = h n (le-refl (suc n)) in
+        ⊎-elim (λ y. let a = owed-one g old e n y (w .0 y .0) in let b = owed-one g′ new e n y (w .0 y .1) in omega arith)
+        (λ y. let a = count-stays g g′ e n (w .1 y) in let b : owed old (count mv (suc n)) e ≡ owed old (count mv n) e = ap (λ (m : ℕ). owed old m e) (one-no n y) in let c : owed new (count mv (suc n)) e ≡ owed new (count mv n) e = ap (λ (m : ℕ). owed new m e) (one-no n y) in omega arith) (look (mv n))
+
+    module _ {n : ℕ} (h : Moves g g′ mv old new n) {xs : List ℕ} (T : Histogram g n xs) where
+      pub moving-asks : {m : ℕ} → m ≡ count mv n → n ≤ 16384 → old < 1025 → IsTime new → (length xs ≡ 1025) × (old < 1025) × (m ≤ getD xs old 0) × ((new ≡ never → ⊥) → (new < 1025) × (getD xs new 0 + m < 65536))
+      moving-asks em most small i = (
+        T .long,
+        small,
+        let a = T .each old small in let b = count-mono mv (λ j. eqb (g j) old) n (λ j l y. eq-eqb (g j) old (h j l .0 y .0)) in omega arith,
+        λ k. let o : new < 1025 = ⊎-elim (λ y. y) (λ y. absurd (k y)) i in (o, let a = T .each new o in let b = count-le (λ j. eqb (g j) new) n in let c = count-le mv n in omega arith),
+      )
+
+      pub moving-hist : {m : ℕ} {xs′ : List ℕ} → m ≡ count mv n → Moving m old new xs xs′ → Histogram g′ n xs′
+      moving-hist {m} {xs′} em M =
+          record {
+            long = M .long;
+            each = λ e l.
+                let a = count-moves e n h in let b = M .each e l in let c = T .each e l in
+                let o : owed old m e ≡ owed old (count mv n) e = ap (λ (i : ℕ). owed old i e) em in let p : owed new m e ≡ owed new (count mv n) e = ap (λ (i : ℕ). owed new i e) em in omega arith;
+          }
+
+-- what `move_counts` does
+module _ (m old new : ℕ) (xs xs₁ : List ℕ) (long : length xs ≡ 1025) (small : old < 1025) (enough : m ≤ getD xs old 0) (e₁ : xs₁ ≡ set xs old (getD xs old 0 - m)) where
+  taken-off : (e : ℕ) → getD xs₁ e 0 + owed old m e ≡ getD xs e 0
+  taken-off e =
+      ⊎-elim (λ y. let a = owed-here old m e y in let b : getD xs₁ e 0 ≡ getD xs old 0 - m = ap (λ (ys : List ℕ). getD ys e 0) e₁ ∙ (ap (λ (c : ℕ). getD (set xs old (getD xs old 0 - m)) c 0) (sym y) ∙ getD-set-same xs old (getD xs old 0 - m) 0 (omega arith)) in let c : getD xs old 0 ≡ getD xs e 0 = ap (λ (i : ℕ). getD xs i 0) y in omega arith)
+      (λ y. let a = owed-else old m e y in let b : getD xs₁ e 0 ≡ getD xs e 0 = ap (λ (ys : List ℕ). getD ys e 0) e₁ ∙ getD-set-other xs old e (getD xs old 0 - m) 0 (λ z. y (sym z)) in omega arith) (same-or old e)
+
+  pub moving-room : ((new ≡ never → ⊥) → (new < 1025) × (getD xs new 0 + m < 65536)) → (length xs₁ ≡ 1025) × ((new ≡ never → ⊥) → (new < 1025) × (getD xs₁ new 0 + m < 65536))
+  moving-room ask = (ap length e₁ ∙ (length-set xs old (getD xs old 0 - m) ∙ long), λ k. let a = ask k in let b = taken-off new in let c = a .1 in (a .0, omega arith))
+
+  pub moving-made : {xs′ : List ℕ} → Adding m new xs₁ xs′ → Moving m old new xs xs′
+  moving-made {xs′} (Adding.pass h w) =
+      record { long = ap length w ∙ (ap length e₁ ∙ (length-set xs old (getD xs old 0 - m) ∙ long)); each = λ e l. let a = taken-off e in let b = owed-else new m e (λ z. omega arith) in let c : getD xs′ e 0 ≡ getD xs₁ e 0 = ap (λ (ys : List ℕ). getD ys e 0) w in omega arith }
+  moving-made {xs′} (Adding.some h w) =
+      record {
+        long = ap length w ∙ (length-set xs₁ new (getD xs₁ new 0 + m) ∙ (ap length e₁ ∙ (length-set xs old (getD xs old 0 - m) ∙ long)));
+        each = λ e l.
+            let a = taken-off e in
+            ⊎-elim (λ y. let b = owed-here new m e y in let k : length xs₁ ≡ 1025 = ap length e₁ ∙ (length-set xs old (getD xs old 0 - m) ∙ long) in let c : getD xs′ e 0 ≡ getD xs₁ new 0 + m = ap (λ (ys : List ℕ). getD ys e 0) w ∙ (ap (λ (i : ℕ). getD (set xs₁ new (getD xs₁ new 0 + m)) i 0) (sym y) ∙ getD-set-same xs₁ new (getD xs₁ new 0 + m) 0 (omega arith)) in let d : getD xs₁ new 0 ≡ getD xs₁ e 0 = ap (λ (i : ℕ). getD xs₁ i 0) y in omega arith)
+            (λ y. let b = owed-else new m e y in let c : getD xs′ e 0 ≡ getD xs₁ e 0 = ap (λ (ys : List ℕ). getD ys e 0) w ∙ getD-set-other xs₁ new e (getD xs₁ new 0 + m) 0 (λ z. y (sym z)) in omega arith) (same-or new e);
+      }

@@ -29,6 +29,7 @@ pub mod ClosingLaws
 pub mod LookLaws
 pub mod LossLaws
 pub mod SurgeLaws
+pub mod GatherLaws
 pub mod SettleLaws
 pub mod TurnLaws
 pub mod CountingLaws

@@ -1,9 +1,9 @@
 -- A look at an account (src/look.rt): why the day that it finds is the least with k supporters.
 --     backing-e, backing-i, backers-are     the rows that back u, each the first of its pair, are as many as its supporters
---     seen-start, seen-stale, seen-note, seen-count, seen-stop, seen-out     the rows of u as they stand on a day
---     few-start, look-next, look-found, look-never     a look rises from day to day, and stops at the first with k supporters
+--     seen-start, seen-stale, seen-idle, seen-note, seen-count, seen-stop, seen-out     the rows of u as they stand on a day
+--     few-start, look-next, look-found, look-never, look-near, short-start, short-next     a look rises from day to day, and stops at the first with k supporters
 --     By, by-most, noted      what `one`, `pick` and `note` compute without a branch
---     both, not-first         two tests at once
+--     both, not-first, not-second, bit-is         two tests at once
 --     Glance, glance-start, glance-out, glance-over, glance-mark, glance-few, glance-late, glance-most, glance-small     the walk of `look_at` in the book
 -- Assumes nothing.
 use Prim.Native.Nat.{ℕ, zero, suc, max, _+_, _-_, _*_, _≤_, _<_}
@@ -17,14 +17,14 @@ use mathlib.Core.List.{List}
 use lib.ListN.{length, getD}
 use lib.Dec.{leb, ltb, eqb}
 use borrow.Author.Tests.{leb-true, leb-false, ltb-true, ltb-false, eqb-true, le-leb}
-use Rattle.rings.specs.Words.{_and_, at, count}
+use Rattle.rings.specs.Words.{_and_, at, tally, count}
 use Rattle.rings.specs.Table.{Table, tableOf, size, dayOf}
 use Rattle.rings.specs.Ring.{joins, names, touches}
 use Rattle.rings.specs.CoreTimes.{never}
 use Rattle.rings.specs.Inner.Links.{pickOther, otherOf, fresh, Reading, Every}
 use Rattle.rings.specs.Inner.Support.{supports, supporters}
 use Rattle.rings.specs.Inner.Peeling.{Setting, Season, Open, query, guess}
-use Rattle.rings.specs.Inner.Settling.{value, backing, backers, Days, Seen, Noting, Glanced, Looked}
+use Rattle.rings.specs.Inner.Settling.{value, backing, backers, Days, Seen, Noting, Glanced, Short, Spared, Looked}
 use Rattle.rings.specs.declared.Query.{Query}
 use Rattle.rings.proofs.WordLaws.{look, clash, and-i, and-l, and-r, count-mono, count-none, tally-yes, tally-no}
 use Rattle.rings.proofs.RingLaws.{joins-touch}
@@ -169,8 +169,13 @@ module _ (t : Table) (q : Query) (s hi lo : ℕ) (S : Setting t q s hi lo) (x : 
           stale : (a : ℕ) → backing t x lo a u j ≡ false
           stale a = ⊎-elim (λ y. clash (backing-e a u j y .is-fresh) f) (λ y. y) (look (backing t x lo a u j))
 
+      passes-as : {n′ above′ more′ : ℕ} → fresh t lo j ≡ false → n′ ≡ n → above′ ≡ above → more′ ≡ more → Seen t x lo hi c u (j + 1) n′ above′ more′
+      passes-as {n′} {above′} {more′} f en ea em =
+          subst (λ (i : ℕ). Seen t x lo hi c u (j + 1) i above′ more′) (sym en)
+          (subst (λ (i : ℕ). Seen t x lo hi c u (j + 1) n i more′) (sym ea) (subst (λ (i : ℕ). Seen t x lo hi c u (j + 1) n above i) (sym em) (passes f)))
+
       -- a row that is not the first of its pair: never stands for its value
-      pub seen-stale : {n′ above′ more′ : ℕ} → fresh t lo j ≡ false → Noting never c n above more n′ above′ more′ → Seen t x lo hi c u (j + 1) n′ above′ more′
+      pub seen-stale : {n′ above′ more′ : ℕ} → fresh t lo j ≡ false → Noting true never c n above more n′ above′ more′ → Seen t x lo hi c u (j + 1) n′ above′ more′
       seen-stale f (Noting.back h en ea em) = let a = soon in absurd (omega arith)
       seen-stale f (Noting.nearer h k en ea em) = let a = above-most in absurd (omega arith)
       seen-stale {n′} {above′} {more′} f (Noting.level h k en ea em) =
@@ -179,12 +184,30 @@ module _ (t : Table) (q : Query) (s hi lo : ℕ) (S : Setting t q s hi lo) (x : 
             rises = let a = W .rises in omega arith;
             none-between = λ i l g y o. subst (λ (a : ℕ). (value t x i u ≤ c) ⊎ (a ≤ value t x i u)) (sym ea) (passes f .none-between i l g y o);
             day = _⊎_.inr (ea ∙ sym k);
-            few = let a = few-flat in omega arith;
+            few = let a = few-flat in let m = tally-yes more (let z : true ≡ true = refl in z) in omega arith;
             then = _⊎_.inl (ea ∙ sym k);
           }
-      seen-stale {n′} {above′} {more′} f (Noting.farther h k en ea em) =
-          subst (λ (i : ℕ). Seen t x lo hi c u (j + 1) i above′ more′) (sym en)
-          (subst (λ (i : ℕ). Seen t x lo hi c u (j + 1) n i more′) (sym ea) (subst (λ (i : ℕ). Seen t x lo hi c u (j + 1) n above i) (sym em) (passes f)))
+      seen-stale f (Noting.farther h k en ea em) = passes-as f en ea em
+
+      -- who supports on day c does so on every later one
+      backs-on : (a : ℕ) → c ≤ a → n ≤ backers t x lo a u j
+      unfolding backers
+      backs-on a h = let e = flat in let m = count-mono (backing t x lo c u) (backing t x lo a u) j (λ i l y. let b = backing-e c u i y in backing-i a u i (record { is-fresh = b .is-fresh; touch = b .touch; by = le-trans (b .by) h })) in omega arith
+
+      -- or its own value does, and the row does not count
+      pub seen-idle : {z n′ above′ more′ : ℕ} → fresh t lo j ≡ false → (z ≤ hi) ⊎ (z ≡ never) → Noting false z c n above more n′ above′ more′ → Seen t x lo hi c u (j + 1) n′ above′ more′
+      seen-idle f days (Noting.back h en ea em) = passes-as f (en ∙ tally-no n refl) ea em
+      seen-idle {z} {n′} {above′} {more′} f days (Noting.nearer h k en ea em) =
+          record {
+            counted = en ∙ passes f .counted;
+            rises = omega arith;
+            none-between = λ i l g y o. ⊎-elim (λ e. clash (subst (λ (a : ℕ). fresh t lo a ≡ true) e g) f) (λ b. earlier-rows (omega arith) i b g y o) (eq-or-lt-of-le (omega arith));
+            day = subst (λ (a : ℕ). (a ≤ hi) ⊎ (a ≡ never)) (sym ea) days;
+            few = let a = few-flat in let m = tally-no 0 (let w : false ≡ false = refl in w) in omega arith;
+            then = _⊎_.inr (subst (λ (a : ℕ). n′ + more′ ≤ backers t x lo a u (j + 1)) (sym ea) (let m = tally-no 0 (let w : false ≡ false = refl in w) in let o = backs-on z (omega arith) in let b = backers-grow z u j in omega arith));
+          }
+      seen-idle f days (Noting.level h k en ea em) = passes-as f en ea (em ∙ tally-no more refl)
+      seen-idle f days (Noting.farther h k en ea em) = passes-as f en ea em
 
       module _ {z : ℕ} (f : fresh t lo j ≡ true) (g : touches t j u ≡ true) (ez : z ≡ value t x j u) where
         -- from z on the row backs u
@@ -194,23 +217,21 @@ module _ (t : Table) (q : Query) (s hi lo : ℕ) (S : Setting t q s hi lo) (x : 
         backs-not : (a : ℕ) → a < z → backers t x lo a u (j + 1) ≡ backers t x lo a u j
         backs-not a h = ap (backers t x lo a u) (add-one j) ∙ backers-no a u j (not-backing a u j h ez)
 
-        -- who supports on day c does so on every later one
-        backs-on : (a : ℕ) → c ≤ a → n ≤ backers t x lo a u j
-        unfolding backers
-        backs-on a h = let e = flat in let m = count-mono (backing t x lo c u) (backing t x lo a u) j (λ i l y. let b = backing-e c u i y in backing-i a u i (record { is-fresh = b .is-fresh; touch = b .touch; by = le-trans (b .by) h })) in omega arith
-
         passed : {above′ : ℕ} → above′ ≤ above → above′ ≤ z → (i : ℕ) → i < j + 1 → fresh t lo i ≡ true → touches t i u ≡ true → dayOf t i ≤ hi → (value t x i u ≤ c) ⊎ (above′ ≤ value t x i u)
         passed {above′} le zl i l r y o = ⊎-elim (λ e. _⊎_.inr (subst (λ (a : ℕ). above′ ≤ value t x a u) (sym e) (let w = ez in omega arith))) (λ k. earlier-rows le i k r y o) (eq-or-lt-of-le (omega arith))
 
-        pub seen-note : {n′ above′ more′ : ℕ} → (z ≤ hi) ⊎ (z ≡ never) → Noting z c n above more n′ above′ more′ → Seen t x lo hi c u (j + 1) n′ above′ more′
+        one-more : (m : ℕ) → tally true m ≡ suc m
+        one-more m = tally-yes m refl
+
+        pub seen-note : {n′ above′ more′ : ℕ} → (z ≤ hi) ⊎ (z ≡ never) → Noting true z c n above more n′ above′ more′ → Seen t x lo hi c u (j + 1) n′ above′ more′
         seen-note {n′} {above′} {more′} days (Noting.back h en ea em) =
             record {
-              counted = let e = flat in let k = backs-from c h in omega arith;
+              counted = let e = flat in let k = backs-from c h in let v = one-more n in omega arith;
               rises = let r = W .rises in omega arith;
               none-between = λ i l k y o. ⊎-elim (λ e. _⊎_.inl (subst (λ (a : ℕ). value t x a u ≤ c) (sym e) (subst (λ (a : ℕ). a ≤ c) ez h))) (λ o′. earlier-rows (omega arith) i o′ k y o) (eq-or-lt-of-le (omega arith));
               day = subst (λ (a : ℕ). (a ≤ hi) ⊎ (a ≡ never)) (sym ea) (W .day);
-              few = let a = few-flat in omega arith;
-              then = ⊎-elim (λ y. _⊎_.inl (ea ∙ y)) (λ m. _⊎_.inr (subst (λ (a : ℕ). n′ + more′ ≤ backers t x lo a u (j + 1)) (sym ea) (let r = W .rises in let k = backs-from above (omega arith) in omega arith))) then-flat;
+              few = let a = few-flat in let v = one-more n in omega arith;
+              then = ⊎-elim (λ y. _⊎_.inl (ea ∙ y)) (λ m. _⊎_.inr (subst (λ (a : ℕ). n′ + more′ ≤ backers t x lo a u (j + 1)) (sym ea) (let r = W .rises in let k = backs-from above (omega arith) in let v = one-more n in omega arith))) then-flat;
             }
         seen-note {n′} {above′} {more′} days (Noting.nearer h k en ea em) =
             record {
@@ -218,8 +239,8 @@ module _ (t : Table) (q : Query) (s hi lo : ℕ) (S : Setting t q s hi lo) (x : 
               rises = omega arith;
               none-between = passed (omega arith) (omega arith);
               day = subst (λ (a : ℕ). (a ≤ hi) ⊎ (a ≡ never)) (sym ea) days;
-              few = let a = few-flat in omega arith;
-              then = _⊎_.inr (subst (λ (a : ℕ). n′ + more′ ≤ backers t x lo a u (j + 1)) (sym ea) (let m = backs-from z (le-refl z) in let o = backs-on z (omega arith) in omega arith));
+              few = let a = few-flat in let v = one-more 0 in omega arith;
+              then = _⊎_.inr (subst (λ (a : ℕ). n′ + more′ ≤ backers t x lo a u (j + 1)) (sym ea) (let m = backs-from z (le-refl z) in let o = backs-on z (omega arith) in let v = one-more 0 in omega arith));
             }
         seen-note {n′} {above′} {more′} days (Noting.level h k en ea em) =
             record {
@@ -227,8 +248,8 @@ module _ (t : Table) (q : Query) (s hi lo : ℕ) (S : Setting t q s hi lo) (x : 
               rises = omega arith;
               none-between = passed (omega arith) (omega arith);
               day = subst (λ (a : ℕ). (a ≤ hi) ⊎ (a ≡ never)) (sym ea) (W .day);
-              few = let a = few-flat in omega arith;
-              then = ⊎-elim (λ y. _⊎_.inl (ea ∙ y)) (λ o. _⊎_.inr (subst (λ (a : ℕ). n′ + more′ ≤ backers t x lo a u (j + 1)) (sym ea) (let m = backs-from above (omega arith) in omega arith))) then-flat;
+              few = let a = few-flat in let v = one-more more in omega arith;
+              then = ⊎-elim (λ y. _⊎_.inl (ea ∙ y)) (λ o. _⊎_.inr (subst (λ (a : ℕ). n′ + more′ ≤ backers t x lo a u (j + 1)) (sym ea) (let m = backs-from above (omega arith) in let v = one-more more in omega arith))) then-flat;
             }
         seen-note {n′} {above′} {more′} days (Noting.farther h k en ea em) =
             record {
@@ -338,6 +359,19 @@ module _ (t : Table) (q : Query) (s hi lo : ℕ) (S : Setting t q s hi lo) (x : 
   pub look-never : {c₀ c u m : ℕ} → Few c₀ c u → c₀ ≤ c → c ≡ never → m ≡ 1 → Looked t x s (q .k) hi c₀ u c m
   look-never F o e g = record { least = record { from = o; fewer = F; enough = _⊎_.inl e }; known = omega arith; enough = _⊎_.inl e }
 
+  -- the same in the words of the contracts
+  pub short-start : (c u : ℕ) → (c ≤ hi) ⊎ (c ≡ never) → Short t x s (q .k) hi c u c
+  short-start c u h = record { from = le-refl c; day = h; fewer = few-start c u }
+
+  pub short-next : {c₀ c u n above more : ℕ} → Short t x s (q .k) hi c₀ u c → Glanced t x lo hi c u (size t) (q .k) n above more → n < q .k → Short t x s (q .k) hi c₀ u above
+  short-next H G m = let L = look-next (H .fewer) G m in record { from = let a = L .1 in let b = H .from in omega arith; day = L .2; fewer = L .0 }
+
+  -- one walk, and it has enough on the day above
+  pub look-near : {c u n above more both m : ℕ} → Glanced t x lo hi c u (size t) (q .k) n above more → n < q .k → both ≡ n + more → Spared above both (q .k) m → (m ≡ 0 → ⊥) → Looked t x s (q .k) hi c u above m
+  look-near {c} {u} G few e (Spared.none h k) o = let L = look-next (few-start c u) G few in look-never (L .0) (let a = L .1 in omega arith) h k
+  look-near {c} {u} G few e (Spared.some h k i) o = look-then (few-start c u) (le-refl c) G few h (omega arith) (omega arith)
+  look-near G few e (Spared.few h) o = absurd (o h)
+
 -- ---- one row more, without a branch
 
 -- what a sum or a choice by a test gives
@@ -353,22 +387,26 @@ both {p} {q} h k = ap (λ (w : Bool). w && q) h ∙ k
 pub not-first : {p : Bool} (q : Bool) → p ≡ false → (p && q) ≡ false
 not-first q h = ap (λ (w : Bool). w && q) h
 
-not-second : {p q : Bool} → p ≡ true → q ≡ false → (p && q) ≡ false
+pub not-second : {p q : Bool} → p ≡ true → q ≡ false → (p && q) ≡ false
 not-second {p} {q} h k = ap (λ (w : Bool). w && q) h ∙ k
 
-pub noted : (z c n above more : ℕ) {a b e m : ℕ} → c < above → By (leb z c) 1 0 a → By (ltb c z && ltb z above) z above b → By (eqb z above) 1 0 e → By (ltb c z && ltb z above) 1 (more + e) m → Noting z c n above more (n + a) b m
-noted z c n above more {a} {b} {e} {m} up A B E M = ⊎-elim (λ g. late (ltb-true c z g) g) (λ g. soon (ltb-false c z g) g) (look (ltb c z))
-  where
-    soon : z ≤ c → ltb c z ≡ false → Noting z c n above more (n + a) b m
-    soon l g =
-        let none : e ≡ 0 = E .1 (⊎-elim (λ h. let k = eqb-true z above h in absurd (omega arith)) (λ h. h) (look (eqb z above))) in
-        Noting.back l (let h = A .0 (le-leb z c l) in omega arith) (B .1 (not-first (ltb z above) g)) (let k = M .1 (not-first (ltb z above) g) in omega arith)
+-- the sum with a bit that is 1 where y says so, if p holds
+pub bit-is : (p y : Bool) {a : ℕ} (n : ℕ) → p ≡ true → By (p && y) 1 0 a → n + a ≡ tally y n
+bit-is p y n h A = ⊎-elim (λ k. let e = A .0 (both h k) in let v = tally-yes n k in omega arith) (λ k. let e = A .1 (not-second h k) in let v = tally-no n k in omega arith) (look y)
 
-    late : c < z → ltb c z ≡ true → Noting z c n above more (n + a) b m
+pub noted : (y : Bool) (z c n above more : ℕ) {a b e i m : ℕ} → c < above → By (leb z c && y) 1 0 a → By (ltb c z && ltb z above) z above b → By y 1 0 i → By (eqb z above && y) 1 0 e → By (ltb c z && ltb z above) i (more + e) m → Noting y z c n above more (n + a) b m
+noted y z c n above more {a} {b} {e} {i} {m} up A B I E M = ⊎-elim (λ g. late (ltb-true c z g) g) (λ g. soon (ltb-false c z g) g) (look (ltb c z))
+  where
+    soon : z ≤ c → ltb c z ≡ false → Noting y z c n above more (n + a) b m
+    soon l g =
+        let none : e ≡ 0 = E .1 (not-first y (⊎-elim (λ h. let k = eqb-true z above h in absurd (omega arith)) (λ h. h) (look (eqb z above)))) in
+        Noting.back l (bit-is (leb z c) y n (le-leb z c l) A) (B .1 (not-first (ltb z above) g)) (let k = M .1 (not-first (ltb z above) g) in omega arith)
+
+    late : c < z → ltb c z ≡ true → Noting y z c n above more (n + a) b m
     late l g =
-        let none : a ≡ 0 = A .1 (⊎-elim (λ h. let k = leb-true z c h in absurd (omega arith)) (λ h. h) (look (leb z c))) in
-        ⊎-elim (λ h. Noting.nearer l (ltb-true z above h) (omega arith) (B .0 (both g h)) (M .0 (both g h)))
-        (λ h. ⊎-elim (λ k. Noting.level l (eqb-true z above k) (omega arith) (B .1 (not-second g h)) (let o = E .0 k in let i = M .1 (not-second g h) in omega arith)) (λ k. Noting.farther l (ltb-false z above h) (omega arith) (B .1 (not-second g h)) (let o = E .1 k in let i = M .1 (not-second g h) in omega arith)) (look (eqb z above)))
+        let none : a ≡ 0 = A .1 (not-first y (⊎-elim (λ h. let k = leb-true z c h in absurd (omega arith)) (λ h. h) (look (leb z c)))) in
+        ⊎-elim (λ h. Noting.nearer l (ltb-true z above h) (omega arith) (B .0 (both g h)) (let o = M .0 (both g h) in let v = bit-is true y 0 refl I in omega arith))
+        (λ h. ⊎-elim (λ k. Noting.level l (eqb-true z above k) (omega arith) (B .1 (not-second g h)) (M .1 (not-second g h) ∙ bit-is (eqb z above) y more k E)) (λ k. Noting.farther l (ltb-false z above h) (omega arith) (B .1 (not-second g h)) (let o = E .1 (not-first y k) in let i = M .1 (not-second g h) in omega arith)) (look (eqb z above)))
         (look (ltb z above))
 
 -- ---- a look at u, in the book
@@ -431,7 +469,7 @@ module _ (d f g links : List ℕ) (r : Season) (R : Open d f g links r) (xs : Li
             all : n ≡ backers tt (guess xs) (r .lo) c u (length d)
             all = seen-count tt (query (r .k)) (r .start) (r .end) (r .lo) (R .setting) (guess xs) (G .seen) j from gap (λ i a k. let e = day-is in let y = R .setting .rising j i a k in let z = o .0 in omega arith) (let b = below in omega arith)
 
-        glance-skip : {y : Bool} {n′ above′ more′ : ℕ} → y ≡ (leb (r .lo) j and leb (getD links (8192 + 2 * length d + j) 0) (r .lo)) → y ≡ false → Noting never c n above more n′ above′ more′ → Glance d f g links r xs u c (p + 1) n′ above′ more′
+        glance-skip : {y : Bool} {n′ above′ more′ : ℕ} → y ≡ (leb (r .lo) j and leb (getD links (8192 + 2 * length d + j) 0) (r .lo)) → y ≡ false → Noting true never c n above more n′ above′ more′ → Glance d f g links r xs u c (p + 1) n′ above′ more′
         glance-skip ey h N =
             record { b = j + 1; within = let b = below in omega arith; late = let b = glance-late in omega arith; reading = reading-next d f g links (R .sound) (R .shelves) small (G .reading) ee here ej; seen = seen-stale tt (query (r .k)) (r .start) (r .end) (r .lo) (R .setting) (guess xs) (G .seen) j from gap (sym (reading-fresh d f g links (R .sound) (R .shelves) small (G .reading) ee here ej (r .lo) ey) ∙ h) N }
 
@@ -445,7 +483,7 @@ module _ (d f g links : List ℕ) (r : Season) (R : Open d f g links r) (xs : Li
           pub glance-small : v < 4096
           glance-small = subst (λ (w : ℕ). w < 4096) (sym v-is) (other-small tt (query (r .k)) (r .start) (r .end) (r .lo) (R .setting) j u below touch)
 
-          glance-note : {y : Bool} {z n′ above′ more′ : ℕ} → y ≡ (leb (r .lo) j and leb (getD links (8192 + 2 * length d + j) 0) (r .lo)) → y ≡ true → day ≤ r .end → z ≡ max (getD xs v 0) day → Noting z c n above more n′ above′ more′ → Glance d f g links r xs u c (p + 1) n′ above′ more′
+          glance-note : {y : Bool} {z n′ above′ more′ : ℕ} → y ≡ (leb (r .lo) j and leb (getD links (8192 + 2 * length d + j) 0) (r .lo)) → y ≡ true → day ≤ r .end → z ≡ max (getD xs v 0) day → Noting true z c n above more n′ above′ more′ → Glance d f g links r xs u c (p + 1) n′ above′ more′
           unfolding value
           glance-note {y} {z} ey h l ez N =
               record { b = j + 1; within = let b = below in omega arith; late = let b = glance-late in omega arith; reading = reading-next d f g links (R .sound) (R .shelves) small (G .reading) ee here ej; seen = seen-note tt (query (r .k)) (r .start) (r .end) (r .lo) (R .setting) (guess xs) (G .seen) j from gap (sym (reading-fresh d f g links (R .sound) (R .shelves) small (G .reading) ee here ej (r .lo) ey) ∙ h) touch is-value in-range N }
@@ -456,6 +494,6 @@ module _ (d f g links : List ℕ) (r : Season) (R : Open d f g links r) (xs : Li
               in-range : (z ≤ r .end) ⊎ (z ≡ never)
               in-range = let o = R .setting .fits in ⊎-elim (λ k. _⊎_.inl (omega arith)) (λ k. _⊎_.inr (omega arith)) (D v glance-small)
 
-          pub glance-mark : {y : Bool} {z w n′ above′ more′ : ℕ} → y ≡ (leb (r .lo) j and leb (getD links (8192 + 2 * length d + j) 0) (r .lo)) → day ≤ r .end → z ≡ max (getD xs v 0) day → By y z never w → Noting w c n above more n′ above′ more′ → Glance d f g links r xs u c (p + 1) n′ above′ more′
+          pub glance-mark : {y : Bool} {z w n′ above′ more′ : ℕ} → y ≡ (leb (r .lo) j and leb (getD links (8192 + 2 * length d + j) 0) (r .lo)) → day ≤ r .end → z ≡ max (getD xs v 0) day → By y z never w → Noting true w c n above more n′ above′ more′ → Glance d f g links r xs u c (p + 1) n′ above′ more′
           glance-mark {y} {n′ = n′} {above′ = above′} {more′ = more′} ey l ez B N =
-              ⊎-elim (λ h. glance-note ey h l ez (subst (λ (i : ℕ). Noting i c n above more n′ above′ more′) (B .0 h) N)) (λ h. glance-skip ey h (subst (λ (i : ℕ). Noting i c n above more n′ above′ more′) (B .1 h) N)) (look y)
+              ⊎-elim (λ h. glance-note ey h l ez (subst (λ (i : ℕ). Noting true i c n above more n′ above′ more′) (B .0 h) N)) (λ h. glance-skip ey h (subst (λ (i : ℕ). Noting true i c n above more n′ above′ more′) (B .1 h) N)) (look y)

@@ -72,6 +72,11 @@ unfolding joins
 joins-i t j u v (_⊎_.inl e) = or-l (eqb (firstOf t j) u and eqb (secondOf t j) v) (eqb (firstOf t j) v and eqb (secondOf t j) u) (and-i (eq-eqb (firstOf t j) u (e .0)) (eq-eqb (secondOf t j) v (e .1)))
 joins-i t j u v (_⊎_.inr e) = or-r (eqb (firstOf t j) u and eqb (secondOf t j) v) (eqb (firstOf t j) v and eqb (secondOf t j) u) (and-i (eq-eqb (firstOf t j) v (e .0)) (eq-eqb (secondOf t j) u (e .1)))
 
+pub other-apart : (t : Table) (j u : ℕ) → firstOf t j < secondOf t j → touches t j u ≡ true → otherOf t j u ≡ u → ⊥
+other-apart t j u apart h e =
+    ⊎-elim (λ o. let v : otherOf t j u ≡ secondOf t j = subst (λ (c : ℕ). otherOf t j c ≡ secondOf t j) o (other-first t j) in omega arith)
+    (λ o. let v : otherOf t j u ≡ firstOf t j = subst (λ (c : ℕ). otherOf t j c ≡ firstOf t j) o (other-second t j apart) in omega arith) (touch-cases t j u h)
+
 pub joins-swap : (t : Table) (j u v : ℕ) → joins t j u v ≡ true → joins t j v u ≡ true
 joins-swap t j u v h = joins-i t j v u (⊎-elim _⊎_.inr _⊎_.inl (joins-cases t j u v h))
 

@@ -1,7 +1,9 @@
 -- Why settling is right (src/settle.rt), from the looks (LookLaws) and the losses (LossLaws).
 --     rise-lower, rise-own, rise-other, rise-keeps     u rises: no time passes the core times, u keeps its supporters, another loses u at most
 --     account-same, account-rise                       one account settles
+--     behind-rising, same-short, same-rising, same-covered, same-counted     what is written behind the queue changes nothing
 --     account-days, account-now, account-never, account-every, account-raised        what the loop over its rows asks of it
+--     near-day, near-every, near-short, near-same, near-never, near-asks, near-counts, near-small, near-rise     the common way: one walk is enough
 --     split-rises, core-days, settle-start, settle-end from the core times at s, with those waiting who lost a supporter, to the core times at the next start, with nobody waiting
 --     core-never                                       who has no core time keeps none
 --     spare-ones, all-risen                            after a peel nobody is known to have a supporter to spare, and any time may be another
@@ -25,8 +27,8 @@ use Rattle.rings.specs.CoreTimes.{never, accountTime}
 use Rattle.rings.specs.Inner.Links.{otherOf, fresh, Every, Covered}
 use Rattle.rings.specs.Inner.Support.{supports, supporters}
 use Rattle.rings.specs.Inner.Peeling.{Setting, season, query, guess, Place, Split, CoreTimesAre}
-use Rattle.rings.specs.Inner.Settling.{backing, backers, Days, Settling, Least, Looked, Lessened, Leaving, Queued, Waiting, Risen, Rising, Spare}
-use Rattle.rings.specs.Inner.Counting.{timeBy, Histogram, Raised}
+use Rattle.rings.specs.Inner.Settling.{backing, backers, moving, Days, Settling, Glanced, Behind, Gathered, Short, Spared, Least, Looked, Fewer, Lessened, Leaving, Queued, Waiting, Risen, Rising, Spare}
+use Rattle.rings.specs.Inner.Counting.{timeBy, Histogram, Moving, Raised}
 use Rattle.rings.specs.declared.Query.{Query}
 use Rattle.rings.proofs.WordLaws.{look, clash, count-mono, tally-yes, tally-no, same-or}
 use Rattle.rings.proofs.RingLaws.{joins-touch, joins-cases, met-e}
@@ -35,9 +37,12 @@ use Rattle.rings.proofs.FixpointLaws.{supports-e, supports-i, Lower, Cl
 use Rattle.rings.proofs.CoreTimeLaws.{account-time}
 use Rattle.rings.proofs.CoreTimeLaws as core-time
 use Rattle.rings.proofs.FallLaws.{guess-at, guess-far, touch-small}
-use Rattle.rings.proofs.LookLaws.{backing-e, backing-i, backers-are}
+use Rattle.rings.proofs.LookLaws.{backing-e, backing-i, backers-are, few-start, look-next, look-found, look-near, short-start, short-next}
 use Rattle.rings.proofs.LossLaws.{at-place, in-list}
 use Rattle.rings.proofs.ShelfLaws.{every-rise}
+use Rattle.rings.proofs.CountingLaws.{Moves, moving-asks, moving-hist}
+use Rattle.rings.proofs.ShiftLaws.{rise-moves}
+use Rattle.rings.proofs.GatherLaws.{gathered-lessened}
 
 -- ---- counts
 
@@ -252,6 +257,45 @@ module _ (t : Table) (q : Query) (s hi lo : ℕ) (S : Setting t q s hi lo) {xs s
         later : {w : ℕ} → Place ws 0 r w → Place ws″ 0 (r + 1) w
         later p = let b = p .below in record { place = p .place; from = p .from; below = omega arith; is = before (p .place) b ∙ p .is }
 
+-- what is written behind the queue changes nothing
+pub behind-rising : {t : Table} {q : Query} {hi s : ℕ} {xs₀ xs sp ws ws′ : List ℕ} {head tail m : ℕ} → Behind tail ws ws′ → Rising t q hi s xs₀ xs sp ws head tail m → Rising t q hi s xs₀ xs sp ws′ head tail m
+behind-rising {ws = ws} {ws′ = ws′} {tail = tail} B Z =
+    let o = Z .waiting .ordered in let b = Z .behind in
+    record {
+      settling = Z .settling;
+      waiting =
+          record {
+            long = B .long;
+            ordered = o;
+            waits = λ u l z. stands (Z .waiting .waits u l z);
+            small = λ i a c. subst (λ (n : ℕ). n < 4096) (sym (B .front i c)) (Z .waiting .small i a c);
+          };
+      behind = b;
+      risen =
+          record {
+            long = B .long;
+            within = Z .risen .within;
+            small = λ i a. subst (λ (n : ℕ). n < 4096) (sym (B .front i (omega arith))) (Z .risen .small i a);
+            listed = λ u l n. let P = Z .risen .listed u l n in let c = P .below in record { place = P .place; from = P .from; below = c; is = B .front (P .place) (omega arith) ∙ P .is };
+          };
+    }
+  where
+    stands : {head u : ℕ} → Place ws head tail u → Place ws′ head tail u
+    stands P = record { place = P .place; from = P .from; below = P .below; is = B .front (P .place) (P .below) ∙ P .is }
+
+-- and equal lists are as good
+pub same-short : (t : Table) (s k hi : ℕ) {xs xs′ : List ℕ} {u d : ℕ} → xs′ ≡ xs → Short t (guess xs) s k hi (getD xs u 0) u d → Short t (guess xs′) s k hi (getD xs′ u 0) u d
+same-short t s k hi {u = u} {d = d} e = subst (λ (ys : List ℕ). Short t (guess ys) s k hi (getD ys u 0) u d) (sym e)
+
+pub same-rising : {t : Table} {q : Query} {hi s : ℕ} {xs₀ xs xs′ sp sp′ ws ws′ : List ℕ} {head tail m : ℕ} → xs′ ≡ xs → sp′ ≡ sp → Behind tail ws ws′ → Rising t q hi s xs₀ xs sp ws head tail m → Rising t q hi s xs₀ xs′ sp′ ws′ head tail m
+same-rising {t} {q} {hi} {s} {xs₀} {xs} {xs′} {sp} {sp′} {ws} {ws′} {head} {tail} {m} e h B Z = subst (λ (ys : List ℕ). Rising t q hi s xs₀ ys sp′ ws′ head tail m) (sym e) (subst (λ (ys : List ℕ). Rising t q hi s xs₀ xs ys ws′ head tail m) (sym h) (behind-rising B Z))
+
+pub same-covered : {t : Table} {lo : ℕ} {xs xs′ sc : List ℕ} → xs′ ≡ xs → Covered t (guess xs) lo sc → Covered t (guess xs′) lo sc
+same-covered {t} {lo} {sc = sc} e = subst (λ (ys : List ℕ). Covered t (guess ys) lo sc) (sym e)
+
+pub same-counted : (t : Table) (s hi : ℕ) {n : ℕ} {xs xs′ counts counts′ : List ℕ} → xs′ ≡ xs → counts′ ≡ counts → Histogram (timeBy t (guess xs) s hi) n counts → Histogram (timeBy t (guess xs′) s hi) n counts′
+same-counted t s hi {n} {xs} {xs′} {counts} {counts′} e h T = subst (λ (ys : List ℕ). Histogram (timeBy t (guess ys) s hi) n counts′) (sym e) (subst (Histogram (timeBy t (guess xs) s hi) n) (sym h) T)
+
 -- what the loop over its rows asks of an account that rose
 module _ (xs : List ℕ) {t : Table} {k s hi u y m : ℕ} (fits : hi < never) (long : length xs ≡ 4096) (small : u < 4096) (D : Days hi xs) (K : Looked t (guess xs) s k hi (getD xs u 0) u y m) where
   pub account-days : Days hi (set xs u y)
@@ -281,6 +325,71 @@ module _ (xs : List ℕ) {t : Table} {k s hi u y m : ℕ} (fits : hi < never) (l
       let a = K .least .from in
       let up : getD xs u 0 < y = ⊎-elim (λ e. absurd (n (sym e))) (λ e. e) (eq-or-lt-of-le a) in
       record { was = xs; long = long; then = refl; from = refl; up = up; day = ⊎-elim (λ e. e) (λ e. ⊎-elim (λ o. absurd (omega arith)) (λ o. let b = o .0 in absurd (omega arith)) (K .least .enough)) (D u small); top = top; counted = T }
+
+-- ---- the common way: one walk is enough
+
+module _ (d f g : List ℕ) (k s te lo : ℕ) (S : Setting (tableOf d f g) (query k) s te lo) (xs : List ℕ) (len : length xs ≡ 4096) (D : Days te xs) {u : ℕ} (small : u < 4096) (timed : getD xs u 0 ≡ never → ⊥) where
+  abbrev tn : Table
+  tn = tableOf d f g
+
+  abbrev old : ℕ
+  old = getD xs u 0
+
+  pub near-day : old ≤ te
+  near-day = ⊎-elim (λ y. y) (λ y. absurd (timed y)) (D u small)
+
+  pub near-every : {sc : List ℕ} → Covered tn (guess xs) lo sc → Every tn (guess xs) lo u sc
+  near-every C = C .rows u small (λ e. timed (sym (guess-at xs u len small) ∙ e))
+
+  near-here : Short tn (guess xs) s k te old u old
+  near-here = short-start tn (query k) s te lo S (guess xs) old u (D u small)
+
+  front-stays : {ws₀ ws : List ℕ} {head tail : ℕ} → Behind tail ws₀ ws → getD ws₀ head 0 ≡ u → head < tail → getD ws head 0 ≡ u
+  front-stays {head = head} B e h = B .front head h ∙ e
+
+  module _ {n above more : ℕ} (A : Glanced tn (guess xs) lo te old u (length d) k n above more) where
+    -- u has enough still
+    pub near-same : {xs₀ sp ws₀ ws : List ℕ} {head tail r : ℕ} → k ≤ n → Behind tail ws₀ ws → Rising tn (query k) te s xs₀ xs sp ws₀ head tail r → getD ws₀ head 0 ≡ u → head < tail → tail ≤ 4352 → Rising tn (query k) te s xs₀ xs (set sp u (n + 1 - k)) ws (head + 1) tail r
+    near-same {ws₀ = ws₀} {ws = ws} {head = head} h B Z front here room =
+        let Y = behind-rising B Z in
+        account-same tn (query k) s te lo S (Y .settling) small (look-found tn (query k) s te lo S (guess xs) (few-start tn (query k) s te lo S (guess xs) old u) (le-refl old) A h near-day refl) (Y .waiting) (front-stays B front here) (Y .behind) (Y .risen) here room refl
+
+    -- it has too few on the days before the day above
+    pub near-short : n < k → Short tn (guess xs) s k te old u above
+    near-short few = short-next tn (query k) s te lo S (guess xs) near-here A few
+
+    -- or it has enough there
+    module _ {both m moved tail end : ℕ} {ws : List ℕ} (few : n < k) (eb : both ≡ n + more) (P : Spared above both k m) (some : m ≡ 0 → ⊥) (G : Gathered tn (guess xs) lo te old u (length d) above moved tail end ws) where
+      near-looked : Looked tn (guess xs) s k te old u above m
+      near-looked = look-near tn (query k) s te lo S (guess xs) A few eb P some
+
+      near-step : (old < above) × ((above ≤ te) ⊎ (above ≡ never))
+      near-step = let L = look-next tn (query k) s te lo S (guess xs) (few-start tn (query k) s te lo S (guess xs) old u) A few in (L .1, L .2)
+
+      pub near-never : (v : ℕ) → guess xs v ≡ never → guess (set xs u above) v ≡ never
+      near-never = account-never xs (S .fits) len small D near-looked
+
+      near-moves : Moves (timeBy tn (guess xs) s te) (timeBy tn (guess (set xs u above)) s te) (moving tn (guess xs) lo old u) old above (length d)
+      near-moves = rise-moves tn (query k) s te lo S u old above (set xs u above) small xs len refl refl (near-step .0) near-day G
+
+      pub near-asks : {counts : List ℕ} → length d ≤ 16384 → te ≤ 1024 → Histogram (timeBy tn (guess xs) s te) (length d) counts → (length counts ≡ 1025) × (old < 1025) × (moved ≤ getD counts old 0) × ((above ≡ never → ⊥) → (above < 1025) × (getD counts above 0 + moved < 65536))
+      near-asks most top T = moving-asks (moving tn (guess xs) lo old u) (timeBy tn (guess xs) s te) (timeBy tn (guess (set xs u above)) s te) old above near-moves T (G .moves) most (let h = near-day in omega arith) (⊎-elim (λ y. _⊎_.inl (omega arith)) _⊎_.inr (near-step .1))
+
+      pub near-counts : {counts counts′ : List ℕ} → Histogram (timeBy tn (guess xs) s te) (length d) counts → Moving moved old above counts counts′ → Histogram (timeBy tn (guess (set xs u above)) s te) (length d) counts′
+      near-counts T M = moving-hist (moving tn (guess xs) lo old u) (timeBy tn (guess xs) s te) (timeBy tn (guess (set xs u above)) s te) old above near-moves T (G .moves) M
+
+      -- what is listed behind the queue stands there still when u is listed as risen
+      near-list : {ws₁ : List ℕ} {r : ℕ} → ws₁ ≡ set ws r u → r < tail → (i : ℕ) → tail ≤ i → getD ws₁ i 0 ≡ getD ws i 0
+      near-list {r = r} e h i a = in-list i e ∙ getD-set-other ws r i u 0 (λ o. omega arith)
+
+      pub near-small : {ws₁ : List ℕ} {r : ℕ} → ws₁ ≡ set ws r u → r < tail → (i : ℕ) → tail ≤ i → i < end → getD ws₁ i 0 < 4096
+      near-small e h i a b = subst (λ (c : ℕ). c < 4096) (sym (near-list e h i a)) (G .small i a b)
+
+      pub near-rise : {xs₀ sp sp″ ws₀ ws₁ ws″ : List ℕ} {head r e : ℕ} → Behind tail ws₀ ws → Rising tn (query k) te s xs₀ xs sp ws₀ head tail r → getD ws₀ head 0 ≡ u → head < tail → tail ≤ 4352 → ws₁ ≡ set ws r u → Queued tail (set sp u m) ws₁ e sp″ ws″ → Fewer tail end ws₁ (set sp u m) sp″ → e ≤ 4352 → Rising tn (query k) te s xs₀ (set xs u above) sp″ ws″ (head + 1) e (r + 1)
+      near-rise B Z front here room ew Q F top =
+          let Y = behind-rising B Z in
+          account-rise tn (query k) s te lo S (Y .settling) small near-looked (Y .waiting) (front-stays B front here) (Y .behind) (Y .risen) here room ew
+          (gathered-lessened tn (query k) s te lo S xs len D (let h = S .fits in ⊎-elim (λ y. omega arith) (λ y. omega arith) (near-step .1)) G (near-list ew (let h = Y .behind in omega arith)) F) Q top
 
 -- ---- the first and the last of a start
 

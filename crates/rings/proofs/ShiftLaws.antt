@@ -3,6 +3,7 @@
 --     shift-start, shift-asks, shift-row, shift-all             the rows of u, one after the other: each keeps its time or moves to the new one
 --     Shift, rise-start, rise-asks, rise-row, rise-all          the same in the state of the loop
 --     drop-from, drop-start, drop-asks, drop-next, drop-end     the rows of the first day leave
+--     shift-moves, rise-moves                                   all of them at once, where none comes in between
 -- Assumes nothing.
 use Prim.Native.Nat.{ℕ, max, _+_, _-_, _≤_, _<_}
 use native.Mathlib.Nat.{le-refl, eq-or-lt-of-le}
@@ -21,6 +22,7 @@ use Rattle.rings.specs.Ring.{touches}
 use Rattle.rings.specs.CoreTimes.{never, rowTime}
 use Rattle.rings.specs.Inner.Links.{otherOf}
 use Rattle.rings.specs.Inner.Peeling.{Setting, query, season, guess, Split, CoreTimesAre}
+use Rattle.rings.specs.Inner.Settling.{value, moving, Gathered}
 use Rattle.rings.specs.Inner.Counting.{timeBy, Histogram, Owing, Removing, Taking, Raised}
 use Rattle.rings.specs.declared.Query.{Query}
 use Rattle.rings.proofs.WordLaws.{look, clash, same-or}
@@ -28,7 +30,8 @@ use Rattle.rings.proofs.RingLaws.{touch-cases, touch-first, touch-secon
 use Rattle.rings.proofs.PairLaws.{other-first, other-second}
 use Rattle.rings.proofs.CoreTimeLaws.{row-before}
 use Rattle.rings.proofs.FallLaws.{guess-at}
-use Rattle.rings.proofs.CountingLaws.{by-in, by-out, by-core, by-later, is-time, hist-same, hist-has, hist-drop, owing-start, owing-same, owing-has, owing-move}
+use Rattle.rings.proofs.GatherLaws.{moving-e, moving-i}
+use Rattle.rings.proofs.CountingLaws.{Moves, by-in, by-out, by-core, by-later, is-time, hist-same, hist-has, hist-drop, owing-start, owing-same, owing-has, owing-move}
 
 unfoldable pub mixed : (ℕ → ℕ) → (ℕ → ℕ) → ℕ → ℕ → ℕ
 mixed g g′ b j = elim (ltb j b) [ true ↦ g′ j | false ↦ g j ]
@@ -64,6 +67,7 @@ module _ (t : Table) (q : Query) (s hi lo : ℕ) (S : Setting t q s hi lo) (x x�
       ∙ ap (λ (c : ℕ). elim (inWindow s hi (dayOf t j)) [ true ↦ max (max (x′ (firstOf t j)) c) (dayOf t j) | false ↦ never ]) b
 
   record Mine (j : ℕ) : Type 0 where
+    other : x′ (otherOf t j u) ≡ x (otherOf t j u)
     first : before j ≡ max (max old (x′ (otherOf t j u))) (dayOf t j)
     then : after j ≡ max (max new (x′ (otherOf t j u))) (dayOf t j)
 
@@ -85,7 +89,7 @@ module _ (t : Table) (q : Query) (s hi lo : ℕ) (S : Setting t q s hi lo) (x x�
           let b : x′ (firstOf t j) ≡ new = ap x′ e ∙ now in
           let c : x′ (otherOf t j u) ≡ x′ (secondOf t j) = ap x′ v in
           let m = by-in t x s hi j is-in o in let n = by-in t x′ s hi j is-in o in
-          record { first = m ∙ omega arith; then = n ∙ omega arith }
+          record { other = ap x′ v ∙ (else (secondOf t j) (λ y. let p = apart in omega arith) ∙ ap x (sym v)); first = m ∙ omega arith; then = n ∙ omega arith }
 
       two : secondOf t j ≡ u → Mine j
       two e =
@@ -95,7 +99,7 @@ module _ (t : Table) (q : Query) (s hi lo : ℕ) (S : Setting t q s hi lo) (x x�
           let b : x′ (secondOf t j) ≡ new = ap x′ e ∙ now in
           let c : x′ (otherOf t j u) ≡ x′ (firstOf t j) = ap x′ v in
           let m = by-in t x s hi j is-in o in let n = by-in t x′ s hi j is-in o in
-          record { first = m ∙ omega arith; then = n ∙ omega arith }
+          record { other = ap x′ v ∙ (else (firstOf t j) (λ y. let p = apart in omega arith) ∙ ap x (sym v)); first = m ∙ omega arith; then = n ∙ omega arith }
 
   -- a row that has left
   left : {j : ℕ} → j < lo → before j ≡ after j
@@ -110,6 +114,22 @@ module _ (t : Table) (q : Query) (s hi lo : ℕ) (S : Setting t q s hi lo) (x x�
 
       inside : lo ≤ j → dayOf t j ≤ hi → (new ≤ x′ (otherOf t j u)) ⊎ ((new ≤ dayOf t j) ⊎ (hi < dayOf t j)) → before j ≡ after j
       inside m h y = let M = mine j l k m h in let a = M .first in let b = M .then in ⊎-elim (λ c. omega arith) (λ c. ⊎-elim (λ d. omega arith) (λ d. absurd (omega arith)) c) y
+
+  -- where no row of u comes in between the old time and the new one: those that come in by the old one go from it to the new one, and the others keep their times
+  pub shift-moves : old ≤ hi → ((j : ℕ) → lo ≤ j → j < size t → touches t j u ≡ true → dayOf t j ≤ hi → (value t x j u ≤ old) ⊎ (new ≤ value t x j u)) → Moves before after (moving t x lo old u) old new (size t)
+  unfolding value
+  shift-moves top between j l = (
+    λ h. let B = moving-e t x lo hi old u j h in let b = B .by in let M = mine j l (B .touch) (B .from) (omega arith) in let o = M .other in let m = M .first in let n = M .then in (omega arith, omega arith),
+    λ h. sym (⊎-elim (λ k. ⊎-elim (λ y. left (ltb-true j lo y)) (λ y. ⊎-elim (λ z. behind (ltb-true hi (dayOf t j) z)) (λ z. inside k (ltb-false j lo y) (ltb-false hi (dayOf t j) z) h) (look (ltb hi (dayOf t j)))) (look (ltb j lo))) (λ k. not-mine j k) (look (touches t j u))),
+  )
+    where
+      behind : hi < dayOf t j → before j ≡ after j
+      behind h = by-out t x s hi j (_⊎_.inr h) ∙ sym (by-out t x′ s hi j (_⊎_.inr h))
+
+      inside : touches t j u ≡ true → lo ≤ j → dayOf t j ≤ hi → moving t x lo old u j ≡ false → before j ≡ after j
+      inside k y z h =
+          ⊎-elim (λ w. clash (moving-i t x lo hi old u j (record { from = y; touch = k; by = w })) h)
+          (λ w. let M = mine j l k y z in let o = M .other in let m = M .first in let n = M .then in omega arith) (between j y l k z)
 
   -- the rows of u below b have been passed, and m of them moved
   abbrev Shifting : ℕ → ℕ → List ℕ → Type 0
@@ -186,6 +206,9 @@ module _ (t : Table) (q : Query) (s hi lo : ℕ) (S : Setting t q s hi lo) (u ol
     else-is : (v : ℕ) → (v ≡ u → ⊥) → guess xs v ≡ guess was v
     unfolding guess
     else-is v n = ap (λ (ys : List ℕ). getD ys v never) e ∙ getD-set-other was u v new never n
+
+  pub rise-moves : (was : List ℕ) {moved tail end : ℕ} {ws : List ℕ} → length was ≡ 4096 → xs ≡ set was u new → old ≡ getD was u 0 → old < new → old ≤ hi → Gathered t (guess was) lo hi old u (size t) new moved tail end ws → Moves (timeBy t (guess was) s hi) (timeBy t (guess xs) s hi) (moving t (guess was) lo old u) old new (size t)
+  rise-moves was l e o up top G = shift-moves t q s hi lo S (guess was) (guess xs) u old new (was-is was l e o) (now-is was l e o) (else-is was l e o) up top (G .apart)
 
   pub rise-start : {counts : List ℕ} → Raised t s hi u old new xs counts → Shift t s hi u old new xs lo 0 counts
   rise-start R =

@@ -6,7 +6,7 @@ ghost use lib.ListN.{length, getD};
 ghost use Rattle.rings.specs.CoreTimes.{never};
 ghost use Rattle.rings.specs.Table.{tableOf};
 ghost use Rattle.rings.specs.Inner.Peeling.{query, season, guess, Framed, Span, Split, CoreTimesAre};
-ghost use Rattle.rings.specs.Inner.Counting.{timeBy, Histogram, Timed, Adding, Removing, Taking};
+ghost use Rattle.rings.specs.Inner.Counting.{timeBy, Histogram, Timed, Adding, Removing, Taking, Moving};
 use crate::choice::one;
 use crate::choice::pick;
 use crate::links::clear;
@@ -60,6 +60,19 @@ pub fn pay_counts(counting: bool, counts: &mut [u16], time: u16, m: u16)
         return;
     }
     add_count(counts, time, m);
+}
+
+// Where days are counted: m rows go from one day to another time.
+pub fn move_counts(counting: bool, counts: &mut [u16], old: u16, new: u16, m: u16)
+    requires { ⌜ (counting ≡ true → (length (now counts) ≡ 1025) × (old < 1025) × (m ≤ getD (now counts) old 0) × ((new ≡ never → ⊥) → (new < 1025) × (getD (now counts) new 0 + m < 65536))) ⌝ }
+    ensures { λ _. ⌜ (counting ≡ true → Moving m old new (now (counts .entry)) (now (counts .exit))) ⌝ }
+{
+    if !counting {
+        return;
+    }
+    let e = wide(old);
+    counts[e] = counts[e] - m;
+    add_count(counts, new, m);
 }
 
 // The core times at s of all rows, from nothing.

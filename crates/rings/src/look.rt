@@ -8,11 +8,13 @@ ghost use Rattle.rings.specs.CoreTimes.{never};
 ghost use Rattle.rings.specs.Inner.Sound.{Sound};
 ghost use Rattle.rings.specs.Inner.Peeling.{guess, season, Open};
 ghost use Rattle.rings.specs.Inner.Links.{Shelves, Reading, Every};
-ghost use Rattle.rings.specs.Inner.Settling.{Days, Over, Noting, Glanced, Looked};
+ghost use Rattle.rings.specs.Inner.Settling.{Days, Over, Noting, Glanced, Behind, Gathered, Short, Spared, Looked};
 use crate::choice::one;
 use crate::choice::pick;
 use crate::links::entry;
 use crate::links::other;
+use crate::links::put;
+use crate::links::wide;
 use crate::peel::is_first;
 use crate::times::greater;
 
@@ -29,6 +31,16 @@ struct Found {
     above: u16,
     more: u16,
     walked: usize,
+}
+
+// The same with what a rise to the day above needs: how many rows of the account move with it, and where the list of those who lose it ends.
+pub struct Harvest {
+    pub count: u16,
+    pub above: u16,
+    pub more: u16,
+    pub moved: u16,
+    pub end: usize,
+    pub walked: usize,
 }
 
 // What a look finds: the account's time, 0 where it gave up; its spare supporters, counted from 1; the rows that it passed.
@@ -57,18 +69,18 @@ fn is_over(day: u16, c: u16, stop: u16, above: u16, k: u16, count: u16) -> bool
     false
 }
 
-// One row more, which supports from day z on; never says that it does not. The day above lies after c. Sums and choices and no branch: which way a row goes no processor foresees.
-fn note(z: u16, c: u16, count: u16, above: u16, more: u16) -> Noted
+// One row more, which comes in on day z, and counts if it is the first of its pair. The day above lies after c. Sums and choices and no branch: which way a row goes no processor foresees.
+fn note(z: u16, fresh: bool, c: u16, count: u16, above: u16, more: u16) -> Noted
     requires { ⌜ (count < 16384) × (more < 16384) × (c < above) ⌝ }
-    ensures { λ r. ⌜ Noting z c count above more (r .count) (r .above) (r .more) ⌝ }
+    ensures { λ r. ⌜ Noting fresh z c count above more (r .count) (r .above) (r .more) ⌝ }
 {
     let within = z <= c;
     let nearer = (c < z) & (z < above);
     let level = z == above;
     Noted {
-        count: count + one(within),
+        count: count + one(within & fresh),
         above: pick(nearer, z, above),
-        more: pick(nearer, 1, more + one(level)),
+        more: pick(nearer, one(fresh), more + one(level & fresh)),
     }
 }
 
@@ -114,7 +126,7 @@ fn look_at(
         let b = entry(second, j);
         let v = other(a, b, u);
         let z = greater(times[v], day);
-        let seen = note(pick(fresh, z, 65535), c, count, above, more);
+        let seen = note(pick(fresh, z, 65535), true, c, count, above, more);
         count = seen.count;
         above = seen.above;
         more = seen.more;
@@ -127,7 +139,91 @@ fn look_at(
     }
 }
 
-// The first day from the time of u on with k supporters, or never. It gives up when it has passed more rows than the budget allows.
+// The same walk on the time of u, for a rise from there to the day above. All rows move that day here, first of their pairs or not: so those that move with u are those that come in by c, and who loses it are those of them who have the time c. These are listed behind the queue, where there is room for a place for each row: each is written, and the end moves on behind those who stay, without a branch.
+pub fn gather(
+    days: &[u16],
+    first: &[u16],
+    second: &[u16],
+    links: &[u16],
+    k: u16,
+    start: u16,
+    stop: u16,
+    lo: usize,
+    times: &[u16],
+    u: usize,
+    from: usize,
+    c: u16,
+    tail: usize,
+    queue: &mut [u16],
+) -> Harvest
+    requires { ⌜ Open (now days) (now first) (now second) (now links) (season k start stop lo) ⌝ }
+    requires { ⌜ (u < 4096) × (length (now times) ≡ 4096) × Days stop (now times) × (c ≤ stop) × Reading (now links) u lo from × Every (tableOf (now days) (now first) (now second)) (guess (now times)) lo u (now links) ⌝ }
+    requires { ⌜ (length (now queue) ≡ 4352) × (tail + getD (now links) u 0 ≤ from + 4352) ⌝ }
+    ensures { λ r. ⌜ Glanced (tableOf (now (days .entry)) (now (first .entry)) (now (second .entry))) (guess (now (times .entry))) lo stop c u (length (now (days .entry))) k (r .count) (r .above) (r .more) × (r .walked ≤ 32768) × (r .count + r .more ≤ 16384) × (r .end ≤ 4352) ⌝ }
+    ensures { λ r. ⌜ (r .count < k → Gathered (tableOf (now (days .entry)) (now (first .entry)) (now (second .entry))) (guess (now (times .entry))) lo stop c u (length (now (days .entry))) (r .above) (r .moved) tail (r .end) (now (queue .exit))) × Behind tail (now (queue .entry)) (now (queue .exit)) ⌝ }
+{
+    let n = days.len();
+    let last = entry(links, u);
+    let mut p = from;
+    let mut count = 0;
+    let mut above = 65535;
+    let mut more = 0;
+    let mut moved = 0;
+    let mut end = tail;
+    while p < last {
+        let j = entry(links, 8192 + p);
+        let day = days[j];
+        if is_over(day, c, stop, above, k, count) {
+            return Harvest {
+                count: count,
+                above: above,
+                more: more,
+                moved: moved,
+                end: end,
+                walked: p - from,
+            };
+        }
+        p += 1;
+        let fresh = is_first(links, n, lo, j);
+        let a = entry(first, j);
+        let b = entry(second, j);
+        let v = other(a, b, u);
+        let x = times[v];
+        let z = greater(x, day);
+        let seen = note(z, fresh, c, count, above, more);
+        count = seen.count;
+        above = seen.above;
+        more = seen.more;
+        let within = z <= c;
+        moved = moved + one(within);
+        put(queue, end, v);
+        end += wide(one(within & fresh & (x == c)));
+    }
+    Harvest {
+        count: count,
+        above: above,
+        more: more,
+        moved: moved,
+        end: end,
+        walked: p - from,
+    }
+}
+
+// What an account has to spare on the day above, counted from 1; 0 where those who support it then are too few. Never asks for none.
+pub fn spare_above(above: u16, both: u16, k: u16) -> u16
+    requires { ⌜ both ≤ 16384 ⌝ }
+    ensures { λ r. ⌜ Spared above both k r ⌝ }
+{
+    if above == 65535 {
+        return 1;
+    }
+    if both < k {
+        return 0;
+    }
+    both + 1 - k
+}
+
+// The first day from the time of u on with k supporters, or never, where it is known that no day before this one has them. It gives up when it has passed more rows than the budget allows.
 pub fn look(
     days: &[u16],
     first: &[u16],
@@ -140,14 +236,16 @@ pub fn look(
     times: &[u16],
     u: usize,
     from: usize,
+    day: u16,
     budget: usize,
 ) -> View
     requires { ⌜ Open (now days) (now first) (now second) (now links) (season k start stop lo) ⌝ }
     requires { ⌜ (u < 4096) × (length (now times) ≡ 4096) × Days stop (now times) × (budget ≤ 65536) × Reading (now links) u lo from × ((getD (now times) u 0 ≡ never → ⊥) → Every (tableOf (now days) (now first) (now second)) (guess (now times)) lo u (now links)) ⌝ }
+    requires { ⌜ Short (tableOf (now days) (now first) (now second)) (guess (now times)) start k stop (getD (now times) u 0) u day ⌝ }
     ensures { λ r. ⌜ ((r .time ≡ 0 → ⊥) → Looked (tableOf (now (days .entry)) (now (first .entry)) (now (second .entry))) (guess (now (times .entry))) start k stop (getD (now (times .entry)) u 0) u (r .time) (r .spare)) × (r .walked ≤ 98304) ⌝ }
 {
     let mut walked: usize = 0;
-    let mut c = times[u];
+    let mut c = day;
     while c < 65535 {
         if budget < walked {
             return View {

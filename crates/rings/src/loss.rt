@@ -2,14 +2,14 @@
 // spare: of each account one more than the supporters that it can lose before it must be looked at, at least; 0 while it waits for a look.
 ghost use mathlib.Core.Path.{_≡_};
 ghost use mathlib.Core.Bool.{true, _&&_};
-ghost use Prim.Native.Nat.{_+_, _≤_, _<_};
+ghost use Prim.Native.Nat.{ℕ, _+_, _≤_, _<_};
 ghost use lib.ListN.{length, getD};
 ghost use lib.Dec.{leb, ltb};
 ghost use Rattle.rings.specs.Table.{tableOf};
 ghost use Rattle.rings.specs.Inner.Peeling.{guess, season, Open};
 ghost use Rattle.rings.specs.Inner.Links.{Reading, Every};
 ghost use Rattle.rings.specs.Inner.Counting.{timeBy, Histogram, Raised};
-ghost use Rattle.rings.specs.Inner.Settling.{Days, Losing, Lessened, Queued};
+ghost use Rattle.rings.specs.Inner.Settling.{Days, Losing, Fewer, Lessened, Queued};
 use crate::choice::lesser;
 use crate::choice::one;
 use crate::counts::pay_counts;
@@ -39,6 +39,21 @@ pub fn lose(spare: &mut [u16], queue: &mut [u16], tail: usize, v: usize, test: b
     spare[v] = n - one(less);
     put(queue, tail, v);
     tail + wide(one(last))
+}
+
+// Each account that is listed from place tail to upto loses a supporter, and waits if it has none to spare now. The list stands behind the queue: the queue grows over what has been read of it.
+pub fn lose_listed(spare: &mut [u16], queue: &mut [u16], tail: usize, upto: usize) -> usize
+    requires { ⌜ (length (now spare) ≡ 4096) × (length (now queue) ≡ 4352) × (tail ≤ upto) × (upto ≤ 4352) × ((i : ℕ) → tail ≤ i → i < upto → getD (now queue) i 0 < 4096) ⌝ }
+    ensures { λ r. ⌜ (r ≤ 4352) × Queued tail (now (spare .entry)) (now (queue .entry)) r (now (spare .exit)) (now (queue .exit)) × Fewer tail upto (now (queue .entry)) (now (spare .entry)) (now (spare .exit)) ⌝ }
+{
+    let mut end = tail;
+    let mut p = tail;
+    while p < upto {
+        let v = entry(queue, p);
+        end = lose(spare, queue, end, v, true);
+        p += 1;
+    }
+    end
 }
 
 // The rise of u takes a supporter from each that it supported till now. A row dated on the new time or later, or behind the range, takes none. Where days are counted, each row whose time moves with it is taken off its day, and all of them are counted on the new one at the end. 4,353 says that the queue has no place left.

@@ -9,15 +9,19 @@ ghost use lib.ListN.{length, getD};
 ghost use Rattle.rings.specs.Table.{tableOf};
 ghost use Rattle.rings.specs.CoreTimes.{never};
 ghost use Rattle.rings.specs.Inner.Peeling.{query, guess, season, Ready, Placed, Open, Span, Split, CoreTimesAre};
-ghost use Rattle.rings.specs.Inner.Links.{Every, Covered};
+ghost use Rattle.rings.specs.Inner.Links.{Every, Reading, Covered};
 ghost use Rattle.rings.specs.Inner.Counting.{timeBy, Histogram, Timed};
-ghost use Rattle.rings.specs.Inner.Settling.{Days, Leaving, Queued, Rising, Spare, Risen};
+ghost use Rattle.rings.specs.Inner.Settling.{Days, Behind, Short, Leaving, Queued, Rising, Spare, Risen};
+use crate::counts::move_counts;
 use crate::links::entry;
 use crate::links::put;
 use crate::look::first_from;
+use crate::look::gather;
 use crate::look::look;
+use crate::look::spare_above;
 use crate::loss::is_lost;
 use crate::loss::lose;
+use crate::loss::lose_listed;
 use crate::loss::lose_others;
 use crate::peel::is_fresh;
 use crate::peel::peel;
@@ -29,8 +33,111 @@ struct Standing {
     walked: usize,
 }
 
-// A look at the account at the head of the queue. If its time rises, it is listed as risen, and who loses it waits. 4,353 for the queue's end says that the look gave up, or that the queue had no place.
-fn settle_account(
+// The same, and the day from which a look is to go on.
+struct Near {
+    risen: usize,
+    tail: usize,
+    walked: usize,
+    day: u16,
+}
+
+// The common way: one walk over the rows of u, which waits at the head of the queue, finds that it has enough supporters still, or that it rises to the day above and has enough there. 4,353 for the queue's end says that neither is so, or that the queue has no room behind it for a list of its rows: then nothing has changed but what stands behind the queue, and no day before the one that it names has enough.
+fn settle_near(
+    days: &[u16],
+    first: &[u16],
+    second: &[u16],
+    links: &[u16],
+    k: u16,
+    start: u16,
+    stop: u16,
+    lo: usize,
+    head: usize,
+    tail: usize,
+    risen: usize,
+    u: usize,
+    from: usize,
+    times: &mut [u16],
+    spare: &mut [u16],
+    queue: &mut [u16],
+    counting: bool,
+    counts: &mut [u16],
+) -> Near
+    requires { ⌜ Open (now days) (now first) (now second) (now links) (season k start stop lo) ⌝ }
+    requires { ⌜ (head < tail) × (tail ≤ 4352) × (risen ≤ head) × (length (now times) ≡ 4096) × (length (now spare) ≡ 4096) × (length (now queue) ≡ 4352) × (u < 4096) × (getD (now queue) head 0 ≡ u) × Reading (now links) u lo from × Days stop (now times) × Covered (tableOf (now days) (now first) (now second)) (guess (now times)) lo (now links) ⌝ }
+    requires { ⌜ (counting ≡ true → (stop ≤ 1024) × Histogram (timeBy (tableOf (now days) (now first) (now second)) (guess (now times)) start stop) (length (now days)) (now counts)) ⌝ }
+    ensures { λ r. ⌜ (r .walked ≤ 32768) × (r .tail ≤ 4352 → (xs : List ℕ) → Rising (tableOf (now (days .entry)) (now (first .entry)) (now (second .entry))) (query k) stop start xs (now (times .entry)) (now (spare .entry)) (now (queue .entry)) head tail risen → Rising (tableOf (now (days .entry)) (now (first .entry)) (now (second .entry))) (query k) stop start xs (now (times .exit)) (now (spare .exit)) (now (queue .exit)) (head + 1) (r .tail) (r .risen)) ⌝ }
+    ensures { λ _. ⌜ ((v : ℕ) → guess (now (times .entry)) v ≡ never → guess (now (times .exit)) v ≡ never) ⌝ }
+    ensures { λ r. ⌜ (r .tail ≤ 4352 → counting ≡ true → Histogram (timeBy (tableOf (now (days .entry)) (now (first .entry)) (now (second .entry))) (guess (now (times .exit))) start stop) (length (now (days .entry))) (now (counts .exit))) ⌝ }
+    ensures { λ r. ⌜ (4352 < r .tail → (now (times .exit) ≡ now (times .entry)) × (now (spare .exit) ≡ now (spare .entry)) × (now (counts .exit) ≡ now (counts .entry)) × Behind tail (now (queue .entry)) (now (queue .exit)) × Short (tableOf (now (days .entry)) (now (first .entry)) (now (second .entry))) (guess (now (times .entry))) start k stop (getD (now (times .entry)) u 0) u (r .day)) ⌝ }
+{
+    let old = times[u];
+    if old == 65535 {
+        return Near {
+            risen: risen,
+            tail: 4353,
+            walked: 0,
+            day: old,
+        };
+    }
+    let last = entry(links, u);
+    if from + 4352 < tail + last {
+        return Near {
+            risen: risen,
+            tail: 4353,
+            walked: 0,
+            day: old,
+        };
+    }
+    let seen = gather(
+        days,
+        first,
+        second,
+        links,
+        k,
+        start,
+        stop,
+        lo,
+        times,
+        u,
+        from,
+        old,
+        tail,
+        queue,
+    );
+    if k <= seen.count {
+        spare[u] = seen.count + 1 - k;
+        return Near {
+            risen: risen,
+            tail: tail,
+            walked: seen.walked,
+            day: old,
+        };
+    }
+    let new = seen.above;
+    let left = spare_above(new, seen.count + seen.more, k);
+    if left == 0 {
+        return Near {
+            risen: risen,
+            tail: 4353,
+            walked: seen.walked,
+            day: new,
+        };
+    }
+    spare[u] = left;
+    times[u] = new;
+    put(queue, risen, u);
+    let end = lose_listed(spare, queue, tail, seen.end);
+    move_counts(counting, counts, old, new, seen.moved);
+    Near {
+        risen: risen + 1,
+        tail: end,
+        walked: seen.walked,
+        day: new,
+    }
+}
+
+// The long way: walks on one day after the other, from this one on, until u has enough, and if its time rises, one more for who loses it. 4,353 for the queue's end says that the look gave up, or that the queue had no place.
+fn settle_far(
     days: &[u16],
     first: &[u16],
     second: &[u16],
@@ -43,6 +150,9 @@ fn settle_account(
     head: usize,
     tail: usize,
     risen: usize,
+    u: usize,
+    from: usize,
+    day: u16,
     times: &mut [u16],
     spare: &mut [u16],
     queue: &mut [u16],
@@ -50,14 +160,13 @@ fn settle_account(
     counts: &mut [u16],
 ) -> Standing
     requires { ⌜ Open (now days) (now first) (now second) (now links) (season k start stop lo) ⌝ }
-    requires { ⌜ (budget ≤ 65536) × (head < tail) × (tail ≤ 4352) × (risen ≤ head) × (length (now times) ≡ 4096) × (length (now spare) ≡ 4096) × (length (now queue) ≡ 4352) × (getD (now queue) head 0 < 4096) × Days stop (now times) × Covered (tableOf (now days) (now first) (now second)) (guess (now times)) lo (now links) ⌝ }
+    requires { ⌜ (budget ≤ 65536) × (head < tail) × (tail ≤ 4352) × (risen ≤ head) × (length (now times) ≡ 4096) × (length (now spare) ≡ 4096) × (length (now queue) ≡ 4352) × (u < 4096) × (getD (now queue) head 0 ≡ u) × Reading (now links) u lo from × Days stop (now times) × Covered (tableOf (now days) (now first) (now second)) (guess (now times)) lo (now links) ⌝ }
+    requires { ⌜ Short (tableOf (now days) (now first) (now second)) (guess (now times)) start k stop (getD (now times) u 0) u day ⌝ }
     requires { ⌜ (counting ≡ true → (stop ≤ 1024) × Histogram (timeBy (tableOf (now days) (now first) (now second)) (guess (now times)) start stop) (length (now days)) (now counts)) ⌝ }
     ensures { λ r. ⌜ (r .walked ≤ 98304) × (r .tail ≤ 4352 → (xs : List ℕ) → Rising (tableOf (now (days .entry)) (now (first .entry)) (now (second .entry))) (query k) stop start xs (now (times .entry)) (now (spare .entry)) (now (queue .entry)) head tail risen → Rising (tableOf (now (days .entry)) (now (first .entry)) (now (second .entry))) (query k) stop start xs (now (times .exit)) (now (spare .exit)) (now (queue .exit)) (head + 1) (r .tail) (r .risen)) ⌝ }
     ensures { λ _. ⌜ ((v : ℕ) → guess (now (times .entry)) v ≡ never → guess (now (times .exit)) v ≡ never) ⌝ }
     ensures { λ r. ⌜ (r .tail ≤ 4352 → counting ≡ true → Histogram (timeBy (tableOf (now (days .entry)) (now (first .entry)) (now (second .entry))) (guess (now (times .exit))) start stop) (length (now (days .entry))) (now (counts .exit))) ⌝ }
 {
-    let u = entry(queue, head);
-    let from = first_from(days, first, second, links, u, lo);
     let old = times[u];
     let seen = look(
         days,
@@ -71,6 +180,7 @@ fn settle_account(
         times,
         u,
         from,
+        day,
         budget,
     );
     let new = seen.time;
@@ -115,6 +225,91 @@ fn settle_account(
         risen: risen + 1,
         tail: end,
         walked: seen.walked,
+    }
+}
+
+// A look at the account at the head of the queue. If its time rises, it is listed as risen, and who loses it waits. 4,353 for the queue's end says that the look gave up, or that the queue had no place.
+fn settle_account(
+    days: &[u16],
+    first: &[u16],
+    second: &[u16],
+    links: &[u16],
+    k: u16,
+    start: u16,
+    stop: u16,
+    lo: usize,
+    budget: usize,
+    head: usize,
+    tail: usize,
+    risen: usize,
+    times: &mut [u16],
+    spare: &mut [u16],
+    queue: &mut [u16],
+    counting: bool,
+    counts: &mut [u16],
+) -> Standing
+    requires { ⌜ Open (now days) (now first) (now second) (now links) (season k start stop lo) ⌝ }
+    requires { ⌜ (budget ≤ 65536) × (head < tail) × (tail ≤ 4352) × (risen ≤ head) × (length (now times) ≡ 4096) × (length (now spare) ≡ 4096) × (length (now queue) ≡ 4352) × (getD (now queue) head 0 < 4096) × Days stop (now times) × Covered (tableOf (now days) (now first) (now second)) (guess (now times)) lo (now links) ⌝ }
+    requires { ⌜ (counting ≡ true → (stop ≤ 1024) × Histogram (timeBy (tableOf (now days) (now first) (now second)) (guess (now times)) start stop) (length (now days)) (now counts)) ⌝ }
+    ensures { λ r. ⌜ (r .walked ≤ 131072) × (r .tail ≤ 4352 → (xs : List ℕ) → Rising (tableOf (now (days .entry)) (now (first .entry)) (now (second .entry))) (query k) stop start xs (now (times .entry)) (now (spare .entry)) (now (queue .entry)) head tail risen → Rising (tableOf (now (days .entry)) (now (first .entry)) (now (second .entry))) (query k) stop start xs (now (times .exit)) (now (spare .exit)) (now (queue .exit)) (head + 1) (r .tail) (r .risen)) ⌝ }
+    ensures { λ _. ⌜ ((v : ℕ) → guess (now (times .entry)) v ≡ never → guess (now (times .exit)) v ≡ never) ⌝ }
+    ensures { λ r. ⌜ (r .tail ≤ 4352 → counting ≡ true → Histogram (timeBy (tableOf (now (days .entry)) (now (first .entry)) (now (second .entry))) (guess (now (times .exit))) start stop) (length (now (days .entry))) (now (counts .exit))) ⌝ }
+{
+    let u = entry(queue, head);
+    let from = first_from(days, first, second, links, u, lo);
+    let near = settle_near(
+        days,
+        first,
+        second,
+        links,
+        k,
+        start,
+        stop,
+        lo,
+        head,
+        tail,
+        risen,
+        u,
+        from,
+        times,
+        spare,
+        queue,
+        counting,
+        counts,
+    );
+    if near.tail <= 4352 {
+        return Standing {
+            risen: near.risen,
+            tail: near.tail,
+            walked: near.walked,
+        };
+    }
+    let far = settle_far(
+        days,
+        first,
+        second,
+        links,
+        k,
+        start,
+        stop,
+        lo,
+        budget,
+        head,
+        tail,
+        risen,
+        u,
+        from,
+        near.day,
+        times,
+        spare,
+        queue,
+        counting,
+        counts,
+    );
+    Standing {
+        risen: far.risen,
+        tail: far.tail,
+        walked: near.walked + far.walked,
     }
 }
 

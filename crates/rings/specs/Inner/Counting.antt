@@ -6,6 +6,7 @@
 --     Owing g n new m xs    the same but for m rows that are still to be counted on the day new
 --     Adding, Removing      m rows more with a time, and one fewer
 --     Taking                one row fewer, and one more of those that are still to be counted, if a test says so
+--     Moving                m rows go from one time to another at once
 --     Raised                the counts by the times before an account rose
 --     Timed t q hi s n xs   the histogram of the core times at s
 --     Started               what a start hands on to the next: the book, the times of the accounts, what they can spare, and the counts
@@ -52,6 +53,10 @@ pub data Removing (time : ℕ) (xs xs′ : List ℕ) : Type 0 where
 pub data Taking (test : Bool) (time m : ℕ) (xs xs′ : List ℕ) (m′ : ℕ) : Type 0 where
   none : test ≡ false → xs′ ≡ xs → m′ ≡ m → Taking test time m xs xs′ m′
   one : test ≡ true → xs′ ≡ set xs time (getD xs time 0 - 1) → m′ ≡ m + 1 → Taking test time m xs xs′ m′
+
+pub record Moving (m old new : ℕ) (xs xs′ : List ℕ) : Type 0 where
+  pub long : length xs′ ≡ 1025
+  pub each : (e : ℕ) → e < 1025 → getD xs′ e 0 + owed old m e ≡ getD xs e 0 + owed new m e
 
 -- u rose from old to new; xs are the times after that
 pub record Raised (t : Table) (s hi u old new : ℕ) (xs counts : List ℕ) : Type 0 where

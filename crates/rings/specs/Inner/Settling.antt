@@ -8,8 +8,14 @@
 --     Over                  no later row can change what a walk has found
 --     Seen, Noting          what a walk over the rows of u has found: how many support it at c, the least day above c on which one more may, and how many more then; one row more
 --     Glanced               a walk has counted enough, or has seen all rows
+--     moving t x lo c u j   row j is one of u's from lo on, and comes in by day c
+--     Behind                a list is written behind a place alone
+--     Gathered              what a walk has kept besides, for a rise of u from c to the day above: how many rows move with it, and who loses it
+--     Short                 u has too few supporters on each day from c on that lies before d
+--     Spared                what u has to spare on the day above
 --     Least, Looked         y is the least day from c on with k supporters, or never; what a look at u answers
 --     Losing                v loses a supporter, or does not
+--     Fewer                 so does each account of a part of a list
 --     Lessened              a rise of u takes a supporter from each that it supported till now
 --     Leaving               so does each row that leaves
 --     Queued                who lost the last spare supporter by that waits at the end of the queue, which has 4,352 places
@@ -24,7 +30,7 @@ use mathlib.Core.Bool.{Bool, true, false}
 use mathlib.Core.List.{List}
 use lib.ListN.{length, getD, set}
 use lib.Dec.{leb}
-use Rattle.rings.specs.Words.{_and_, count}
+use Rattle.rings.specs.Words.{_and_, tally, count}
 use Rattle.rings.specs.Table.{Table, dayOf}
 use Rattle.rings.specs.Ring.{touches, met, ring}
 use Rattle.rings.specs.CoreTimes.{never}
@@ -70,16 +76,43 @@ pub record Seen (t : Table) (x : ℕ → ℕ) (lo hi c u b n above more : ℕ) :
   pub few : n + more ≤ b
   pub then : (above ≡ never) ⊎ (n + more ≤ backers t x lo above u b)
 
--- one row more, of value z: never for one that is not the first of its pair
-pub data Noting (z c n above more n′ above′ more′ : ℕ) : Type 0 where
-  back : z ≤ c → n′ ≡ n + 1 → above′ ≡ above → more′ ≡ more → Noting z c n above more n′ above′ more′
-  nearer : c < z → z < above → n′ ≡ n → above′ ≡ z → more′ ≡ 1 → Noting z c n above more n′ above′ more′
-  level : c < z → z ≡ above → n′ ≡ n → above′ ≡ above → more′ ≡ more + 1 → Noting z c n above more n′ above′ more′
-  farther : c < z → above ≤ z → n′ ≡ n → above′ ≡ above → more′ ≡ more → Noting z c n above more n′ above′ more′
+-- one row more, of value z, which counts where y says so: where it is the first of its pair
+pub data Noting (y : Bool) (z c n above more n′ above′ more′ : ℕ) : Type 0 where
+  back : z ≤ c → n′ ≡ tally y n → above′ ≡ above → more′ ≡ more → Noting y z c n above more n′ above′ more′
+  nearer : c < z → z < above → n′ ≡ n → above′ ≡ z → more′ ≡ tally y 0 → Noting y z c n above more n′ above′ more′
+  level : c < z → z ≡ above → n′ ≡ n → above′ ≡ above → more′ ≡ tally y more → Noting y z c n above more n′ above′ more′
+  farther : c < z → above ≤ z → n′ ≡ n → above′ ≡ above → more′ ≡ more → Noting y z c n above more n′ above′ more′
 
 pub data Glanced (t : Table) (x : ℕ → ℕ) (lo hi c u m k n above more : ℕ) : Type 0 where
   full : k ≤ n → n ≤ backers t x lo c u m → Glanced t x lo hi c u m k n above more
   seen : Seen t x lo hi c u m n above more → Glanced t x lo hi c u m k n above more
+
+-- ---- a look that keeps what a rise needs
+
+unfoldable pub moving : Table → (ℕ → ℕ) → ℕ → ℕ → ℕ → ℕ → Bool
+moving t x lo c u j = leb lo j and touches t j u and leb (value t x j u) c
+
+pub record Behind (tail : ℕ) (ws ws′ : List ℕ) : Type 0 where
+  pub long : length ws′ ≡ 4352
+  pub front : (i : ℕ) → i < tail → getD ws′ i 0 ≡ getD ws i 0
+
+-- of the rows of u below b, first of their pairs or not, none comes in between c and the day above; `moved` of them come in by c; and who has the time c and stands in a first row that comes in by it is listed, from place tail to end
+pub record Gathered (t : Table) (x : ℕ → ℕ) (lo hi c u b above moved tail end : ℕ) (ws : List ℕ) : Type 0 where
+  pub apart : (j : ℕ) → lo ≤ j → j < b → touches t j u ≡ true → dayOf t j ≤ hi → (value t x j u ≤ c) ⊎ (above ≤ value t x j u)
+  pub moves : moved ≡ count (moving t x lo c u) b
+  pub loses : (j : ℕ) → j < b → fresh t lo j ≡ true → touches t j u ≡ true → x (otherOf t j u) ≡ c → dayOf t j ≤ c → Place ws tail end (otherOf t j u)
+  pub small : (i : ℕ) → tail ≤ i → i < end → getD ws i 0 < 4096
+  pub grows : tail ≤ end
+
+pub record Short (t : Table) (x : ℕ → ℕ) (s k hi c u d : ℕ) : Type 0 where
+  pub from : c ≤ d
+  pub day : (d ≤ hi) ⊎ (d ≡ never)
+  pub fewer : (a : ℕ) → c ≤ a → a < d → a ≤ hi → supporters t x s a u < k
+
+pub data Spared (above both k r : ℕ) : Type 0 where
+  none : above ≡ never → r ≡ 1 → Spared above both k r
+  some : (above ≡ never → ⊥) → k ≤ both → r ≡ both + 1 - k → Spared above both k r
+  few : r ≡ 0 → Spared above both k r
 
 pub record Least (t : Table) (x : ℕ → ℕ) (s k hi c u y : ℕ) : Type 0 where
   pub from : c ≤ y
@@ -101,6 +134,12 @@ pub record Losing (y : Bool) (v tail : ℕ) (sp ws sp′ ws′ : List ℕ) (r : 
   pub lost : y ≡ true → left ≤ getD sp v 0 - 1
   pub queued : ws′ ≡ set ws tail v
   pub ended : ((r ≡ tail) × (left ≡ 0 → getD sp v 0 ≡ 0)) ⊎ (r ≡ tail + 1)
+
+-- so does each account that a list has from place a to b; nobody has more
+pub record Fewer (a b : ℕ) (ws sp sp′ : List ℕ) : Type 0 where
+  pub long : length sp′ ≡ 4096
+  pub less : (w : ℕ) → getD sp′ w 0 ≤ getD sp w 0
+  pub each : (i : ℕ) → a ≤ i → i < b → getD sp′ (getD ws i 0) 0 ≤ getD sp (getD ws i 0) 0 - 1
 
 -- u rose from old to new: each other account of a first row of a pair, of those below b, has one to spare less if it lost u by that
 pub record Lessened (t : Table) (x : ℕ → ℕ) (lo u b old new : ℕ) (sp₀ sp : List ℕ) : Type 0 where

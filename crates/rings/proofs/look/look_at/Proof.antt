@@ -1,13 +1,13 @@
-use native.Mathlib.Omega.{arith}
-use native.Mathlib.Nat.{le-refl}
-use Prim.Native.Nat.{_-_, _≤_}
-use lib.ListN.{length, getD}
-use mathlib.Core.Path.{_≡_, refl}
-use mathlib.Core.Logic.{⊎-elim}
-use Rattle.rings.specs.Inner.Peeling.{season}
-use Rattle.rings.proofs.ShelfLaws.{reading-place, reading-few, reading-row, reading-ends, reading-fresh-place}
-use Rattle.rings.proofs.LookLaws.{Glance, glance-start, glance-out, glance-most, glance-few, glance-late, glance-over, glance-small, glance-mark}
 use borrow.Author.Needs.{needs}
+use Rattle.rings.proofs.LookLaws.{Glance, glance-start, glance-out, glance-most, glance-few, glance-late, glance-over, glance-small, glance-mark}
+use Rattle.rings.proofs.ShelfLaws.{reading-place, reading-few, reading-row, reading-ends, reading-fresh-place}
+use Rattle.rings.specs.Inner.Peeling.{season}
+use mathlib.Core.Logic.{⊎-elim}
+use mathlib.Core.Path.{_≡_, refl}
+use lib.ListN.{length, getD}
+use Prim.Native.Nat.{_-_, _≤_}
+use native.Mathlib.Nat.{le-refl}
+use native.Mathlib.Omega.{arith}
 use Rattle.rings.proofs.look.look_at.Statement.{statement}
 use Rattle.rings.proofs.look.look_at.Tie as tie
 use Rattle.rings.proofs.look.look_at.Reads as reads
@@ -15,9 +15,9 @@ use Rattle.rings.proofs.look.look_at.Lts as lts
 use Rattle.rings.proofs.choice.pick.Reads as pick-reads
 use Rattle.rings.proofs.links.entry.Reads as entry-reads
 use Rattle.rings.proofs.links.other.Reads as other-reads
-use Rattle.rings.proofs.peel.is_first.Reads as is-first-reads
 use Rattle.rings.proofs.look.is_over.Reads as is-over-reads
 use Rattle.rings.proofs.look.note.Reads as note-reads
+use Rattle.rings.proofs.peel.is_first.Reads as is-first-reads
 use Rattle.rings.proofs.times.greater.Reads as greater-reads
 
 abbrev Inv-loop : tie.InvT-loop
@@ -26,95 +26,95 @@ Inv-loop days first second links k start stop lo times u from c n last p₀ coun
 abbrev μ-loop : tie.MeasureT-loop
 μ-loop days first second links k start stop lo times u from c n last p₀ count₀ above₀ more₀ p count above more = last - p
 
--- src/settle.rt:114:9
+-- src/look.rt:95:9
 entry-requires : tie.Need-entry-requires Inv-loop μ-loop
 entry-requires c κs = omega (arith, c .before .before .before .before .before .pre .1 .0, c .before .before .before .before .before .pre .0 .shelves .long)
 
--- src/settle.rt:119:5
+-- src/look.rt:100:5
 loop-holds : tie.Need-loop-holds Inv-loop μ-loop
 loop-holds c = (refl, c .entry .ensures, glance-start _ _ _ _ _ (c .before .before .before .before .before .before .pre .0) _ (c .before .before .before .before .before .before .pre .1 .1) (c .before .before .before .before .before .before .pre .1 .2) (c .before .before .before .before .before .before .pre .1 .0) (c .before .before .before .before .before .before .pre .1 .3) (c .before .before .before .before .before .before .pre .1 .5) (c .before .before .before .before .before .before .pre .1 .4), le-refl _, omega (arith, c .before .before .before .before .before .before .pre .1 .4 .to, c .before .before .before .before .before .before .pre .0 .shelves .shelf _ (c .before .before .before .before .before .before .pre .1 .0) .to, c .before .before .before .before .before .before .pre .0 .sound .most))
 
--- src/settle.rt:120:30
+-- src/look.rt:101:30
 add-entry : tie.Need-add-entry Inv-loop μ-loop
 add-entry c = omega (arith, reading-few _ _ _ _ (c .before .before .before .before .before .before .before .before .pre .0 .sound) (c .before .before .before .before .before .before .before .before .pre .0 .shelves) (c .before .before .before .before .before .before .before .before .pre .1 .0) (c .before .loop .inv .2 .reading) (c .before .loop .inv .1) (c .loop-test .taken))
 
--- src/settle.rt:120:13
+-- src/look.rt:101:13
 entry-requires-2 : tie.Need-entry-requires-2 Inv-loop μ-loop
 entry-requires-2 c κs = reading-place _ _ _ _ (c .before .before .before .before .before .before .before .before .pre .0 .sound) (c .before .before .before .before .before .before .before .before .pre .0 .shelves) (c .before .before .before .before .before .before .before .before .pre .1 .0) (c .before .loop .inv .2 .reading) (c .before .loop .inv .1) (c .loop-test .taken)
 
--- src/settle.rt:121:19
+-- src/look.rt:102:19
 mul-day : tie.Need-mul-day Inv-loop μ-loop
 mul-day c = omega (arith, reading-row _ _ _ _ (c .before .before .before .before .before .before .before .before .before .pre .0 .sound) (c .before .before .before .before .before .before .before .before .before .pre .0 .shelves) (c .before .before .before .before .before .before .before .before .before .pre .1 .0) (c .before .before .loop .inv .2 .reading) (c .before .before .loop .inv .1) (c .before .loop-test .taken) (c .entry2 .ensures), c .before .before .before .before .before .before .before .before .before .pre .0 .sound .most)
 
--- src/settle.rt:121:19
+-- src/look.rt:102:19
 shared-slice-read-day : tie.Need-shared-slice-read-day Inv-loop μ-loop
 shared-slice-read-day c = reading-row _ _ _ _ (c .before .before .before .before .before .before .before .before .before .before .pre .0 .sound) (c .before .before .before .before .before .before .before .before .before .before .pre .0 .shelves) (c .before .before .before .before .before .before .before .before .before .before .pre .1 .0) (c .before .before .before .loop .inv .2 .reading) (c .before .before .before .loop .inv .1) (c .before .before .loop-test .taken) (c .before .entry2 .ensures)
 
--- src/settle.rt:122:12
+-- src/look.rt:103:12
 is-over-requires : tie.Need-is-over-requires Inv-loop μ-loop
 is-over-requires c κs = search needs
 
--- src/settle.rt:127:25
+-- src/look.rt:108:25
 sub-t32 : tie.Need-sub-t32 Inv-loop μ-loop
 sub-t32 c = omega (arith, c .before .before .before .before .before .loop .inv .3)
 
--- src/settle.rt:123:13
+-- src/look.rt:104:13
 returns : tie.Need-returns Inv-loop μ-loop
 returns c = (glance-over _ _ _ _ _ (c .before .before .before .before .before .before .before .before .before .before .before .before .pre .0) _ (c .before .before .before .before .before .before .before .before .before .before .before .before .pre .1 .1) (c .before .before .before .before .before .before .before .before .before .before .before .before .pre .1 .2) (c .before .before .before .before .before .before .before .before .before .before .before .before .pre .1 .0) (c .before .before .before .before .before .before .before .before .before .before .before .before .pre .1 .3) (c .before .before .before .before .before .before .before .before .before .before .before .before .pre .1 .5) (c .before .before .before .before .before .loop .inv .2) (c .before .before .before .before .before .loop .inv .1) (c .before .before .before .before .loop-test .taken) (c .before .before .before .entry2 .ensures) refl (c .before .is-over .ensures .yes (c .if1 .taken)), omega (arith, c .before .before .before .before .before .loop .inv .4), glance-most _ _ _ _ _ (c .before .before .before .before .before .before .before .before .before .before .before .before .pre .0) _ (c .before .before .before .before .before .before .before .before .before .before .before .before .pre .1 .1) (c .before .before .before .before .before .before .before .before .before .before .before .before .pre .1 .2) (c .before .before .before .before .before .before .before .before .before .before .before .before .pre .1 .0) (c .before .before .before .before .before .before .before .before .before .before .before .before .pre .1 .3) (c .before .before .before .before .before .before .before .before .before .before .before .before .pre .1 .5) (c .before .before .before .before .before .loop .inv .2) (c .before .before .before .before .before .loop .inv .1))
 
--- src/settle.rt:130:9
+-- src/look.rt:111:9
 add-p : tie.Need-add-p Inv-loop μ-loop
 add-p c = omega (arith, reading-few _ _ _ _ (c .before .before .before .before .before .before .before .before .before .before .before .before .pre .0 .sound) (c .before .before .before .before .before .before .before .before .before .before .before .before .pre .0 .shelves) (c .before .before .before .before .before .before .before .before .before .before .before .before .pre .1 .0) (c .before .before .before .before .before .loop .inv .2 .reading) (c .before .before .before .before .before .loop .inv .1) (c .before .before .before .before .loop-test .taken))
 
--- src/settle.rt:131:13
+-- src/look.rt:112:13
 is-first-requires : tie.Need-is-first-requires Inv-loop μ-loop
 is-first-requires c κs = rw (c .before .before .before .before .before .loop .inv .0) (let a = reading-fresh-place _ _ _ _ (c .before .before .before .before .before .before .before .before .before .before .before .before .pre .0 .sound) (c .before .before .before .before .before .before .before .before .before .before .before .before .pre .0 .shelves) (c .before .before .before .before .before .before .before .before .before .before .before .before .pre .1 .0) (c .before .before .before .before .before .loop .inv .2 .reading) (c .before .before .before .before .before .loop .inv .1) (c .before .before .before .before .loop-test .taken) (c .before .before .before .entry2 .ensures) in (a .0, a .1, a .2, glance-late _ _ _ _ _ (c .before .before .before .before .before .before .before .before .before .before .before .before .pre .0) _ (c .before .before .before .before .before .before .before .before .before .before .before .before .pre .1 .1) (c .before .before .before .before .before .before .before .before .before .before .before .before .pre .1 .2) (c .before .before .before .before .before .before .before .before .before .before .before .before .pre .1 .0) (c .before .before .before .before .before .before .before .before .before .before .before .before .pre .1 .3) (c .before .before .before .before .before .before .before .before .before .before .before .before .pre .1 .5) (c .before .before .before .before .before .loop .inv .2) (c .before .before .before .before .before .loop .inv .1) (c .before .before .before .before .loop-test .taken) (c .before .before .before .entry2 .ensures)))
 
--- src/settle.rt:132:13
+-- src/look.rt:113:13
 entry-requires-3 : tie.Need-entry-requires-3 Inv-loop μ-loop
 entry-requires-3 c κs = omega (arith, reading-row _ _ _ _ (c .before .before .before .before .before .before .before .before .before .before .before .before .before .pre .0 .sound) (c .before .before .before .before .before .before .before .before .before .before .before .before .before .pre .0 .shelves) (c .before .before .before .before .before .before .before .before .before .before .before .before .before .pre .1 .0) (c .before .before .before .before .before .before .loop .inv .2 .reading) (c .before .before .before .before .before .before .loop .inv .1) (c .before .before .before .before .before .loop-test .taken) (c .before .before .before .before .entry2 .ensures), c .before .before .before .before .before .before .before .before .before .before .before .before .before .pre .0 .sound .firsts)
 
--- src/settle.rt:133:13
+-- src/look.rt:114:13
 entry-requires-4 : tie.Need-entry-requires-4 Inv-loop μ-loop
 entry-requires-4 c κs = omega (arith, reading-row _ _ _ _ (c .before .before .before .before .before .before .before .before .before .before .before .before .before .before .pre .0 .sound) (c .before .before .before .before .before .before .before .before .before .before .before .before .before .before .pre .0 .shelves) (c .before .before .before .before .before .before .before .before .before .before .before .before .before .before .pre .1 .0) (c .before .before .before .before .before .before .before .loop .inv .2 .reading) (c .before .before .before .before .before .before .before .loop .inv .1) (c .before .before .before .before .before .before .loop-test .taken) (c .before .before .before .before .before .entry2 .ensures), c .before .before .before .before .before .before .before .before .before .before .before .before .before .before .pre .0 .sound .seconds)
 
--- src/settle.rt:134:13
+-- src/look.rt:115:13
 other-requires : tie.Need-other-requires Inv-loop μ-loop
 other-requires c κs = reading-ends _ _ _ _ (c .before .before .before .before .before .before .before .before .before .before .before .before .before .before .before .pre .0 .sound) (c .before .before .before .before .before .before .before .before .before .before .before .before .before .before .before .pre .0 .shelves) (c .before .before .before .before .before .before .before .before .before .before .before .before .before .before .before .pre .1 .0) (c .before .before .before .before .before .before .before .before .loop .inv .2 .reading) (c .before .before .before .before .before .before .before .before .loop .inv .1) (c .before .before .before .before .before .before .before .loop-test .taken) (c .before .before .before .before .before .before .entry2 .ensures) (c .before .entry3 .ensures) (c .entry4 .ensures)
 
--- src/settle.rt:135:25
+-- src/look.rt:116:25
 mul-greater : tie.Need-mul-greater Inv-loop μ-loop
 mul-greater c = omega (arith, glance-small _ _ _ _ _ (c .before .before .before .before .before .before .before .before .before .before .before .before .before .before .before .before .pre .0) _ (c .before .before .before .before .before .before .before .before .before .before .before .before .before .before .before .before .pre .1 .1) (c .before .before .before .before .before .before .before .before .before .before .before .before .before .before .before .before .pre .1 .2) (c .before .before .before .before .before .before .before .before .before .before .before .before .before .before .before .before .pre .1 .0) (c .before .before .before .before .before .before .before .before .before .before .before .before .before .before .before .before .pre .1 .3) (c .before .before .before .before .before .before .before .before .before .before .before .before .before .before .before .before .pre .1 .5) (c .before .before .before .before .before .before .before .before .before .loop .inv .2) (c .before .before .before .before .before .before .before .before .before .loop .inv .1) (c .before .before .before .before .before .before .before .before .loop-test .taken) (c .before .before .before .before .before .before .before .entry2 .ensures) refl (c .before .before .entry3 .ensures) (c .before .entry4 .ensures) (c .other .ensures))
 
--- src/settle.rt:135:25
+-- src/look.rt:116:25
 shared-slice-read-greater : tie.Need-shared-slice-read-greater Inv-loop μ-loop
 shared-slice-read-greater c = omega (arith, glance-small _ _ _ _ _ (c .before .before .before .before .before .before .before .before .before .before .before .before .before .before .before .before .before .pre .0) _ (c .before .before .before .before .before .before .before .before .before .before .before .before .before .before .before .before .before .pre .1 .1) (c .before .before .before .before .before .before .before .before .before .before .before .before .before .before .before .before .before .pre .1 .2) (c .before .before .before .before .before .before .before .before .before .before .before .before .before .before .before .before .before .pre .1 .0) (c .before .before .before .before .before .before .before .before .before .before .before .before .before .before .before .before .before .pre .1 .3) (c .before .before .before .before .before .before .before .before .before .before .before .before .before .before .before .before .before .pre .1 .5) (c .before .before .before .before .before .before .before .before .before .before .loop .inv .2) (c .before .before .before .before .before .before .before .before .before .before .loop .inv .1) (c .before .before .before .before .before .before .before .before .before .loop-test .taken) (c .before .before .before .before .before .before .before .before .entry2 .ensures) refl (c .before .before .before .entry3 .ensures) (c .before .before .entry4 .ensures) (c .before .other .ensures), c .before .before .before .before .before .before .before .before .before .before .before .before .before .before .before .before .before .pre .1 .1)
 
--- src/settle.rt:135:13
+-- src/look.rt:116:13
 greater-requires : tie.Need-greater-requires Inv-loop μ-loop
 greater-requires c κs = search needs
 
--- src/settle.rt:136:25
+-- src/look.rt:117:25
 pick-requires : tie.Need-pick-requires Inv-loop μ-loop
 pick-requires c κs = search needs
 
--- src/settle.rt:136:13
+-- src/look.rt:117:13
 note-requires : tie.Need-note-requires Inv-loop μ-loop
 note-requires c κs = glance-few _ _ _ _ _ (c .before .before .before .before .before .before .before .before .before .before .before .before .before .before .before .before .before .before .before .pre .0) _ (c .before .before .before .before .before .before .before .before .before .before .before .before .before .before .before .before .before .before .before .pre .1 .1) (c .before .before .before .before .before .before .before .before .before .before .before .before .before .before .before .before .before .before .before .pre .1 .2) (c .before .before .before .before .before .before .before .before .before .before .before .before .before .before .before .before .before .before .before .pre .1 .0) (c .before .before .before .before .before .before .before .before .before .before .before .before .before .before .before .before .before .before .before .pre .1 .3) (c .before .before .before .before .before .before .before .before .before .before .before .before .before .before .before .before .before .before .before .pre .1 .5) (c .before .before .before .before .before .before .before .before .before .before .before .before .loop .inv .2) (c .before .before .before .before .before .before .before .before .before .before .before .before .loop .inv .1) (c .before .before .before .before .before .before .before .before .before .before .before .loop-test .taken) (c .before .before .before .before .before .before .before .before .before .before .entry2 .ensures)
 
--- src/settle.rt:119:5
+-- src/look.rt:100:5
 loop-less : tie.Need-loop-less Inv-loop μ-loop
 loop-less c = omega (arith, c .before .before .before .before .before .before .before .before .before .before .before .before .loop-test .taken)
 
--- src/settle.rt:119:5
+-- src/look.rt:100:5
 loop-again : tie.Need-loop-again Inv-loop μ-loop
 loop-again c = (c .before .before .before .before .before .before .before .before .before .before .before .before .before .loop .inv .0, c .before .before .before .before .before .before .before .before .before .before .before .before .before .loop .inv .1, glance-mark _ _ _ _ _ (c .before .before .before .before .before .before .before .before .before .before .before .before .before .before .before .before .before .before .before .before .pre .0) _ (c .before .before .before .before .before .before .before .before .before .before .before .before .before .before .before .before .before .before .before .before .pre .1 .1) (c .before .before .before .before .before .before .before .before .before .before .before .before .before .before .before .before .before .before .before .before .pre .1 .2) (c .before .before .before .before .before .before .before .before .before .before .before .before .before .before .before .before .before .before .before .before .pre .1 .0) (c .before .before .before .before .before .before .before .before .before .before .before .before .before .before .before .before .before .before .before .before .pre .1 .3) (c .before .before .before .before .before .before .before .before .before .before .before .before .before .before .before .before .before .before .before .before .pre .1 .5) (c .before .before .before .before .before .before .before .before .before .before .before .before .before .loop .inv .2) (c .before .before .before .before .before .before .before .before .before .before .before .before .before .loop .inv .1) (c .before .before .before .before .before .before .before .before .before .before .before .before .loop-test .taken) (c .before .before .before .before .before .before .before .before .before .before .before .entry2 .ensures) refl (c .before .before .before .before .before .before .entry3 .ensures) (c .before .before .before .before .before .entry4 .ensures) (c .before .before .before .before .other .ensures) (rw (c .before .before .before .before .before .before .before .before .before .before .before .before .before .loop .inv .0) (c .before .before .before .before .before .before .before .is-first .ensures)) (⊎-elim (λ h. omega (arith, h, c .before .before .before .before .before .before .before .before .before .before .before .before .before .before .before .before .before .before .before .before .pre .1 .3)) (λ h. h) (c .before .before .before .before .before .before .before .before .before .is-over .ensures .not (c .before .before .before .before .before .before .before .before .if1 .left))) (c .before .before .greater .ensures) (c .before .pick .ensures) (c .note .ensures), omega (arith, c .before .before .before .before .before .before .before .before .before .before .before .before .before .loop .inv .3), omega (arith, reading-few _ _ _ _ (c .before .before .before .before .before .before .before .before .before .before .before .before .before .before .before .before .before .before .before .before .pre .0 .sound) (c .before .before .before .before .before .before .before .before .before .before .before .before .before .before .before .before .before .before .before .before .pre .0 .shelves) (c .before .before .before .before .before .before .before .before .before .before .before .before .before .before .before .before .before .before .before .before .pre .1 .0) (c .before .before .before .before .before .before .before .before .before .before .before .before .before .loop .inv .2 .reading) (c .before .before .before .before .before .before .before .before .before .before .before .before .before .loop .inv .1) (c .before .before .before .before .before .before .before .before .before .before .before .before .loop-test .taken)))
 
--- src/settle.rt:145:17
+-- src/look.rt:126:17
 sub-t34 : tie.Need-sub-t34 Inv-loop μ-loop
 sub-t34 c = omega (arith, c .before .loop .inv .3)
 
--- src/settle.rt:95:1
+-- src/look.rt:76:1
 returns-2 : tie.Need-returns-2 Inv-loop μ-loop
 returns-2 c = (glance-out _ _ _ _ _ (c .before .before .before .before .before .before .before .before .pre .0) _ (c .before .before .before .before .before .before .before .before .pre .1 .1) (c .before .before .before .before .before .before .before .before .pre .1 .2) (c .before .before .before .before .before .before .before .before .pre .1 .0) (c .before .before .before .before .before .before .before .before .pre .1 .3) (c .before .before .before .before .before .before .before .before .pre .1 .5) (c .before .loop .inv .2) (c .before .loop .inv .1) (c .loop-test .left), omega (arith, c .before .loop .inv .4), glance-most _ _ _ _ _ (c .before .before .before .before .before .before .before .before .pre .0) _ (c .before .before .before .before .before .before .before .before .pre .1 .1) (c .before .before .before .before .before .before .before .before .pre .1 .2) (c .before .before .before .before .before .before .before .before .pre .1 .0) (c .before .before .before .before .before .before .before .before .pre .1 .3) (c .before .before .before .before .before .before .before .before .pre .1 .5) (c .before .loop .inv .2) (c .before .loop .inv .1))
 

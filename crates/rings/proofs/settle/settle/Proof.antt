@@ -20,7 +20,7 @@ use Rattle.rings.proofs.settle.settle.Lts as lts
 use Rattle.rings.proofs.settle.settle_account.Reads as settle-account-reads
 
 abbrev Inv-loop : tie.InvT-loop
-Inv-loop days first second links k start stop lo budget waiting times₀ spare₀ queue₀ counting counts₀ head₀ tail₀ risen₀ work₀ times spare queue counts head tail risen work = (head ≤ 4352) × (length times ≡ 4096) × (length spare ≡ 4096) × (length queue ≡ 4352) × (tail ≤ 4352 → Rising (tableOf days first second) (query k) stop start times₀ times spare queue head tail risen) × (work ≤ budget + 98304) × (length counts ≡ length counts₀) × (tail ≤ 4352 → counting ≡ true → Histogram (timeBy (tableOf days first second) (guess times) start stop) (length days) counts) × (tail ≤ 4352 → Covered (tableOf days first second) (guess times) lo links)
+Inv-loop days first second links k start stop lo budget waiting times₀ spare₀ queue₀ counting counts₀ head₀ tail₀ risen₀ work₀ times spare queue counts head tail risen work = (head ≤ 4352) × (length times ≡ 4096) × (length spare ≡ 4096) × (length queue ≡ 4352) × (tail ≤ 4352 → Rising (tableOf days first second) (query k) stop start times₀ times spare queue head tail risen) × (work ≤ budget + 131072) × (length counts ≡ length counts₀) × (tail ≤ 4352 → counting ≡ true → Histogram (timeBy (tableOf days first second) (guess times) start stop) (length days) counts) × (tail ≤ 4352 → Covered (tableOf days first second) (guess times) lo links)
 
 abbrev μ-loop : tie.MeasureT-loop
 μ-loop days first second links k start stop lo budget waiting times₀ spare₀ queue₀ counting counts₀ head₀ tail₀ risen₀ work₀ times spare queue counts head tail risen work = 4353 - head

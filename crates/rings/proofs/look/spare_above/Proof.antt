@@ -1,0 +1,30 @@
+use Rattle.rings.specs.Inner.Settling.Spared.{none, some, few}
+use native.Mathlib.Omega.{arith}
+use mathlib.Core.Path.{refl}
+use Rattle.rings.proofs.look.spare_above.Statement.{statement}
+use Rattle.rings.proofs.look.spare_above.Tie as tie
+use Rattle.rings.proofs.look.spare_above.Reads as reads
+use Rattle.rings.proofs.look.spare_above.Lts as lts
+
+-- src/look.rt:218:9
+returns : tie.Need-returns
+returns c = none (c .if1 .taken) refl
+
+-- src/look.rt:221:9
+returns-2 : tie.Need-returns-2
+returns-2 c = few refl
+
+-- src/look.rt:223:5
+add-result : tie.Need-add-result
+add-result c = omega (arith, c .before .before .pre)
+
+-- src/look.rt:223:5
+sub-result : tie.Need-sub-result
+sub-result c = omega (arith, c .if2 .left)
+
+-- src/look.rt:213:1
+returns-3 : tie.Need-returns-3
+returns-3 c = some (c .before .if1 .left) (c .if2 .left) refl
+
+pub spare-above-spec : {M : Type 1} → statement M
+spare-above-spec = tie.close (tie.spec returns returns-2 add-result sub-result returns-3)

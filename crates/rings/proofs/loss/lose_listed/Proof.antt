@@ -1,0 +1,69 @@
+use Rattle.rings.proofs.GatherLaws.{Losses, losses-start, losses-next, losses-end}
+use mathlib.Core.Path.{_∙_, sym}
+use Prim.Native.Nat.{_-_, _≤_}
+use native.Mathlib.Nat.{le-refl}
+use native.Mathlib.Omega.{arith}
+use Rattle.rings.proofs.loss.lose_listed.Statement.{statement}
+use Rattle.rings.proofs.loss.lose_listed.Tie as tie
+use Rattle.rings.proofs.loss.lose_listed.Reads as reads
+use Rattle.rings.proofs.loss.lose_listed.Lts as lts
+use Rattle.rings.proofs.links.entry.Reads as entry-reads
+use Rattle.rings.proofs.loss.lose.Reads as lose-reads
+
+abbrev Inv-loop : tie.InvT-loop
+Inv-loop spare₀ queue₀ tail upto end₀ p₀ spare queue end p = (tail ≤ p) × (p ≤ upto) × Losses tail spare₀ queue₀ p end spare queue
+
+abbrev μ-loop : tie.MeasureT-loop
+μ-loop spare₀ queue₀ tail upto end₀ p₀ spare queue end p = upto - p
+
+-- src/loss.rt:51:5
+loop-holds : tie.Need-loop-holds Inv-loop μ-loop
+loop-holds c = (le-refl _, c .before .before .pre .2, losses-start _ _ _ (c .before .before .pre .0) (c .before .before .pre .1))
+
+-- src/loss.rt:52:13
+entry-requires : tie.Need-entry-requires Inv-loop μ-loop
+entry-requires c κs = omega (arith, c .before .loop-test .taken, c .before .before .before .before .before .pre .3, c .before .before .loop .inv .2 .queued .long)
+
+-- src/loss.rt:53:9
+lose-requires : tie.Need-lose-requires Inv-loop μ-loop
+lose-requires c κs = (c .before .before .before .before .before .loop .inv .2 .fewer .long, c .before .before .before .before .before .loop .inv .2 .queued .long, omega (arith, c .before .before .entry .ensures, c .before .before .before .before .before .loop .inv .2 .rest _ (le-refl _), c .before .before .before .before .before .before .before .before .pre .4 _ (c .before .before .before .before .before .loop .inv .0) (c .before .before .before .before .loop-test .taken)), omega (arith, c .before .before .before .before .before .loop .inv .2 .behind, c .before .before .before .before .loop-test .taken, c .before .before .before .before .before .before .before .before .pre .3))
+
+-- src/loss.rt:54:9
+add-p : tie.Need-add-p Inv-loop μ-loop
+add-p c = omega (arith, c .before .before .before .before .before .before .before .before .before .loop-test .taken, c .before .before .before .before .before .before .before .before .before .before .before .before .before .pre .3)
+
+-- src/loss.rt:51:5
+loop-less : tie.Need-loop-less Inv-loop μ-loop
+loop-less c = omega (arith, c .before .before .before .before .before .before .before .before .before .loop-test .taken)
+
+-- src/loss.rt:51:5
+loop-again : tie.Need-loop-again Inv-loop μ-loop
+loop-again c = (omega (arith, c .before .before .before .before .before .before .before .before .before .before .loop .inv .0), omega (arith, c .before .before .before .before .before .before .before .before .before .loop-test .taken), losses-next (c .before .before .before .before .before .before .before .before .before .before .loop .inv .2) (omega (arith, c .before .before .before .before .before .before .before .before .before .loop-test .taken, c .before .before .before .before .before .before .before .before .before .before .before .before .before .pre .3)) (c .before .before .before .before .before .before .before .entry .ensures) (omega (arith, c .before .before .before .before .before .before .before .entry .ensures, c .before .before .before .before .before .before .before .before .before .before .loop .inv .2 .rest _ (le-refl _), c .before .before .before .before .before .before .before .before .before .before .before .before .before .pre .4 _ (c .before .before .before .before .before .before .before .before .before .before .loop .inv .0) (c .before .before .before .before .before .before .before .before .before .loop-test .taken))) (c .before .before .before .before .lose .ensures))
+
+-- src/loss.rt:45:1
+same-length : tie.Need-same-length Inv-loop μ-loop
+same-length c = c .before .loop .inv .2 .fewer .long ∙ sym (c .before .before .before .before .pre .0)
+
+-- src/loss.rt:45:1
+same-length-2 : tie.Need-same-length-2 Inv-loop μ-loop
+same-length-2 c = c .before .loop .inv .2 .queued .long ∙ sym (c .before .before .before .before .pre .1)
+
+-- src/loss.rt:45:1
+returns : tie.Need-returns Inv-loop μ-loop
+returns c = (omega (arith, c .before .loop .inv .1, c .before .loop .inv .2 .behind, c .before .before .before .before .pre .3), c .before .loop .inv .2 .queued, losses-end (c .before .loop .inv .2) (c .loop-test .left))
+
+pub lose-listed-spec : {M : Type 1} → statement M
+lose-listed-spec =
+    tie.close
+    (tie.spec
+    Inv-loop
+    μ-loop
+    loop-holds
+    entry-requires
+    lose-requires
+    add-p
+    loop-less
+    loop-again
+    same-length
+    same-length-2
+    returns)
