@@ -370,7 +370,7 @@ module _ (t : Table) (q : Query) (s hi lo : ℕ) (S : Setting t q s hi lo) (x : 
   pub look-near : {c u n above more both m : ℕ} → Glanced t x lo hi c u (size t) (q .k) n above more → n < q .k → both ≡ n + more → Spared above both (q .k) m → (m ≡ 0 → ⊥) → Looked t x s (q .k) hi c u above m
   look-near {c} {u} G few e (Spared.none h k) o = let L = look-next (few-start c u) G few in look-never (L .0) (let a = L .1 in omega arith) h k
   look-near {c} {u} G few e (Spared.some h k i) o = look-then (few-start c u) (le-refl c) G few h (omega arith) (omega arith)
-  look-near G few e (Spared.few h) o = absurd (o h)
+  look-near G few e (Spared.few h k i) o = absurd (o i)
 
 -- ---- one row more, without a branch
 

@@ -139,7 +139,7 @@ fn look_at(
     }
 }
 
-// The same walk on the time of u, for a rise from there to the day above. All rows move that day here, first of their pairs or not: so those that move with u are those that come in by c, and who loses it are those of them who have the time c. These are listed behind the queue, where there is room for a place for each row: each is written, and the end moves on behind those who stay, without a branch.
+// The same walk on the time of u, for a rise from there to the day above. Here each row may bring that day nearer, first of its pair or not, so that none comes in between: the rows that move with u are then those that come in by c, and who loses it are those of its supporters who have the time c. These are listed behind the queue, which has room for one for each row: each is written, and the end moves on behind those who lose it, without a branch.
 pub fn gather(
     days: &[u16],
     first: &[u16],

@@ -33,7 +33,7 @@ struct Standing {
     walked: usize,
 }
 
-// The same, and the day from which a look is to go on.
+// The same, and, where the account is not settled, the day from which a look is to go on.
 struct Near {
     risen: usize,
     tail: usize,

@@ -76,7 +76,7 @@ pub record Seen (t : Table) (x : ℕ → ℕ) (lo hi c u b n above more : ℕ) :
   pub few : n + more ≤ b
   pub then : (above ≡ never) ⊎ (n + more ≤ backers t x lo above u b)
 
--- one row more, of value z, which counts where y says so: where it is the first of its pair
+-- one row more, of value z, which counts where y says so: where it is the first of its pair. Or else its value is said to be never
 pub data Noting (y : Bool) (z c n above more n′ above′ more′ : ℕ) : Type 0 where
   back : z ≤ c → n′ ≡ tally y n → above′ ≡ above → more′ ≡ more → Noting y z c n above more n′ above′ more′
   nearer : c < z → z < above → n′ ≡ n → above′ ≡ z → more′ ≡ tally y 0 → Noting y z c n above more n′ above′ more′
@@ -112,7 +112,7 @@ pub record Short (t : Table) (x : ℕ → ℕ) (s k hi c u d : ℕ) : Type 0 whe
 pub data Spared (above both k r : ℕ) : Type 0 where
   none : above ≡ never → r ≡ 1 → Spared above both k r
   some : (above ≡ never → ⊥) → k ≤ both → r ≡ both + 1 - k → Spared above both k r
-  few : r ≡ 0 → Spared above both k r
+  few : (above ≡ never → ⊥) → both < k → r ≡ 0 → Spared above both k r
 
 pub record Least (t : Table) (x : ℕ → ℕ) (s k hi c u y : ℕ) : Type 0 where
   pub from : c ≤ y

@@ -12,7 +12,7 @@ returns c = none (c .if1 .taken) refl
 
 -- src/look.rt:221:9
 returns-2 : tie.Need-returns-2
-returns-2 c = few refl
+returns-2 c = few (c .before .if1 .left) (c .if2 .taken) refl
 
 -- src/look.rt:223:5
 add-result : tie.Need-add-result
