@@ -3,11 +3,12 @@
 --     Kept t q hi s sc        those are the row times at s, and the heads stand at s
 --     Turning t q hi s sc     each is the row's time at s or at the day after it, where the heads stand
 --     Renewed t q hi s sc j   that of row j is its time at the day after s
+--     Reached                 it is renewed, or has the time y or a later one already
 --     Passed                  the rows below m are renewed
---     Walked                  so are the rows of u from next to b that are dated before the time y of u
---     Through                 so are all such rows of the first i accounts of a list; xs are the times of the accounts
---     Stays                   a row that was renewed is so still
---     Turned                  the rows of u are renewed, and nothing else is lost
+--     Walked                  the rows of u from next to b that are dated before the time y of u have reached it
+--     Through                 so have all such rows of the first i accounts of a list; xs are the times of the accounts
+--     Stays                   a row that was renewed is so still, and no kept time falls
+--     Turned                  the rows of u have reached its time, and nothing else is lost
 use Prim.Native.Nat.{ℕ, _+_, _*_, _≤_, _<_}
 use mathlib.Core.Path.{_≡_}
 use mathlib.Core.Logic.{_⊎_}
@@ -34,17 +35,21 @@ pub record Turning (t : Table) (q : Query) (hi s : ℕ) (sc : List ℕ) : Type 0
 abbrev pub Renewed : Table → Query → ℕ → ℕ → List ℕ → ℕ → Type 0
 Renewed t q hi s sc j = timeOf t sc j ≡ rowTime t q hi (s + 1) j
 
+abbrev pub Reached : Table → Query → ℕ → ℕ → List ℕ → ℕ → ℕ → Type 0
+Reached t q hi s sc y j = Renewed t q hi s sc j ⊎ (y ≤ timeOf t sc j)
+
 pub record Passed (t : Table) (q : Query) (hi s m : ℕ) (sc : List ℕ) : Type 0 where
   pub renewed : (j : ℕ) → j < m → j < size t → Renewed t q hi s sc j
 
 pub record Walked (t : Table) (q : Query) (hi s next u y b : ℕ) (sc : List ℕ) : Type 0 where
-  pub renewed : (j : ℕ) → next ≤ j → j < b → j < size t → touches t j u ≡ true → dayOf t j < y → Renewed t q hi s sc j
+  pub reached : (j : ℕ) → next ≤ j → j < b → j < size t → touches t j u ≡ true → dayOf t j < y → Reached t q hi s sc y j
 
 pub record Through (t : Table) (q : Query) (hi s next : ℕ) (xs list : List ℕ) (i : ℕ) (sc : List ℕ) : Type 0 where
-  pub renewed : (h j : ℕ) → h < i → next ≤ j → j < size t → touches t j (getD list h 0) ≡ true → dayOf t j < getD xs (getD list h 0) 0 → Renewed t q hi s sc j
+  pub reached : (h j : ℕ) → h < i → next ≤ j → j < size t → touches t j (getD list h 0) ≡ true → dayOf t j < getD xs (getD list h 0) 0 → Reached t q hi s sc (getD xs (getD list h 0) 0) j
 
 pub record Stays (t : Table) (q : Query) (hi s : ℕ) (sc₀ sc : List ℕ) : Type 0 where
   pub renewed : (j : ℕ) → j < size t → Renewed t q hi s sc₀ j → Renewed t q hi s sc j
+  pub grows : (j : ℕ) → j < size t → timeOf t sc₀ j ≤ timeOf t sc j
 
 pub record Turned (t : Table) (q : Query) (hi s next u y : ℕ) (sc₀ sc : List ℕ) : Type 0 where
   pub turning : Turning t q hi s sc
