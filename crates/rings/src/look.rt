@@ -190,14 +190,14 @@ pub fn gather(
         let v = other(a, b, u);
         let x = times[v];
         let z = greater(x, day);
+        let within = z <= c;
+        put(queue, end, v);
+        end += wide(one(within & fresh & (x == c)));
+        moved = moved + one(within);
         let seen = note(z, fresh, c, count, above, more);
         count = seen.count;
         above = seen.above;
         more = seen.more;
-        let within = z <= c;
-        moved = moved + one(within);
-        put(queue, end, v);
-        end += wide(one(within & fresh & (x == c)));
     }
     Harvest {
         count: count,
