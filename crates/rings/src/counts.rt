@@ -1,6 +1,6 @@
 // Day counts: how many rows have each day as their time. Listing keeps them up as times rise; 1,025 numbers, by day.
 ghost use mathlib.Core.Path.{_≡_};
-ghost use mathlib.Core.Bool.{true};
+ghost use mathlib.Core.Bool.{true, false};
 ghost use Prim.Native.Nat.{_+_, _≤_, _<_};
 ghost use lib.ListN.{length, getD};
 ghost use Rattle.rings.specs.CoreTimes.{never};
@@ -65,7 +65,7 @@ pub fn pay_counts(counting: bool, counts: &mut [u16], time: u16, m: u16)
 // Where days are counted: m rows go from one day to another time.
 pub fn move_counts(counting: bool, counts: &mut [u16], old: u16, new: u16, m: u16)
     requires { ⌜ (counting ≡ true → (length (now counts) ≡ 1025) × (old < 1025) × (m ≤ getD (now counts) old 0) × ((new ≡ never → ⊥) → (new < 1025) × (getD (now counts) new 0 + m < 65536))) ⌝ }
-    ensures { λ _. ⌜ (counting ≡ true → Moving m old new (now (counts .entry)) (now (counts .exit))) ⌝ }
+    ensures { λ _. ⌜ (counting ≡ true → Moving m old new (now (counts .entry)) (now (counts .exit))) × (counting ≡ false → now (counts .exit) ≡ now (counts .entry)) ⌝ }
 {
     if !counting {
         return;

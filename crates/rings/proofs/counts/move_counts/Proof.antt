@@ -1,10 +1,8 @@
-use lib.ListN.{length-set}
-use mathlib.Core.Path.{_∙_}
 use Rattle.rings.proofs.CountingLaws.{moving-room, moving-made}
 use Rattle.rings.proofs.WordLaws.{clash}
 use borrow.Author.Tests.{not-true, not-false}
-use lib.ListN.{getD, set}
-use mathlib.Core.Path.{sym, ap, subst}
+use lib.ListN.{getD, set, length-set}
+use mathlib.Core.Path.{refl, sym, _∙_, ap, subst}
 use native.Mathlib.Omega.{arith}
 use Prim.Native.Nat.{ℕ, _-_, _≤_}
 use borrow.Author.Needs.{needs}
@@ -17,7 +15,7 @@ use Rattle.rings.proofs.links.wide.Reads as wide-reads
 
 -- src/counts.rt:71:9
 returns : tie.Need-returns
-returns c = λ h. clash h (not-true _ (c .if1 .taken))
+returns c = (λ h. clash h (not-true _ (c .if1 .taken)), λ h. refl)
 
 -- src/counts.rt:73:9
 wide-requires : tie.Need-wide-requires
@@ -53,7 +51,7 @@ same-length c = c .before .before .add-count .kept .0 ∙ length-set (c .before 
 
 -- src/counts.rt:66:1
 returns-2 : tie.Need-returns-2
-returns-2 c = λ h. moving-made _ _ _ (c .before .before .before .before .before .before .before .before .args .counts .now) _ ((c .before .before .before .before .before .before .before .before .pre (not-false _ (c .before .before .before .before .before .before .if1 .left))) .0) ((c .before .before .before .before .before .before .before .before .pre (not-false _ (c .before .before .before .before .before .before .if1 .left))) .1) ((c .before .before .before .before .before .before .before .before .pre (not-false _ (c .before .before .before .before .before .before .if1 .left))) .2) (ap (λ (i : ℕ). set (c .before .before .before .before .before .before .before .before .args .counts .now) i (getD (c .before .before .before .before .before .before .before .before .args .counts .now) i 0 - c .before .before .before .before .before .before .before .before .args .m)) (c .before .before .before .before .before .wide .ensures)) (c .before .before .add-count .ensures)
+returns-2 c = (λ h. moving-made _ _ _ (c .before .before .before .before .before .before .before .before .args .counts .now) _ ((c .before .before .before .before .before .before .before .before .pre (not-false _ (c .before .before .before .before .before .before .if1 .left))) .0) ((c .before .before .before .before .before .before .before .before .pre (not-false _ (c .before .before .before .before .before .before .if1 .left))) .1) ((c .before .before .before .before .before .before .before .before .pre (not-false _ (c .before .before .before .before .before .before .if1 .left))) .2) (ap (λ (i : ℕ). set (c .before .before .before .before .before .before .before .before .args .counts .now) i (getD (c .before .before .before .before .before .before .before .before .args .counts .now) i 0 - c .before .before .before .before .before .before .before .before .args .m)) (c .before .before .before .before .before .wide .ensures)) (c .before .before .add-count .ensures), λ h. clash (not-false _ (c .before .before .before .before .before .before .if1 .left)) h)
 
 pub move-counts-spec : {M : Type 1} → statement M
 move-counts-spec =
