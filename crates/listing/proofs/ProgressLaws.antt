@@ -35,13 +35,13 @@ use Rattle.rings.specs.declared.refusal.Verdict.{Verdict}
 use Rattle.rings.specs.declared.refusal.Verdict.the-variants.{Accepted, Refused}
 use Rattle.rings.proofs.WordLaws.{look, and-r, count-none, count-pos}
 use Rattle.rings.proofs.CoreTimeLaws.{row-time, row-past, row-later}
-use Rattle.rings.proofs.CallLaws.{shared, scratch-kept}
+use Rattle.rings.proofs.AcceptedLaws.{shared, scratch-kept}
 use Rattle.listing.specs.Tight.{tight}
 use Rattle.listing.specs.Listing.{ListedRing, entryOf, listing, rowSum}
 use Rattle.listing.specs.ListingCall.{listingChecks, summed, listingAnswer, ringColumn, listingStarts, listingEnds, listingRows, listingScratch}
 use Rattle.listing.specs.LongestList.{longest, daysOf}
-use Rattle.listing.specs.Inner.{startEntries, restFrom, Earliest, sumOf, countEntries, Uncounted, FirstCounted, Entering, columnOf, Progress}
-use Rattle.rings.specs.Inner.Counting.{Timed}
+use Rattle.listing.specs.Inner.{startEntries, restFrom, sumOf, countEntries, Uncounted, FirstCounted, Entering, columnOf, Progress}
+use Rattle.rings.specs.Starts.{CountsAt, Earliest}
 use Rattle.listing.specs.declared.Listed.{Listed}
 use Rattle.listing.proofs.CountLaws.{listing-most}
 use Rattle.listing.proofs.StartLaws.{listed-no, entries-are}
@@ -230,7 +230,7 @@ unfolding countEntries
 ends-end xs least s te e total h rest P = let m : te + 1 - e ≡ 0 = omega arith in progress-as (ap (λ (d : ℕ). countEntries xs least s e total d ++ rest) m) P
 
 -- the entries of a start, as the counts of its core times say
-pub start-as : (t : Table) (q : Query) (hi s : ℕ) → hi ≤ 1024 → s ≤ hi → {xs : List ℕ} → Timed t q hi s (size t) xs → {least : ℕ} → Earliest t q hi s least → {room n sum : ℕ} {goal : List ListedRing} (rest : List ListedRing) {x y z u v w : List ℕ}
+pub start-as : (t : Table) (q : Query) (hi s : ℕ) → hi ≤ 1024 → s ≤ hi → {xs : List ℕ} → CountsAt t q hi s xs → {least : ℕ} → Earliest t q hi s least → {room n sum : ℕ} {goal : List ListedRing} (rest : List ListedRing) {x y z u v w : List ℕ}
     → Progress room goal (startEntries t q hi s ++ rest) n sum x y z u v w → Progress room goal (countEntries xs least s s 0 (hi + 1 - s) ++ rest) n sum x y z u v w
 start-as t q hi s top o T E rest P = progress-as (ap (λ (ls : List ListedRing). ls ++ rest) (sym (entries-are t q hi s top T E o))) P
 
@@ -284,7 +284,7 @@ module _ (t : Table) (q : Query) where
   pub from-next : {hi s low : ℕ} → hi ≤ 1024 → TimesFrom hi s low → TimesFrom hi (s + 1) low
   from-next top F = record { each = λ j. le-trans (F .each j) (row-later t q _ (omega arith) (omega arith) j) }
 
-  module _ (hi s : ℕ) (top : hi ≤ 1024) {xs : List ℕ} (T : Timed t q hi s (size t) xs) where
+  module _ (hi s : ℕ) (top : hi ≤ 1024) {xs : List ℕ} (T : CountsAt t q hi s xs) where
     -- a day is counted if and only if it is a row's core time
     time-counted : (j : ℕ) → rowTime t q hi s j < 1025 → getD xs (rowTime t q hi s j) 0 ≡ 0 → ⊥
     time-counted j l z =
@@ -316,7 +316,7 @@ module _ (t : Table) (q : Query) where
     quiet-start : s ≤ hi → startEntries t q hi s ≡ []
     quiet-start o = sym (entries-are t q hi s top counts least o) ∙ none-listed (replicate 1025 0) never s s 0 (hi + 1 - s) (omega arith)
       where
-        counts : Timed t q hi s (size t) (replicate 1025 0)
+        counts : CountsAt t q hi s (replicate 1025 0)
         counts = record { long = length-replicate {A = ℕ} 1025 0; each = λ e h. getD-replicate {A = ℕ} 1025 e 0 0 h ∙ sym (count-none (λ j. eqb (rowTime t q hi s j) e) (size t) (λ j l. ne-eqb (rowTime t q hi s j) e (λ y. let n = quiet j in omega arith))) }
 
         least : Earliest t q hi s never

@@ -1,31 +1,29 @@
 -- The entries of one start, from its core times (src/list.rt).
---     Least, least-start, least-next, least-end     the least core time of the rows dated s: `first_time`
 --     listed-no, listed-by, listed-is      the two tests of `is_listed`: they say that [s, e] is tight
 --     entries-are, sum-small   the counts give the entries of the start; they sum up to no more than the rows
 -- Assumes nothing.
-use Prim.Native.Nat.{ℕ, zero, suc, min, _+_, _-_, _≤_, _<_, zero-le}
+use Prim.Native.Nat.{ℕ, zero, suc, _+_, _-_, _≤_, _<_, zero-le}
 use native.Mathlib.Nat.{le-refl, eq-or-lt-of-le}
 use native.Mathlib.Omega.{arith}
 use mathlib.Core.Path.{_≡_, refl, sym, _∙_, ap}
 use mathlib.Core.Logic.{_⊎_, ⊎-elim}
 use mathlib.Core.Bool.{Bool, true, false}
 use mathlib.Core.List.{List, map}
-use lib.ListN.{length, getD}
+use lib.ListN.{getD}
 use lib.Dec.{leb, ltb, eqb}
 use borrow.Author.Tests.{ltb-true, ltb-false, leb-true, leb-false, eqb-true, lt-ltb, le-ltb, le-leb, lt-leb, eq-eqb, ne-eqb}
 use Rattle.rings.specs.Words.{_and_, at, count, run, kept, chosen}
-use Rattle.rings.specs.Table.{Table, tableOf, size, dayOf}
+use Rattle.rings.specs.Table.{Table, size}
 use Rattle.rings.specs.Ring.{ring, members}
-use Rattle.rings.specs.CoreTimes.{never, rowTime}
+use Rattle.rings.specs.CoreTimes.{rowTime}
 use Rattle.rings.specs.Windows.{Window, windowsFrom}
-use Rattle.rings.specs.Inner.Peeling.{Season, Framed, Split, query}
-use Rattle.rings.specs.Inner.Counting.{Timed}
+use Rattle.rings.specs.Starts.{Earliest, CountsAt}
 use Rattle.rings.specs.declared.Query.{Query}
 use Rattle.rings.proofs.WordLaws.{look, and-i, and-l, and-r, same-truth, tally-yes, tally-no, count-le, count-same, count-none, count-pos, count-some}
 use Rattle.rings.proofs.CoreTimeLaws.{row-time, row-past, ring-size}
 use Rattle.listing.specs.Tight.{tight}
 use Rattle.listing.specs.Listing.{ListedRing, entryOf}
-use Rattle.listing.specs.Inner.{startEntries, DatedTime, Earliest, sumOf, countEntries}
+use Rattle.listing.specs.Inner.{startEntries, sumOf, countEntries}
 use Rattle.listing.proofs.TightLaws.{tight-times, times-tight}
 
 one-more : (p : ℕ → Bool) (n : ℕ) → p n ≡ true → count p (suc n) ≡ suc (count p n)
@@ -35,49 +33,6 @@ one-more p n h = tally-yes (count p n) h
 no-more : (p : ℕ → Bool) (n : ℕ) → p n ≡ false → count p (suc n) ≡ count p n
 unfolding count
 no-more p n h = tally-no (count p n) h
-
--- ---- the least core time of the rows dated s
-
-pub record Least (f : ℕ → ℕ) (lo j r : ℕ) : Type 0 where
-  pub top : r ≤ never
-  pub lower : (i : ℕ) → lo ≤ i → i < j → r ≤ f i
-  pub reached : (r ≡ never) ⊎ ((i : ℕ) × (lo ≤ i) × (i < j) × (f i ≡ r))
-
-pub least-start : (f : ℕ → ℕ) (lo : ℕ) → Least f lo lo never
-least-start f lo = record { top = le-refl never; lower = λ i a b. absurd (omega arith); reached = _⊎_.inl refl }
-
-pub least-next : {f : ℕ → ℕ} {lo j r time r′ : ℕ} → lo ≤ j → Least f lo j r → time ≡ f j → r′ ≡ min r time → Least f lo (j + 1) r′
-least-next {f} {lo} {j} {r} {time} {r′} o L et er =
-    record { top = let a = L .top in omega arith; lower = λ i a b. ⊎-elim (λ y. let z : f i ≡ f j = ap f y in omega arith) (λ l. let z = L .lower i a l in omega arith) (eq-or-lt-of-le (omega arith)); reached = which (look (leb r time)) }
-  where
-    old : r′ ≡ r → (r ≡ never) ⊎ ((i : ℕ) × (lo ≤ i) × (i < j) × (f i ≡ r)) → (r′ ≡ never) ⊎ ((i : ℕ) × (lo ≤ i) × (i < j + 1) × (f i ≡ r′))
-    old e (_⊎_.inl n) = _⊎_.inl (e ∙ n)
-    old e (_⊎_.inr w) = let a = w .2 in _⊎_.inr (w .0, w .1, omega arith, w .3 ∙ sym e)
-
-    which : (leb r time ≡ true) ⊎ (leb r time ≡ false) → (r′ ≡ never) ⊎ ((i : ℕ) × (lo ≤ i) × (i < j + 1) × (f i ≡ r′))
-    which (_⊎_.inl y) = let a = leb-true r time y in old (omega arith) (L .reached)
-    which (_⊎_.inr y) = let a = leb-false r time y in _⊎_.inr (j, o, omega arith, omega arith)
-
-pub least-end : {d f s : List ℕ} {p : Season} {j next r : ℕ} → Framed d f s p → Split d (p .start + 1) next → j ≤ next → next ≤ j → Least (rowTime (tableOf d f s) (query (p .k)) (p .end) (p .start)) (p .lo) j r → Earliest (tableOf d f s) (query (p .k)) (p .end) (p .start) r
-unfolding dayOf at
-least-end {d} {f} {s} {p} {j} {next} {r} R N a b L = record { lower = lower; reached = reach (L .reached) }
-  where
-    lower : (i : ℕ) → getD d i 0 ≡ p .start → r ≤ rowTime (tableOf d f s) (query (p .k)) (p .end) (p .start) i
-    lower i e =
-        ⊎-elim (λ y. let z = row-past (tableOf d f s) (query (p .k)) (p .end) (p .start) i (leb-true (length d) i y) in let w = L .top in omega arith)
-        (λ y.
-        let k = leb-false (length d) i y in
-        ⊎-elim (λ x. let z = R .setting .before-lo i (ltb-true i (p .lo) x) in absurd (omega arith))
-        (λ x. ⊎-elim (λ v. let z = N .after i (leb-true next i v) k in absurd (omega arith)) (λ v. let g = leb-false next i v in L .lower i (ltb-false i (p .lo) x) (omega arith)) (look (leb next i))) (look (ltb i (p .lo)))) (look (leb (length d) i))
-
-    reach : (r ≡ never) ⊎ ((i : ℕ) × (p .lo ≤ i) × (i < j) × (rowTime (tableOf d f s) (query (p .k)) (p .end) (p .start) i ≡ r)) → (r ≡ never) ⊎ DatedTime (tableOf d f s) (query (p .k)) (p .end) (p .start) r
-    reach (_⊎_.inl n) = _⊎_.inl n
-    reach (_⊎_.inr w) =
-        let l : w .0 < next = let y = w .2 in omega arith in
-        let z = N .before (w .0) l in
-        let v = R .setting .from-lo (w .0) (let g = N .within in omega arith) (w .1) in
-        let e : getD d (w .0) 0 ≡ p .start = omega arith in
-        _⊎_.inr (record { row = w .0; dated = e; time-is = w .3 })
 
 -- ---- the ends of a start
 
@@ -109,7 +64,7 @@ module _ (f : ℕ → ℕ) where
       count-same (λ j. ltb (f j) (suc e)) (λ j. leb (f j) e) n
       (λ j l. same-truth (ltb (f j) (suc e)) (leb (f j) e) (λ y. let k = ltb-true (f j) (suc e) y in le-leb (f j) e (omega arith)) (λ y. let k = leb-true (f j) e y in lt-ltb (f j) (suc e) (omega arith)))
 
-module _ (t : Table) (q : Query) (hi s : ℕ) (top : hi ≤ 1024) {xs : List ℕ} (T : Timed t q hi s (size t) xs) where
+module _ (t : Table) (q : Query) (hi s : ℕ) (top : hi ≤ 1024) {xs : List ℕ} (T : CountsAt t q hi s xs) where
   abbrev time : ℕ → ℕ
   time j = rowTime t q hi s j
 

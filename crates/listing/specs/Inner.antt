@@ -1,7 +1,6 @@
 -- What the steps of Listing promise (src/list.rt).
 --     startEntries t q hi s    the entries that start on s
 --     restFrom t q hi s        the entries that start on s or later
---     Earliest t q hi s r      r is the least core time at s of the rows dated s, never if none has one
 --     sumOf xs e m             the sum of xs from e on, m numbers
 --     countEntries xs least s e total m    the entries of start s with an end from e on, m days, as the counts xs say; total rows have earlier core times
 --     Uncounted xs s low       no day from s on is counted in xs before low
@@ -29,15 +28,6 @@ startEntries t q hi s = map (entryOf t q) (chosen (λ w. tight t q (w .start) (w
 
 unfoldable pub restFrom : Table → Query → ℕ → ℕ → List ListedRing
 restFrom t q hi s = joined (run (startEntries t q hi) s (suc hi - s))
-
-pub record DatedTime (t : Table) (q : Query) (hi s r : ℕ) : Type 0 where
-  pub row : ℕ
-  pub dated : dayOf t row ≡ s
-  pub time-is : rowTime t q hi s row ≡ r
-
-pub record Earliest (t : Table) (q : Query) (hi s r : ℕ) : Type 0 where
-  pub lower : (j : ℕ) → dayOf t j ≡ s → r ≤ rowTime t q hi s j
-  pub reached : (r ≡ never) ⊎ DatedTime t q hi s r
 
 unfoldable pub sumOf : List ℕ → ℕ → ℕ → ℕ
 sumOf xs e zero = 0

@@ -1,8 +1,8 @@
 // The listing of a range's rings, the longest list there can be, and the listing as text.
 
-pub mod list;
-pub mod longest;
-pub mod program;
+mod list;
+mod longest;
+mod program;
 
 pub use list::list_rings;
 pub use longest::longest_list;

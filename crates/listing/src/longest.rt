@@ -1035,7 +1035,7 @@ const LONGEST: [u32; 1025] = [
 ];
 
 // The most rings of n days.
-pub fn most(n: usize) -> u32
+pub(crate) fn most(n: usize) -> u32
     requires { ⌜ n < 1025 ⌝ }
     ensures { λ r. ⌜ r ≡ longest n ⌝ }
 {

@@ -25,7 +25,7 @@ use borrow.Author.Tests.{leb-true, leb-false, eqb-true, eqb-false}
 use Rattle.rings.specs.Words.{_and_, at}
 use Rattle.rings.specs.Table.{Table, tableOf, size, dayOf, firstOf, secondOf}
 use Rattle.rings.specs.Ring.{touches}
-use Rattle.rings.specs.Inner.Sound.{Sound}
+use Rattle.rings.specs.Sound.{Sound}
 use Rattle.rings.specs.Inner.Links.{pickOther, otherOf, rank, placeOf, fresh, Pairs, Linked, Ahead}
 use Rattle.rings.proofs.WordLaws.{look}
 use Rattle.rings.proofs.RingLaws.{touch-cases}

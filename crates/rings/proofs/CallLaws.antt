@@ -1,8 +1,6 @@
 -- The answers of the calls, from what the checks and the work return.
---     scratch-kept             a refusal of the shared checks keeps the scratch
 --     ring-refused, ring-done      Window ring
 --     times-refused, times-done    Core times
---     then-room                a check behind the shared ones
 --     windows-full, windows-found, windows-refused, windows-done    Minimal windows
 -- Assumes nothing.
 use Prim.Native.Nat.{ℕ, _≤_, _<_}
@@ -31,19 +29,9 @@ use Rattle.rings.specs.declared.refusal.Refusal.the-variants.{BadWindow,
 use Rattle.rings.specs.declared.refusal.Verdict.{Verdict}
 use Rattle.rings.specs.declared.refusal.Verdict.the-variants.{Accepted, Refused}
 use Rattle.rings.specs.declared.refusal.Counted.{Counted}
-use Rattle.rings.proofs.CheckLaws.{front-call, then-refused, then-accepted, counted-yes, counted-no}
+use Rattle.rings.proofs.CheckLaws.{then-refused, then-accepted, counted-yes, counted-no}
+use Rattle.rings.proofs.AcceptedLaws.{shared, scratch-kept, then-room}
 use Rattle.rings.proofs.PlaceLaws.{list-length}
-
--- the shared checks
-abbrev pub shared : Table → Query → Bool → Bool → ℕ → Verdict
-shared t q window lengths scratch = tableCheck t then queryCheck q then BadWindow when no window then BadLengths when no lengths then scratchCheck (length (t .days)) scratch
-
-scratch-on : (r : Refusal) (sc : List ℕ) → behindScratch r ≡ false → sc ≡ scratchOn r sc
-unfolding scratchOn clearedIf
-scratch-on r sc h = rw h
-
-pub scratch-kept : (t : Table) (q : Query) (window lengths : Bool) (n : ℕ) {r : Refusal} (sc : List ℕ) → shared t q window lengths n ≡ Refused r → sc ≡ scratchOn r sc
-scratch-kept t q window lengths n {r} sc e = scratch-on r sc (front-call t q window lengths (length (t .days)) n .keeps r e)
 
 -- ---- Window ring
 
@@ -78,27 +66,6 @@ module _ (t : Table) (q : Query) (lo hi s : ℕ) (a r sc : List ℕ) {window len
       → (Accepted ≡ timesAnswer t q lo hi s (length a) (length r) (length sc)) × ((a′ ≡ accountColumn Accepted t q hi s a) × ((r′ ≡ rowColumn Accepted t q hi s r) × (sc′ ≡ verdictScratch Accepted sc)))
   unfolding accountColumn rowColumn verdictScratch cleared
   times-done h ea er es = (sym (times-checks ∙ h), (ea, (er, es)))
-
--- ---- a check behind the shared ones
-
-then-assoc : (v w x : Verdict) → (v then w) then x ≡ v then (w then x)
-unfolding _then_
-then-assoc Accepted w x = refl
-then-assoc (Refused r) w x = refl
-
-pub then-room : (t : Table) (q : Query) (window lengths : Bool) (n : ℕ) (w : Verdict) → shared t q window lengths n then w ≡ (tableCheck t then queryCheck q then BadWindow when no window then BadLengths when no lengths then scratchCheck (length (t .days)) n then w)
-then-room t q window lengths n w =
-    then-assoc (tableCheck t) (queryCheck q then b then c then d) w
-    ∙ ap (λ (v : Verdict). tableCheck t then v) (then-assoc (queryCheck q) (b then c then d) w ∙ ap (λ (v : Verdict). queryCheck q then v) (then-assoc b (c then d) w ∙ ap (λ (v : Verdict). b then v) (then-assoc c d w)))
-  where
-    b : Verdict
-    b = BadWindow when no window
-
-    c : Verdict
-    c = BadLengths when no lengths
-
-    d : Verdict
-    d = scratchCheck (length (t .days)) n
 
 -- ---- Minimal windows
 

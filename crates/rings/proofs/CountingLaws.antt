@@ -22,7 +22,8 @@ use borrow.Author.Tests.{eq-eqb, ne-eqb, leb-true, leb-false, le-leb}
 use Rattle.rings.specs.Words.{_and_, count}
 use Rattle.rings.specs.Table.{Table, tableOf, dayOf, firstOf, secondOf, inWindow}
 use Rattle.rings.specs.CoreTimes.{never, accountTime, rowTime}
-use Rattle.rings.specs.Inner.Peeling.{Setting, query, season, guess, CoreTimesAre}
+use Rattle.rings.specs.Ring.{query}
+use Rattle.rings.specs.Inner.Peeling.{Setting, season, guess, CoreTimesAre}
 use Rattle.rings.specs.Inner.Counting.{timeBy, IsTime, Histogram, owed, Owing, Adding, Removing, Taking, Moving}
 use Rattle.rings.proofs.WordLaws.{look, and-i, and-l, and-r, tally-yes, tally-no, count-le, count-mono, count-same, count-none, count-pos, same-or}
 use Rattle.rings.specs.declared.Query.{Query}

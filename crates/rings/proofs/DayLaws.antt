@@ -15,10 +15,11 @@ use lib.ListN.{length, getD}
 use lib.Dec.{leb}
 use borrow.Author.Tests.{leb-true, leb-false}
 use Rattle.rings.specs.Words.{at}
-use Rattle.rings.specs.Table.{Table, tableOf, dayOf, firstOf, secondOf}
-use Rattle.rings.specs.Inner.Sound.{Sound}
+use Rattle.rings.specs.Table.{Table, tableOf, dayOf, firstOf, secondOf, Split}
+use Rattle.rings.specs.Sound.{Sound}
 use Rattle.rings.specs.Inner.Links.{Linked, Paired, Shelves}
-use Rattle.rings.specs.Inner.Peeling.{Setting, Season, Ready, Framed, Placed, Open, season, query, Split, Span}
+use Rattle.rings.specs.Ring.{query}
+use Rattle.rings.specs.Inner.Peeling.{Setting, Season, Ready, Framed, Placed, Open, season, Span}
 use Rattle.rings.proofs.WordLaws.{look}
 
 pub record Scan (d : List ℕ) (day r : ℕ) : Type 0 where

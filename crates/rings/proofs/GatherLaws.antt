@@ -19,10 +19,10 @@ use lib.Dec.{leb, eqb}
 use borrow.Author.Tests.{leb-true, leb-false, eq-eqb, le-leb}
 use Rattle.rings.specs.Words.{_and_, at, count}
 use Rattle.rings.specs.Table.{Table, tableOf, size, dayOf}
-use Rattle.rings.specs.Ring.{touches}
+use Rattle.rings.specs.Ring.{touches, query}
 use Rattle.rings.specs.CoreTimes.{never}
 use Rattle.rings.specs.Inner.Links.{pickOther, otherOf, fresh, Reading, Every}
-use Rattle.rings.specs.Inner.Peeling.{Setting, Season, Open, Place, query, guess}
+use Rattle.rings.specs.Inner.Peeling.{Setting, Season, Open, Place, guess}
 use Rattle.rings.specs.Inner.Settling.{value, moving, Days, Seen, Noting, Behind, Gathered, Losing, Fewer, Lessened, Queued}
 use Rattle.rings.specs.declared.Query.{Query}
 use Rattle.rings.proofs.WordLaws.{look, and-i, and-l, and-r, count-le, count-none, tally-yes, tally-no, same-or}

@@ -18,11 +18,10 @@ use lib.Seq.{getD-set-same, getD-set-other}
 use lib.Dec.{leb}
 use borrow.Author.Tests.{leb-true, leb-false}
 use Rattle.rings.specs.Words.{at}
-use Rattle.rings.specs.Table.{Table, tableOf, size, dayOf, firstOf, secondOf}
+use Rattle.rings.specs.Table.{Table, tableOf, size, dayOf, firstOf, secondOf, Split}
 use Rattle.rings.specs.Ring.{touches}
-use Rattle.rings.specs.Inner.Sound.{Sound}
+use Rattle.rings.specs.Sound.{Sound}
 use Rattle.rings.specs.Inner.Links.{rank, placeOf, Book, Head, Linked, Ahead}
-use Rattle.rings.specs.Inner.Peeling.{Split}
 use Rattle.rings.proofs.WordLaws.{look, same-or}
 use Rattle.rings.proofs.RingLaws.{touch-first, touch-second}
 use Rattle.rings.proofs.LinkLaws.{rank-less, places-most, place-step, entry-below}

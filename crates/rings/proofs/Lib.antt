@@ -7,6 +7,7 @@ pub mod FixpointLaws
 pub mod WindowLaws
 pub mod CheckLaws
 pub mod TableLaws
+pub mod AcceptedLaws
 pub mod PairLaws
 pub mod LinkLaws
 pub mod SlotLaws
@@ -36,4 +37,5 @@ pub mod CountingLaws
 pub mod ShiftLaws
 pub mod PassLaws
 pub mod ArchiveLaws
+pub mod StartsLaws
 pub mod Demand2

@@ -19,11 +19,11 @@ use lib.Dec.{leb, ltb, eqb}
 use borrow.Author.Tests.{leb-true, leb-false, ltb-true, ltb-false, eqb-true, le-leb}
 use Rattle.rings.specs.Words.{_and_, at, tally, count}
 use Rattle.rings.specs.Table.{Table, tableOf, size, dayOf}
-use Rattle.rings.specs.Ring.{joins, names, touches}
+use Rattle.rings.specs.Ring.{joins, names, touches, query}
 use Rattle.rings.specs.CoreTimes.{never}
 use Rattle.rings.specs.Inner.Links.{pickOther, otherOf, fresh, Reading, Every}
 use Rattle.rings.specs.Inner.Support.{supports, supporters}
-use Rattle.rings.specs.Inner.Peeling.{Setting, Season, Open, query, guess}
+use Rattle.rings.specs.Inner.Peeling.{Setting, Season, Open, guess}
 use Rattle.rings.specs.Inner.Settling.{value, backing, backers, Days, Seen, Noting, Glanced, Short, Spared, Looked}
 use Rattle.rings.specs.declared.Query.{Query}
 use Rattle.rings.proofs.WordLaws.{look, clash, and-i, and-l, and-r, count-mono, count-none, tally-yes, tally-no}

@@ -2,7 +2,6 @@
 --     is-zero, not-zero        an entry read through a column
 --     Marking, mark-yes, mark-no, mark-end     the loop that marks rows and counts them
 --     stays-ring               who stays is in the ring of the window
---     call-sound, call-k, call-window, call-lengths, call-scratch     what an accepted call says
 -- Assumes nothing.
 use Prim.Native.Nat.{ℕ, _+_, _*_, _≤_, _<_}
 use native.Mathlib.Nat.{eq-or-lt-of-le, not-suc-le-zero}
@@ -18,20 +17,12 @@ use lib.Dec.{leb, ltb, eqb}
 use borrow.Author.Tests.{leb-true, ltb-false, eqb-true, eq-eqb, ne-eqb}
 use Rattle.rings.specs.Words.{_and_, no, at, marked, count}
 use Rattle.rings.specs.Table.{Table, tableOf, dayOf, firstOf, secondOf}
-use Rattle.rings.specs.Ring.{ring, members}
+use Rattle.rings.specs.Ring.{ring, members, query}
 use Rattle.rings.specs.CoreTimes.{never}
-use Rattle.rings.specs.TableCheck.{tableCheck}
-use Rattle.rings.specs.Checks.{_when_, _then_, queryCheck, scratchCheck}
 use Rattle.rings.specs.Buffers.{mark, marks}
-use Rattle.rings.specs.Inner.Sound.{Sound}
-use Rattle.rings.specs.Inner.Peeling.{query, Season, Falling, Ready, Span}
-use Rattle.rings.specs.declared.Query.{Query}
-use Rattle.rings.specs.declared.refusal.Refusal.the-variants.{BadK, BadWindow, BadLengths, SmallScratch}
-use Rattle.rings.specs.declared.refusal.Verdict.{Verdict}
-use Rattle.rings.specs.declared.refusal.Verdict.the-variants.{Accepted}
+use Rattle.rings.specs.Sound.{Sound}
+use Rattle.rings.specs.Inner.Peeling.{Season, Falling, Ready, Span}
 use Rattle.rings.proofs.WordLaws.{look, clash, and-i, and-l, and-r, no-i, same-truth, tally-yes, tally-no}
-use Rattle.rings.proofs.CheckLaws.{accepted-left, accepted-right, when-accepted}
-use Rattle.rings.proofs.TableLaws.{table-sound}
 use Rattle.rings.proofs.RingLaws.{Inside, in-marked, marked-in, two-met, met-first, met-second}
 use Rattle.rings.proofs.FallLaws.{fell-look, stays-met, fell-not}
 
@@ -133,69 +124,3 @@ module _ (d f s links : List ℕ) (q : Season) (R : Ready d f s links q) {end ta
           marked-in (tableOf d f s) (query (q .k)) (q .start) (q .end) j
           (two-met (tableOf d f s) (query (q .k)) (q .start) (q .end) j (inside from to)
           (m (getD f j 0) rank-a (eqb-true (getD x (getD f j 0) 0) 0 (and-l za zb h))) (m (getD s j 0) rank-b (eqb-true (getD x (getD s j 0) 0) 0 (and-r za zb h))))
-
--- ---- what an accepted call says
-
-module _ (d f s : List ℕ) (q : Query) (window lengths : Bool) (scratch : ℕ)
-    (e : tableCheck (tableOf d f s) then queryCheck q then BadWindow when no window then BadLengths when no lengths then scratchCheck (length d) scratch ≡ Accepted) where
-  rest₁ : Verdict
-  rest₁ = BadWindow when no window then BadLengths when no lengths then scratchCheck (length d) scratch
-
-  rest₂ : Verdict
-  rest₂ = BadLengths when no lengths then scratchCheck (length d) scratch
-
-  abbrev after₁ : Verdict
-  after₁ = queryCheck q then BadWindow when no window then BadLengths when no lengths then scratchCheck (length d) scratch
-
-  pub call-sound : Sound d f s
-  call-sound = table-sound d f s (accepted-left (tableCheck (tableOf d f s)) after₁ e)
-
-  e₁ : after₁ ≡ Accepted
-  e₁ = accepted-right (tableCheck (tableOf d f s)) after₁ e
-
-  not-no : (b : Bool) → no b ≡ false → b ≡ true
-  not-no b h = ⊎-elim (λ y. y) (λ y. clash (no-i y) h) (look b)
-
-  pub call-k : (1 ≤ q .k) × (q .k ≤ 4095)
-  unfolding queryCheck rest₁
-  call-k =
-      let h = not-no (leb 1 (q .k) and leb (q .k) 4095) (when-accepted BadK (no (leb 1 (q .k) and leb (q .k) 4095)) (accepted-left (queryCheck q) rest₁ e₁)) in
-      (leb-true 1 (q .k) (and-l (leb 1 (q .k)) (leb (q .k) 4095) h), leb-true (q .k) 4095 (and-r (leb 1 (q .k)) (leb (q .k) 4095) h))
-
-  e₂ : BadWindow when no window then BadLengths when no lengths then scratchCheck (length d) scratch ≡ Accepted
-  unfolding rest₁
-  e₂ = accepted-right (queryCheck q) rest₁ e₁
-
-  pub call-window : window ≡ true
-  unfolding rest₂
-  call-window = not-no window (when-accepted BadWindow (no window) (accepted-left (BadWindow when no window) rest₂ e₂))
-
-  e₃ : BadLengths when no lengths then scratchCheck (length d) scratch ≡ Accepted
-  unfolding rest₂
-  e₃ = accepted-right (BadWindow when no window) rest₂ e₂
-
-  pub call-lengths : lengths ≡ true
-  call-lengths = not-no lengths (when-accepted BadLengths (no lengths) (accepted-left (BadLengths when no lengths) (scratchCheck (length d) scratch) e₃))
-
-  pub call-scratch : 8192 + 4 * length d ≤ scratch
-  unfolding scratchCheck
-  call-scratch = ltb-false scratch (8192 + 4 * length d) (when-accepted SmallScratch (ltb scratch (8192 + 4 * length d)) (accepted-right (BadLengths when no lengths) (scratchCheck (length d) scratch) e₃))
-
--- a window that passed
-pub window-e : (s e : ℕ) {b : Bool} → b ≡ (leb 1 s and leb s e and leb e 1024) → b ≡ true → (1 ≤ s) × (s ≤ e) × (e ≤ 1024)
-window-e s e h y =
-    let g = sym h ∙ y in
-    let g₂ = and-r (leb 1 s) (leb s e and leb e 1024) g in
-    (leb-true 1 s (and-l (leb 1 s) (leb s e and leb e 1024) g), leb-true s e (and-l (leb s e) (leb e 1024) g₂), leb-true e 1024 (and-r (leb s e) (leb e 1024) g₂))
-
--- a start in its range
-pub start-e : (lo s hi : ℕ) {b : Bool} → b ≡ (leb 1 lo and leb lo s and leb s hi and leb hi 1024) → b ≡ true → (s ≤ hi) × (hi ≤ 1024)
-start-e lo s hi h y =
-    let g = sym h ∙ y in
-    let g₂ = and-r (leb 1 lo) (leb lo s and leb s hi and leb hi 1024) g in
-    let g₃ = and-r (leb lo s) (leb s hi and leb hi 1024) g₂ in
-    (leb-true s hi (and-l (leb s hi) (leb hi 1024) g₃), leb-true hi 1024 (and-r (leb s hi) (leb hi 1024) g₃))
-
--- two pairs of equal lengths
-pub lengths-e : (a b c d : ℕ) {y : Bool} → y ≡ (eqb a b and eqb c d) → y ≡ true → (a ≡ b) × (c ≡ d)
-lengths-e a b c d h y = let g = sym h ∙ y in (eqb-true a b (and-l (eqb a b) (eqb c d) g), eqb-true c d (and-r (eqb a b) (eqb c d) g))

@@ -23,11 +23,10 @@ use lib.Dec.{leb, ltb, eqb}
 use borrow.Author.Tests.{leb-true, leb-false, le-leb, ltb-true, ltb-false}
 use borrow.Rule.Slice.PartMut.{putMid, same-len-mid}
 use Rattle.rings.specs.Words.{_and_, _or_, at, marked, run}
-use Rattle.rings.specs.Table.{Table, tableOf, size, dayOf, firstOf, secondOf, windowRows}
+use Rattle.rings.specs.Table.{Table, tableOf, size, dayOf, firstOf, secondOf, windowRows, Split}
 use Rattle.rings.specs.Ring.{joins, neighbour, names, degree, touches, met, Good, Within, ring, members}
 use Rattle.rings.specs.Buffers.{mark, marks}
-use Rattle.rings.specs.Inner.Sound.{RowSound, Sound}
-use Rattle.rings.specs.Inner.Peeling.{Split}
+use Rattle.rings.specs.Sound.{RowSound, Sound}
 use Rattle.rings.specs.declared.Query.{Query}
 use Rattle.rings.proofs.WordLaws.{look, and-i, and-l, and-r, same-truth, marked-below, marked-run-e, marked-run-i}
 use Rattle.rings.proofs.RingLaws.{Inside, window-e, window-i, joins-touch, met-i, met-e, neighbour-i, neighbour-e, ring-sized, ring-within, ring-good, ring-holds}

@@ -21,12 +21,12 @@ use lib.Seq.{getD-set-same, getD-set-other, set-getD}
 use lib.Dec.{leb}
 use borrow.Author.Tests.{leb-true, leb-false}
 use Rattle.rings.specs.Words.{count}
-use Rattle.rings.specs.Table.{Table, tableOf, size, dayOf, firstOf, secondOf}
-use Rattle.rings.specs.Ring.{joins, names, touches, ring}
+use Rattle.rings.specs.Table.{Table, tableOf, size, dayOf, firstOf, secondOf, Split}
+use Rattle.rings.specs.Ring.{joins, names, touches, ring, query}
 use Rattle.rings.specs.CoreTimes.{never, accountTime}
 use Rattle.rings.specs.Inner.Links.{otherOf, fresh, Every, Covered}
 use Rattle.rings.specs.Inner.Support.{supports, supporters}
-use Rattle.rings.specs.Inner.Peeling.{Setting, season, query, guess, Place, Split, CoreTimesAre}
+use Rattle.rings.specs.Inner.Peeling.{Setting, season, guess, Place, CoreTimesAre}
 use Rattle.rings.specs.Inner.Settling.{backing, backers, moving, Days, Settling, Glanced, Behind, Gathered, Short, Spared, Least, Looked, Fewer, Lessened, Leaving, Queued, Waiting, Risen, Rising, Spare}
 use Rattle.rings.specs.Inner.Counting.{timeBy, Histogram, Moving, Raised}
 use Rattle.rings.specs.declared.Query.{Query}

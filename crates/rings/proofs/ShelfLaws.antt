@@ -22,7 +22,7 @@ use Rattle.rings.specs.Words.{_and_}
 use Rattle.rings.specs.Table.{Table, tableOf, size, dayOf}
 use Rattle.rings.specs.Ring.{touches}
 use Rattle.rings.specs.CoreTimes.{never}
-use Rattle.rings.specs.Inner.Sound.{Sound}
+use Rattle.rings.specs.Sound.{Sound}
 use Rattle.rings.specs.Inner.Links.{pickOther, otherOf, rank, placeOf, fresh, Linked, Shelf, Shelves, Stands, Reading, Every, Covered}
 use Rattle.rings.proofs.WordLaws.{look}
 use Rattle.rings.proofs.AlongLaws.{fresh-reads, fresh-place, row-ends, row-other}

@@ -17,11 +17,11 @@ use lib.Seq.{getD-set-same, getD-set-other}
 use lib.Dec.{ltb}
 use borrow.Author.Tests.{ltb-true, ltb-false, lt-ltb, le-ltb}
 use Rattle.rings.specs.Words.{at}
-use Rattle.rings.specs.Table.{Table, tableOf, size, dayOf, firstOf, secondOf, inWindow}
-use Rattle.rings.specs.Ring.{touches}
+use Rattle.rings.specs.Table.{Table, tableOf, size, dayOf, firstOf, secondOf, inWindow, Split}
+use Rattle.rings.specs.Ring.{touches, query}
 use Rattle.rings.specs.CoreTimes.{never, rowTime}
 use Rattle.rings.specs.Inner.Links.{otherOf}
-use Rattle.rings.specs.Inner.Peeling.{Setting, query, season, guess, Split, CoreTimesAre}
+use Rattle.rings.specs.Inner.Peeling.{Setting, season, guess, CoreTimesAre}
 use Rattle.rings.specs.Inner.Settling.{value, moving, Gathered}
 use Rattle.rings.specs.Inner.Counting.{timeBy, Histogram, Owing, Removing, Taking, Raised}
 use Rattle.rings.specs.declared.Query.{Query}

@@ -20,7 +20,7 @@ use borrow.Author.Tests.{leb-true, leb-false, eqb-true, eq-eqb, ne-eqb}
 use Rattle.rings.specs.Words.{at}
 use Rattle.rings.specs.Table.{Table, tableOf, firstOf, secondOf}
 use Rattle.rings.specs.Ring.{joins}
-use Rattle.rings.specs.Inner.Sound.{Sound}
+use Rattle.rings.specs.Sound.{Sound}
 use Rattle.rings.specs.Inner.Links.{pairBefore, earlier, slot, slotOf, slotBefore, Emptied, Chained, Pairing}
 use Rattle.rings.proofs.WordLaws.{look, clash, same-or}
 use Rattle.rings.proofs.RingLaws.{joins-cases}

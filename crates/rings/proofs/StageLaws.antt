@@ -14,10 +14,10 @@ use lib.Dec.{leb, ltb, eqb}
 use borrow.Author.Tests.{ltb-true, lt-ltb, eq-eqb, ne-eqb}
 use Rattle.rings.specs.Words.{_and_, no, at, count}
 use Rattle.rings.specs.Table.{Table, tableOf, dayOf, firstOf, secondOf}
-use Rattle.rings.specs.Ring.{touches}
+use Rattle.rings.specs.Ring.{touches, query}
 use Rattle.rings.specs.CoreTimes.{never}
 use Rattle.rings.specs.Inner.Links.{fresh}
-use Rattle.rings.specs.Inner.Peeling.{Lost, fallen, Season, Ready, query, Falling, Walking, Counted, Fade, Span, CoreTimesAre}
+use Rattle.rings.specs.Inner.Peeling.{Lost, fallen, Season, Ready, Falling, Walking, Counted, Fade, Span, CoreTimesAre}
 use Rattle.rings.proofs.WordLaws.{look, clash, and-i, and-l, and-r, no-i, no-e, same-truth, count-same, count-none, count-pos, count-le, same-or}
 use Rattle.rings.proofs.RingLaws.{touch-cases, touch-first, touch-second}
 use Rattle.rings.proofs.PairLaws.{count-drop}

@@ -16,7 +16,8 @@ use Rattle.rings.specs.Words.{_and_, at}
 use Rattle.rings.specs.Table.{Table, tableOf, dayOf}
 use Rattle.rings.specs.CoreTimes.{never}
 use Rattle.rings.specs.Inner.Links.{pickOther, otherOf, Reading, Every}
-use Rattle.rings.specs.Inner.Peeling.{query, Season, Open, guess}
+use Rattle.rings.specs.Ring.{query}
+use Rattle.rings.specs.Inner.Peeling.{Season, Open, guess}
 use Rattle.rings.specs.Inner.Settling.{Days, Losing, Lessened, Queued}
 use Rattle.rings.specs.Inner.Counting.{timeBy, Owing, Taking, Raised}
 use Rattle.rings.specs.declared.Query.{Query}

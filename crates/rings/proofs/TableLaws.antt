@@ -16,7 +16,7 @@ use lib.Dec.{leb, ltb, eqb}
 use borrow.Author.Tests.{leb-true, ltb-true, ltb-false, eqb-true}
 use Rattle.rings.specs.Words.{_and_, _or_, no, at, run}
 use Rattle.rings.specs.Table.{tableOf, dayOf, firstOf, secondOf}
-use Rattle.rings.specs.Inner.Sound.{Sound}
+use Rattle.rings.specs.Sound.{Sound}
 use Rattle.rings.specs.Checks.{_when_, _then_, inOrder}
 use Rattle.rings.specs.TableCheck.{dayBefore, rowFaults, rowCheck, tableCheck}
 use Rattle.rings.specs.declared.refusal.Refusal.{Refusal}

@@ -14,7 +14,8 @@ use lib.Seq.{ext-getD, getD-set-same, getD-set-other}
 use Rattle.rings.specs.Words.{at, run}
 use Rattle.rings.specs.Table.{tableOf, dayOf, firstOf, secondOf}
 use Rattle.rings.specs.CoreTimes.{never, accountTime, rowTime}
-use Rattle.rings.specs.Inner.Peeling.{query, Season, Framed, Span, CoreTimesAre}
+use Rattle.rings.specs.Ring.{query}
+use Rattle.rings.specs.Inner.Peeling.{Season, Framed, Span, CoreTimesAre}
 use Rattle.rings.proofs.WordLaws.{length-run, getD-run}
 use Rattle.rings.proofs.CoreTimeLaws.{row-max, row-before, row-after}
 

@@ -13,9 +13,9 @@ use lib.ListN.{length, getD}
 use lib.Dec.{leb, eqb}
 use Rattle.rings.specs.Words.{_and_}
 use Rattle.rings.specs.Table.{Table, tableOf}
-use Rattle.rings.specs.Ring.{touches}
+use Rattle.rings.specs.Ring.{touches, query}
 use Rattle.rings.specs.Inner.Links.{pickOther, otherOf, placeOf, fresh}
-use Rattle.rings.specs.Inner.Peeling.{Lost, Season, Ready, query, Falling, Walking}
+use Rattle.rings.specs.Inner.Peeling.{Lost, Season, Ready, Falling, Walking}
 use Rattle.rings.proofs.WordLaws.{look}
 use Rattle.rings.proofs.PairLaws.{fresh-e}
 use Rattle.rings.proofs.AlongLaws.{Along, begun, ahead-of, along-last, along-out, along-place, along-few, along-row, along-touch, along-from, along-none, along-next, along-fresh, along-fresh-place, along-ends, along-other}

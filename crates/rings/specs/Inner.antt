@@ -1,5 +1,4 @@
 -- What the inner functions promise one another. No public contract speaks of these.
-pub mod Sound
 pub mod Links
 pub mod Support
 pub mod Peeling

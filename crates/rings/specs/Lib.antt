@@ -7,6 +7,7 @@ pub mod Refusals
 pub mod Checks
 pub mod Buffers
 pub mod TableCheck
+pub mod Sound
 pub mod WindowRingCall
 pub mod CoreTimesCall
 pub mod MinimalWindowsCall
@@ -14,3 +15,4 @@ pub mod RecallCall
 pub mod Compute
 pub mod CheckRows
 pub mod Inner
+pub mod Starts

@@ -6,6 +6,7 @@
 --     degree t m u       how many distinct neighbours u has in m
 --     touches t j u      u is an account of row j
 --     met t m u          u is met in m: a row of m has it
+--     query n            the query for k = n
 --     Good t q m         every account met in m has at least k distinct others
 --     Within m m'        each row of m is a row of m'
 --     IsRing t q s e m   m is the ring of [s, e], in 01's words
@@ -48,6 +49,9 @@ touches t j u = eqb (firstOf t j) u or eqb (secondOf t j) u
 
 unfoldable pub met : Table → List Bool → ℕ → Bool
 met t m u = some (λ j. marked m j and touches t j u) (size t)
+
+abbrev pub query : ℕ → Query
+query n = record { k = n }
 
 -- 01: "every account met has at least k distinct other accounts"
 pub record Good (t : Table) (q : Query) (m : List Bool) : Type 0 where

@@ -6,10 +6,11 @@
 --     firstOf, secondOf  its two accounts
 --     inWindow s e d     day d lies in the window [s, e]
 --     windowRows t s e   the rows that the window [s, e] takes
-use Prim.Native.Nat.{ℕ}
+--     Split d day r      the rows before a day are those below r, where d are the days
+use Prim.Native.Nat.{ℕ, _≤_, _<_}
 use mathlib.Core.Bool.{Bool}
 use mathlib.Core.List.{List}
-use lib.ListN.{length}
+use lib.ListN.{length, getD}
 use lib.Dec.{leb}
 use Rattle.rings.specs.Words.{_and_, at, run}
 
@@ -40,3 +41,9 @@ inWindow s e d = leb s d and leb d e
 -- 01: "A window [s, e] takes the rows with s ≤ day ≤ e"
 unfoldable pub windowRows : Table → ℕ → ℕ → List Bool
 windowRows t s e = run (λ j. inWindow s e (dayOf t j)) 0 (size t)
+
+-- 01: "Days never fall from row to row": so a day parts the rows in two
+pub record Split (d : List ℕ) (day r : ℕ) : Type 0 where
+  pub within : r ≤ length d
+  pub before : (j : ℕ) → j < r → getD d j 0 < day
+  pub after : (j : ℕ) → r ≤ j → j < length d → day ≤ getD d j 0

@@ -1,22 +1,24 @@
 // Rings of a dated payment table.
+// A customer's calls are re-exported here. Two modules are for the parts above: the checks that calls share, and the starts of a range.
 
 pub mod checks;
-pub mod choice;
-pub mod counts;
-pub mod links;
-pub mod look;
-pub mod loss;
-pub mod peel;
-pub mod recalling;
-pub mod refusal;
-pub mod ring;
-pub mod rows;
-pub mod settle;
-pub mod shelf;
-pub mod table;
-pub mod times;
-pub mod windows;
+mod choice;
+mod counts;
+mod links;
+mod look;
+mod loss;
+mod peel;
+mod recalling;
+mod refusal;
+mod ring;
+mod settle;
+mod shelf;
+pub mod starts;
+mod table;
+mod times;
+mod windows;
 
+pub use links::clear;
 pub use recalling::recall;
 pub use refusal::Counted;
 pub use refusal::Refusal;

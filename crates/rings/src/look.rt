@@ -5,7 +5,7 @@ ghost use Prim.Native.Nat.{_+_, _≤_, _<_};
 ghost use lib.ListN.{length, getD};
 ghost use Rattle.rings.specs.Table.{tableOf};
 ghost use Rattle.rings.specs.CoreTimes.{never};
-ghost use Rattle.rings.specs.Inner.Sound.{Sound};
+ghost use Rattle.rings.specs.Sound.{Sound};
 ghost use Rattle.rings.specs.Inner.Peeling.{guess, season, Open};
 ghost use Rattle.rings.specs.Inner.Links.{Shelves, Reading, Every};
 ghost use Rattle.rings.specs.Inner.Settling.{Days, Over, Noting, Glanced, Behind, Gathered, Short, Spared, Looked};

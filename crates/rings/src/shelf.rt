@@ -3,7 +3,7 @@ ghost use mathlib.Core.Path.{_≡_};
 ghost use Prim.Native.Nat.{ℕ, _+_, _≤_, _<_};
 ghost use lib.ListN.{length, getD};
 ghost use Rattle.rings.specs.Table.{tableOf};
-ghost use Rattle.rings.specs.Inner.Sound.{Sound};
+ghost use Rattle.rings.specs.Sound.{Sound};
 ghost use Rattle.rings.specs.Inner.Peeling.{guess};
 ghost use Rattle.rings.specs.Inner.Links.{Linked, Shelves, Covered, Passing, Trimmed};
 use crate::choice::one;

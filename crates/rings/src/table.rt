@@ -3,10 +3,9 @@ ghost use mathlib.Core.Path.{_≡_};
 ghost use Prim.Native.Nat.{ℕ, suc, _+_, _<_, _≤_};
 ghost use lib.ListN.{length, getD};
 ghost use Rattle.rings.specs.Words.{run};
-ghost use Rattle.rings.specs.Table.{tableOf};
+ghost use Rattle.rings.specs.Table.{tableOf, Split};
 ghost use Rattle.rings.specs.Checks.{inOrder};
 ghost use Rattle.rings.specs.TableCheck.{rowFaults, rowCheck, tableCheck};
-ghost use Rattle.rings.specs.Inner.Peeling.{Split};
 use crate::refusal::Refusal;
 use crate::refusal::Verdict;
 

@@ -20,7 +20,8 @@ use lib.Dec.{eqb}
 use Rattle.rings.specs.Words.{count}
 use Rattle.rings.specs.Table.{Table, tableOf, size, dayOf, firstOf, secondOf, inWindow}
 use Rattle.rings.specs.CoreTimes.{never, rowTime}
-use Rattle.rings.specs.Inner.Peeling.{query, guess, Season, Open, CoreTimesAre}
+use Rattle.rings.specs.Ring.{query}
+use Rattle.rings.specs.Inner.Peeling.{guess, Season, Open, CoreTimesAre}
 use Rattle.rings.specs.Inner.Links.{Covered}
 use Rattle.rings.specs.Inner.Settling.{Spare}
 use Rattle.rings.specs.declared.Query.{Query}

@@ -12,7 +12,6 @@
 --     Framed       the same without links
 --     Placed       with the earlier rows alone
 --     Open         with a book that may lack rows
---     Split        the rows before a day
 --     Span         the rows of a window, as a first row and an end
 --     Counted      d holds the fresh rows of each account below a row
 --     Fade         the rows from r on have left, and nobody waits
@@ -26,9 +25,9 @@ use lib.ListN.{length, getD, set}
 use lib.Dec.{ltb, eqb}
 use Rattle.rings.specs.Words.{_and_, no, count}
 use Rattle.rings.specs.Table.{Table, tableOf, size, dayOf, firstOf, secondOf}
-use Rattle.rings.specs.Ring.{joins, touches, met, ring}
+use Rattle.rings.specs.Ring.{joins, touches, met, query, ring}
 use Rattle.rings.specs.CoreTimes.{never, accountTime}
-use Rattle.rings.specs.Inner.Sound.{Sound}
+use Rattle.rings.specs.Sound.{Sound}
 use Rattle.rings.specs.Inner.Links.{otherOf, fresh, Linked, Paired, Shelves}
 use Rattle.rings.specs.Inner.Support.{supporters}
 use Rattle.rings.specs.declared.Query.{Query}
@@ -130,9 +129,6 @@ pub record Walk (t : Table) (q : Query) (s hi lo b e r head tail u : ℕ) (x d w
   pub front : head < tail
   pub at-front : getD w head 0 ≡ u
 
-abbrev pub query : ℕ → Query
-query n = record { k = n }
-
 -- what is peeled: k, the first day, the last day of the range, and the first row from the first day on
 pub record Season : Type 0 where
   pub k : ℕ
@@ -183,12 +179,6 @@ pub record Fade (d f s : List ℕ) (p : Season) (r tail : ℕ) (x l w : List ℕ
   pub within : r ≤ length d
   pub from : p .lo ≤ r
   pub dated : (j : ℕ) → j < r → (1 ≤ dayOf (tableOf d f s) j) × (dayOf (tableOf d f s) j ≤ p .end)
-
--- the rows before a day are those below r
-pub record Split (d : List ℕ) (day r : ℕ) : Type 0 where
-  pub within : r ≤ length d
-  pub before : (j : ℕ) → j < r → getD d j 0 < day
-  pub after : (j : ℕ) → r ≤ j → j < length d → day ≤ getD d j 0
 
 -- the rows dated by stop are those below end, and lo is among them or their end
 pub record Span (d : List ℕ) (stop lo end : ℕ) : Type 0 where

@@ -1,5 +1,5 @@
 use Rattle.listing.proofs.ProgressLaws.{list-refused, list-done}
-use Rattle.rings.proofs.MarkLaws.{call-sound, call-k, call-window, call-lengths, call-scratch, window-e, lengths-e}
+use Rattle.rings.proofs.AcceptedLaws.{call-sound, call-k, call-window, call-lengths, call-scratch, window-e, lengths-e}
 use lib.ListN.{length}
 use mathlib.Core.Path.{sym, _∙_}
 use borrow.Author.Needs.{needs}

@@ -1,22 +1,22 @@
 use Rattle.listing.proofs.StartLaws.{sum-small}
 use Rattle.listing.proofs.ProgressLaws.{start-as}
-use Rattle.rings.proofs.DayLaws.{open-framed, span-of}
+use Rattle.rings.proofs.StartsLaws.{start-sound, start-times, start-counts}
 use borrow.Author.Needs.{needs}
 use Rattle.listing.proofs.list.list_start.Statement.{statement}
 use Rattle.listing.proofs.list.list_start.Tie as tie
 use Rattle.listing.proofs.list.list_start.Reads as reads
 use Rattle.listing.proofs.list.list_start.Lts as lts
-use Rattle.listing.proofs.list.first_time.Reads as first-time-reads
+use Rattle.rings.proofs.starts.first_time.Reads as first-time-reads
 use Rattle.listing.proofs.list.list_ends.Reads as list-ends-reads
-use Rattle.rings.proofs.rows.next_start.Reads as next-start-reads
+use Rattle.rings.proofs.starts.next_start.Reads as next-start-reads
 
 -- src/list.rt:178:9
 first-time-requires : tie.Need-first-time-requires
-first-time-requires c κs = (open-framed (c .before .before .before .before .before .before .before .before .before .before .before .before .pre .0 .opened), ((span-of (c .before .before .before .before .before .before .before .before .before .before .before .before .pre .1 .0 .0) (c .before .before .before .before .before .before .before .before .before .before .before .before .pre .1 .0 .2) (c .before .before .before .before .before .before .before .before .before .before .before .before .pre .1 .0 .4), c .before .before .before .before .before .before .before .before .before .before .before .before .pre .0 .times-are), (c .before .before .before .before .before .before .before .before .before .before .before .before .pre .1 .0 .2, c .before .before .before .before .before .before .before .before .before .before .before .before .pre .1 .0 .3)))
+first-time-requires c κs = (start-times (c .before .before .before .before .before .before .before .before .before .before .before .before .pre .0), (c .before .before .before .before .before .before .before .before .before .before .before .before .pre .1 .0 .0, c .before .before .before .before .before .before .before .before .before .before .before .before .pre .1 .0 .2, c .before .before .before .before .before .before .before .before .before .before .before .before .pre .1 .0 .3, c .before .before .before .before .before .before .before .before .before .before .before .before .pre .1 .0 .4))
 
 -- src/list.rt:179:9
 list-ends-requires : tie.Need-list-ends-requires
-list-ends-requires c κs = ((c .before .before .before .before .before .before .before .before .before .before .before .before .before .before .before .before .before .pre .1 .1 .0 .0, c .before .before .before .before .before .before .before .before .before .before .before .before .before .before .before .before .before .pre .1 .0 .1, c .before .before .before .before .before .before .before .before .before .before .before .before .before .before .before .before .before .pre .0 .timed .long, sum-small _ _ _ _ (c .before .before .before .before .before .before .before .before .before .before .before .before .before .before .before .before .before .pre .1 .0 .1) (c .before .before .before .before .before .before .before .before .before .before .before .before .before .before .before .before .before .pre .0 .timed) (c .before .before .before .before .before .before .before .before .before .before .before .before .before .before .before .before .before .pre .0 .opened .sound .most) _ (c .before .before .before .before .before .before .before .before .before .before .before .before .before .before .before .before .before .pre .1 .1 .0 .0), c .before .before .before .before .before .before .before .before .before .before .before .before .before .before .before .before .before .pre .1 .1 .0 .1), c .before .before .before .before .before .before .before .before .before .before .before .before .before .before .before .before .before .pre .1 .1 .1 .1)
+list-ends-requires c κs = ((c .before .before .before .before .before .before .before .before .before .before .before .before .before .before .before .before .before .pre .1 .1 .0 .0, c .before .before .before .before .before .before .before .before .before .before .before .before .before .before .before .before .before .pre .1 .0 .1, start-counts (c .before .before .before .before .before .before .before .before .before .before .before .before .before .before .before .before .before .pre .0) .long, sum-small _ _ _ _ (c .before .before .before .before .before .before .before .before .before .before .before .before .before .before .before .before .before .pre .1 .0 .1) (start-counts (c .before .before .before .before .before .before .before .before .before .before .before .before .before .before .before .before .before .pre .0)) (start-sound (c .before .before .before .before .before .before .before .before .before .before .before .before .before .before .before .before .before .pre .0) .most) _ (c .before .before .before .before .before .before .before .before .before .before .before .before .before .before .before .before .before .pre .1 .1 .0 .0), c .before .before .before .before .before .before .before .before .before .before .before .before .before .before .before .before .before .pre .1 .1 .0 .1), c .before .before .before .before .before .before .before .before .before .before .before .before .before .before .before .before .before .pre .1 .1 .1 .1)
 
 -- src/list.rt:180:5
 next-start-requires : tie.Need-next-start-requires
@@ -56,7 +56,7 @@ same-length-8 c = search needs
 
 -- src/list.rt:147:1
 returns : tie.Need-returns
-returns c = ((c .before .before .before .before .before .before .before .before .before .before .before .before .before .before .before .before .before .before .before .before .before .before .list-ends .ensures .0, c .before .before .before .before .before .before .before .before .before .before .before .before .before .before .before .before .before .before .before .before .before .before .list-ends .ensures .1, λ goal rest x y z P. c .before .before .before .before .before .before .before .before .before .before .before .before .before .before .before .before .before .before .before .before .before .before .list-ends .ensures .2 goal rest x y z (start-as _ _ _ _ (c .before .before .before .before .before .before .before .before .before .before .before .before .before .before .before .before .before .before .before .before .before .before .before .before .before .before .before .before .before .before .before .before .before .before .before .before .before .before .before .before .pre .1 .0 .1) (c .before .before .before .before .before .before .before .before .before .before .before .before .before .before .before .before .before .before .before .before .before .before .before .before .before .before .before .before .before .before .before .before .before .before .before .before .before .before .before .before .pre .1 .0 .0) (c .before .before .before .before .before .before .before .before .before .before .before .before .before .before .before .before .before .before .before .before .before .before .before .before .before .before .before .before .before .before .before .before .before .before .before .before .before .before .before .before .pre .0 .timed) (c .before .before .before .before .before .before .before .before .before .before .before .before .before .before .before .before .before .before .before .before .before .before .before .before .before .before .before .first-time .ensures) rest P)), c .before .before .before .before .before .before .before .before .before .before .next-start .ensures)
+returns c = ((c .before .before .before .before .before .before .before .before .before .before .before .before .before .before .before .before .before .before .before .before .before .before .list-ends .ensures .0, c .before .before .before .before .before .before .before .before .before .before .before .before .before .before .before .before .before .before .before .before .before .before .list-ends .ensures .1, λ goal rest x y z P. c .before .before .before .before .before .before .before .before .before .before .before .before .before .before .before .before .before .before .before .before .before .before .list-ends .ensures .2 goal rest x y z (start-as _ _ _ _ (c .before .before .before .before .before .before .before .before .before .before .before .before .before .before .before .before .before .before .before .before .before .before .before .before .before .before .before .before .before .before .before .before .before .before .before .before .before .before .before .before .pre .1 .0 .1) (c .before .before .before .before .before .before .before .before .before .before .before .before .before .before .before .before .before .before .before .before .before .before .before .before .before .before .before .before .before .before .before .before .before .before .before .before .before .before .before .before .pre .1 .0 .0) (start-counts (c .before .before .before .before .before .before .before .before .before .before .before .before .before .before .before .before .before .before .before .before .before .before .before .before .before .before .before .before .before .before .before .before .before .before .before .before .before .before .before .before .pre .0)) (c .before .before .before .before .before .before .before .before .before .before .before .before .before .before .before .before .before .before .before .before .before .before .before .before .before .before .before .first-time .ensures) rest P)), c .before .before .before .before .before .before .before .before .before .before .next-start .ensures)
 
 pub list-start-spec : {M : Type 1} → statement M
 list-start-spec =

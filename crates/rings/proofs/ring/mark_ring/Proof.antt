@@ -3,7 +3,7 @@
 use mathlib.Core.Path.{_∙_, ap}
 use Prim.Native.Nat.{ℕ}
 use lib.ListN.{replicate}
-use Rattle.rings.specs.Inner.Peeling.{query}
+use Rattle.rings.specs.Ring.{query}
 use Rattle.rings.proofs.PartLaws.{part-sound, part-same, room-long, part-room, part-from, part-to, part-members, part-marks}
 use Rattle.rings.proofs.DayLaws.{span-of}
 use borrow.Author.Needs.{needs}

@@ -7,8 +7,7 @@ use mathlib.Core.Path.{_∙_, sym}
 use native.Mathlib.Nat.{le-antisymm}
 use Rattle.rings.specs.Words.{marked}
 use Rattle.rings.specs.Table.{tableOf}
-use Rattle.rings.specs.Ring.{ring}
-use Rattle.rings.specs.Inner.Peeling.{query}
+use Rattle.rings.specs.Ring.{ring, query}
 use Rattle.rings.proofs.RingLaws.{ring-sized}
 use Rattle.rings.proofs.MarkLaws.{Marking, mark-start, mark-yes, mark-no, mark-few, mark-end, stays-place, stays-ring}
 use Rattle.rings.proofs.ring.mark_rows.Statement.{statement}

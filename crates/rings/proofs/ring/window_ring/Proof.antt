@@ -1,5 +1,5 @@
 use Rattle.rings.proofs.CallLaws.{ring-refused, ring-done}
-use Rattle.rings.proofs.MarkLaws.{call-sound, call-k, call-window, call-lengths, call-scratch, window-e}
+use Rattle.rings.proofs.AcceptedLaws.{call-sound, call-k, call-window, call-lengths, call-scratch, window-e}
 use borrow.Author.Tests.{eqb-true}
 use mathlib.Core.Path.{_∙_, sym}
 use borrow.Author.Needs.{needs}

@@ -5,7 +5,7 @@ use Rattle.rings.specs.Inner.Peeling.{guess}
 use Rattle.rings.specs.Inner.Counting.{timeBy, Histogram}
 use Rattle.rings.proofs.SettleLaws.{settle-end}
 use Rattle.rings.specs.Inner.Settling.{Rising}
-use Rattle.rings.specs.Inner.Peeling.{query}
+use Rattle.rings.specs.Ring.{query}
 use Rattle.rings.specs.Table.{tableOf}
 use mathlib.Core.Path.{_≡_, refl, sym, _∙_}
 use lib.ListN.{length}

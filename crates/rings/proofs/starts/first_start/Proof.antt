@@ -1,0 +1,74 @@
+use Rattle.rings.proofs.ShelfLaws.{linked-covered}
+use Rattle.rings.proofs.DayLaws.{ready-of, framed-of, open-of, split-none, span-after}
+use mathlib.Core.Path.{_∙_}
+use native.Mathlib.Omega.{arith}
+use borrow.Author.Needs.{needs}
+use Rattle.rings.proofs.starts.first_start.Statement.{statement}
+use Rattle.rings.proofs.starts.first_start.Tie as tie
+use Rattle.rings.proofs.starts.first_start.Reads as reads
+use Rattle.rings.proofs.starts.first_start.Lts as lts
+use Rattle.rings.proofs.counts.count_times.Reads as count-times-reads
+use Rattle.rings.proofs.links.bind.Reads as bind-reads
+use Rattle.rings.proofs.links.move_heads.Reads as move-heads-reads
+use Rattle.rings.proofs.settle.begin.Reads as begin-reads
+use Rattle.rings.proofs.shelf.trim.Reads as trim-reads
+
+-- src/starts.rt:70:5
+bind-requires : tie.Need-bind-requires
+bind-requires c κs = search needs
+
+-- src/starts.rt:71:5
+move-heads-requires : tie.Need-move-heads-requires
+move-heads-requires c κs = (c .before .before .before .before .before .before .before .before .before .before .before .before .before .pre .0, (c .before .before .before .bind .ensures, (omega arith, split-none _, c .before .before .before .before .before .before .before .before .before .before .before .before .before .pre .1 .1 .0 .3)))
+
+-- src/starts.rt:72:5
+begin-requires : tie.Need-begin-requires
+begin-requires c κs = (ready-of (c .before .before .before .before .before .before .before .before .before .before .before .before .before .before .before .before .before .before .before .before .pre .0) (c .before .before .before .before .before .before .move-heads .ensures .0) (c .before .before .before .before .before .before .before .before .before .before .before .before .before .before .before .before .before .before .before .before .pre .1 .1 .0 .0) (c .before .before .before .before .before .before .before .before .before .before .before .before .before .before .before .before .before .before .before .before .pre .1 .1 .0 .2) (c .before .before .before .before .before .before .before .before .before .before .before .before .before .before .before .before .before .before .before .before .pre .1 .1 .0 .3), ((span-after (c .before .before .before .before .before .before .before .before .before .before .before .before .before .before .before .before .before .before .before .before .pre .1 .1 .0 .1) (c .before .before .before .before .before .before .before .before .before .before .before .before .before .before .before .before .before .before .before .before .pre .1 .1 .0 .3) (c .before .before .before .before .before .before .before .before .before .before .before .before .before .before .before .before .before .before .before .before .pre .1 .1 .0 .4)), (c .before .before .before .before .before .before .before .before .before .before .before .before .before .before .before .before .before .before .before .before .pre .1 .1 .1 .0, c .before .before .before .before .before .before .before .before .before .before .before .before .before .before .before .before .before .before .before .before .pre .1 .1 .1 .1, c .before .before .before .before .before .before .before .before .before .before .before .before .before .before .before .before .before .before .before .before .pre .1 .1 .1 .2)))
+
+-- src/starts.rt:86:5
+count-times-requires : tie.Need-count-times-requires
+count-times-requires c κs = ((framed-of (c .before .before .before .before .before .before .before .before .before .before .before .before .before .before .before .before .before .before .before .before .before .before .before .before .before .before .before .before .before .pre .0) (c .before .before .before .before .before .before .before .before .before .before .before .before .before .before .before .before .before .before .before .before .before .before .before .before .before .before .before .before .before .pre .1 .1 .0 .0) (c .before .before .before .before .before .before .before .before .before .before .before .before .before .before .before .before .before .before .before .before .before .before .before .before .before .before .before .before .before .pre .1 .1 .0 .2) (c .before .before .before .before .before .before .before .before .before .before .before .before .before .before .before .before .before .before .before .before .before .before .before .before .before .before .before .before .before .pre .1 .1 .0 .3)), (((span-after (c .before .before .before .before .before .before .before .before .before .before .before .before .before .before .before .before .before .before .before .before .before .before .before .before .before .before .before .before .before .pre .1 .1 .0 .1) (c .before .before .before .before .before .before .before .before .before .before .before .before .before .before .before .before .before .before .before .before .before .before .before .before .before .before .before .before .before .pre .1 .1 .0 .3) (c .before .before .before .before .before .before .before .before .before .before .before .before .before .before .before .before .before .before .before .before .before .before .before .before .before .before .before .before .before .pre .1 .1 .0 .4)), c .before .before .before .before .before .before .before .before .begin .ensures .0), (c .before .before .before .before .before .before .before .before .before .before .before .before .before .before .before .before .before .before .before .before .before .before .before .before .before .before .before .before .before .pre .1 .1 .1 .3, c .before .before .before .before .before .before .before .before .before .before .before .before .before .before .before .before .before .before .before .before .before .before .before .before .before .before .before .before .before .pre .1 .1 .0 .2)))
+
+-- src/starts.rt:87:5
+trim-requires : tie.Need-trim-requires
+trim-requires c κs = (c .before .before .before .before .before .before .before .before .before .before .before .before .before .before .before .before .before .before .before .before .before .before .before .before .before .before .before .before .before .before .before .before .before .before .pre .0, (c .before .before .before .before .before .before .before .before .before .before .before .before .before .before .before .before .before .before .before .before .move-heads .ensures .0, c .before .before .before .before .before .before .before .before .before .before .before .before .before .begin .ensures .0 .long))
+
+-- src/starts.rt:49:1
+same-length : tie.Need-same-length
+same-length c = c .before .before .trim .kept .1 .1 .1 .0 ∙ (c .before .before .before .before .before .before .before .before .before .before .before .before .before .before .before .before .before .before .before .before .before .before .before .move-heads .kept .1 .1 .1 .0 ∙ c .before .before .before .before .before .before .before .before .before .before .before .before .before .before .before .before .before .before .before .before .before .before .before .before .before .before .before .bind .kept .1 .1 .1 .0)
+
+-- src/starts.rt:49:1
+same-length-2 : tie.Need-same-length-2
+same-length-2 c = search needs
+
+-- src/starts.rt:49:1
+same-length-3 : tie.Need-same-length-3
+same-length-3 c = search needs
+
+-- src/starts.rt:49:1
+same-length-4 : tie.Need-same-length-4
+same-length-4 c = search needs
+
+-- src/starts.rt:49:1
+same-length-5 : tie.Need-same-length-5
+same-length-5 c = search needs
+
+-- src/starts.rt:49:1
+returns : tie.Need-returns
+returns c = record { inside = record { opened = open-of (c .before .before .before .before .before .before .before .before .before .before .before .before .before .before .before .before .before .before .before .before .before .before .before .before .before .before .before .before .before .before .before .before .before .before .before .before .before .pre .0) (c .before .before .trim .ensures .0) (c .before .before .before .before .before .before .before .before .before .before .before .before .before .before .before .before .before .before .before .before .before .before .before .before .before .before .before .before .before .before .before .before .before .before .before .before .before .pre .1 .1 .0 .0) (c .before .before .before .before .before .before .before .before .before .before .before .before .before .before .before .before .before .before .before .before .before .before .before .before .before .before .before .before .before .before .before .before .before .before .before .before .before .pre .1 .1 .0 .2) (c .before .before .before .before .before .before .before .before .before .before .before .before .before .before .before .before .before .before .before .before .before .before .before .before .before .before .before .before .before .before .before .before .before .before .before .before .before .pre .1 .1 .0 .3); covered = c .before .before .trim .ensures .1 _ (linked-covered (c .before .before .before .before .before .before .before .before .before .before .before .before .before .before .before .before .before .before .before .before .before .before .before .move-heads .ensures .0) _ ((framed-of (c .before .before .before .before .before .before .before .before .before .before .before .before .before .before .before .before .before .before .before .before .before .before .before .before .before .before .before .before .before .before .before .before .before .before .before .before .before .pre .0) (c .before .before .before .before .before .before .before .before .before .before .before .before .before .before .before .before .before .before .before .before .before .before .before .before .before .before .before .before .before .before .before .before .before .before .before .before .before .pre .1 .1 .0 .0) (c .before .before .before .before .before .before .before .before .before .before .before .before .before .before .before .before .before .before .before .before .before .before .before .before .before .before .before .before .before .before .before .before .before .before .before .before .before .pre .1 .1 .0 .2) (c .before .before .before .before .before .before .before .before .before .before .before .before .before .before .before .before .before .before .before .before .before .before .before .before .before .before .before .before .before .before .before .before .before .before .before .before .before .pre .1 .1 .0 .3)) .setting .from-lo)); times-are = c .before .before .before .before .before .before .before .before .before .before .before .before .before .before .before .before .begin .ensures .0; spares = c .before .before .before .before .before .before .before .before .before .before .before .before .before .before .before .before .begin .ensures .1; timed = c .before .before .before .before .before .before .before .count-times .ensures } }
+
+pub first-start-spec : {M : Type 1} → statement M
+first-start-spec =
+    tie.close
+    (tie.spec
+    bind-requires
+    move-heads-requires
+    begin-requires
+    count-times-requires
+    trim-requires
+    same-length
+    same-length-2
+    same-length-3
+    same-length-4
+    same-length-5
+    returns)

@@ -1,0 +1,65 @@
+use native.Mathlib.Omega.{arith}
+use Prim.Native.Nat.{_-_, _≤_}
+use Rattle.rings.specs.Table.{tableOf}
+use Rattle.rings.specs.CoreTimes.{rowTime}
+use Rattle.rings.specs.Ring.{query}
+use Rattle.rings.proofs.DayLaws.{span-of}
+use Rattle.rings.proofs.SettleLaws.{split-rises}
+use Rattle.rings.proofs.StartsLaws.{Least, least-start, least-next, least-end}
+use borrow.Author.Needs.{needs}
+use Rattle.rings.proofs.starts.first_time.Statement.{statement}
+use Rattle.rings.proofs.starts.first_time.Tie as tie
+use Rattle.rings.proofs.starts.first_time.Reads as reads
+use Rattle.rings.proofs.starts.first_time.Lts as lts
+use Rattle.rings.proofs.choice.lesser.Reads as lesser-reads
+use Rattle.rings.proofs.times.row_time.Reads as row-time-reads
+
+abbrev Inv-loop : tie.InvT-loop
+Inv-loop days first second k s te lo next end times least₀ j₀ least j = (lo ≤ j) × (j ≤ next) × Least (rowTime (tableOf days first second) (query k) te s) lo j least
+
+abbrev μ-loop : tie.MeasureT-loop
+μ-loop days first second k s te lo next end times least₀ j₀ least j = next - j
+
+-- src/starts.rt:62:5
+loop-holds : tie.Need-loop-holds Inv-loop μ-loop
+loop-holds c = (omega arith, split-rises (c .before .before .before .before .pre .1 .1) (c .before .before .before .before .pre .1 .2), least-start _ _)
+
+-- src/starts.rt:63:13
+row-time-requires : tie.Need-row-time-requires Inv-loop μ-loop
+row-time-requires c κs =
+    let pre = c .before .before .before .before .before .before .pre in
+    (pre .0 .inside .0, (span-of (pre .1 .0) (pre .1 .1) (pre .1 .3), (pre .0 .inside .1, omega (arith, c .loop-test .taken, pre .1 .2 .within))))
+
+-- src/starts.rt:64:9
+lesser-requires : tie.Need-lesser-requires Inv-loop μ-loop
+lesser-requires c κs = search needs
+
+-- src/starts.rt:65:9
+add-j : tie.Need-add-j Inv-loop μ-loop
+add-j c = omega (arith, c .before .before .loop-test .taken, c .before .before .before .before .before .before .before .before .pre .1 .2 .within, c .before .before .before .before .before .before .before .before .pre .0 .inside .0 .sound .most)
+
+-- src/starts.rt:62:5
+loop-less : tie.Need-loop-less Inv-loop μ-loop
+loop-less c = omega (arith, c .before .before .loop-test .taken)
+
+-- src/starts.rt:62:5
+loop-again : tie.Need-loop-again Inv-loop μ-loop
+loop-again c = (omega (arith, c .before .before .before .loop .inv .0), omega (arith, c .before .before .loop-test .taken), least-next (c .before .before .before .loop .inv .0) (c .before .before .before .loop .inv .2) (c .before .row-time .ensures) (c .lesser .ensures))
+
+-- src/starts.rt:43:1
+returns : tie.Need-returns Inv-loop μ-loop
+returns c = least-end (c .before .before .before .before .before .before .pre .0 .inside .0) (c .before .before .before .before .before .before .pre .1 .2) (c .before .loop .inv .1) (c .loop-test .left) (c .before .loop .inv .2)
+
+pub first-time-spec : {M : Type 1} → statement M
+first-time-spec =
+    tie.close
+    (tie.spec
+    Inv-loop
+    μ-loop
+    loop-holds
+    row-time-requires
+    lesser-requires
+    add-j
+    loop-less
+    loop-again
+    returns)

@@ -1,0 +1,47 @@
+-- The starts of a range, one after the other: what a part above this crate is lent to walk them (src/starts.rt).
+-- What the buffers hold from one call to the next is a state that stays shut. A part above knows it by its name, by what the calls promise, and by the laws of proofs/StartsLaws.antt; it never opens it.
+--     CountsAt t q hi s xs     xs holds, for each day, how many rows have it as their core time at s
+--     DatedTime t q hi s r     a row dated s has the core time r at s
+--     Earliest t q hi s r      r is the least core time at s of the rows dated s, never if none has one
+--     Prepared t sc            the scratch is ready for a start
+--     TimesAt t q hi s lo x    x has the core times at s of the accounts; lo is the first row from s on
+--     AtStart t q hi s lo sc times spare counts    the scratch and the arrays at start s
+use Prim.Native.Nat.{ℕ, _≤_, _<_}
+use mathlib.Core.Path.{_≡_}
+use mathlib.Core.Logic.{_⊎_}
+use mathlib.Core.List.{List}
+use lib.ListN.{length, getD}
+use lib.Dec.{eqb}
+use Rattle.rings.specs.Words.{count}
+use Rattle.rings.specs.Table.{Table, size, dayOf}
+use Rattle.rings.specs.CoreTimes.{never, rowTime}
+use Rattle.rings.specs.Inner.Links.{Paired}
+use Rattle.rings.specs.Inner.Peeling.{season, Framed, CoreTimesAre}
+use Rattle.rings.specs.Inner.Counting.{Started}
+use Rattle.rings.specs.declared.Query.{Query}
+
+-- days go up to 1,024
+pub record CountsAt (t : Table) (q : Query) (hi s : ℕ) (xs : List ℕ) : Type 0 where
+  pub long : length xs ≡ 1025
+  pub each : (e : ℕ) → e < 1025 → getD xs e 0 ≡ count (λ j. eqb (rowTime t q hi s j) e) (size t)
+
+pub record DatedTime (t : Table) (q : Query) (hi s r : ℕ) : Type 0 where
+  pub row : ℕ
+  pub dated : dayOf t row ≡ s
+  pub time-is : rowTime t q hi s row ≡ r
+
+pub record Earliest (t : Table) (q : Query) (hi s r : ℕ) : Type 0 where
+  pub lower : (j : ℕ) → dayOf t j ≡ s → r ≤ rowTime t q hi s j
+  pub reached : (r ≡ never) ⊎ DatedTime t q hi s r
+
+-- ---- shut: what is inside is the matter of this crate's own functions
+
+pub record Prepared (t : Table) (sc : List ℕ) : Type 0 where
+  pub inside : Paired t sc
+
+pub record TimesAt (t : Table) (q : Query) (hi s lo : ℕ) (x : List ℕ) : Type 0 where
+  pub inside : Framed (t .days) (t .first) (t .second) (season (q .k) s hi lo)
+      × CoreTimesAre (t .days) (t .first) (t .second) (season (q .k) s hi lo) x
+
+pub record AtStart (t : Table) (q : Query) (hi s lo : ℕ) (sc times spare counts : List ℕ) : Type 0 where
+  pub inside : Started (t .days) (t .first) (t .second) sc (season (q .k) s hi lo) times spare counts

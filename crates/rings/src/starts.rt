@@ -1,0 +1,165 @@
+// The starts of a range, one after the other, with the core times of each and their day counts: what Listing walks.
+// What the scratch and the arrays hold from call to call is a state that stays shut (specs/Starts.antt).
+ghost use mathlib.Core.Path.{_≡_};
+ghost use Prim.Native.Nat.{_+_, _*_, _≤_};
+ghost use lib.ListN.{length};
+ghost use Rattle.rings.specs.Table.{tableOf, Split};
+ghost use Rattle.rings.specs.Ring.{query};
+ghost use Rattle.rings.specs.Sound.{Sound};
+ghost use Rattle.rings.specs.Starts.{Earliest, Prepared, TimesAt, AtStart};
+use crate::choice::lesser;
+use crate::counts::count_times;
+use crate::counts::drop_rows;
+use crate::links::bind;
+use crate::links::move_heads;
+use crate::links::pair_rows;
+use crate::settle::begin;
+use crate::settle::step;
+use crate::shelf::pass_heads;
+use crate::shelf::trim;
+pub use crate::table::rows_before;
+pub use crate::table::rows_through;
+use crate::times::row_time;
+
+// Before the first start: the scratch, of any contents, is made ready.
+pub fn prepare(days: &[u16], first: &[u16], second: &[u16], scratch: &mut [u16])
+    requires { ⌜ Sound (now days) (now first) (now second) ⌝ }
+    requires { ⌜ 8192 + 4 * length (now days) ≤ length (now scratch) ⌝ }
+    ensures { λ _. ⌜ Prepared (tableOf (now (days .entry)) (now (first .entry)) (now (second .entry))) (now (scratch .exit)) ⌝ }
+{
+    pair_rows(days, first, second, scratch);
+}
+
+// The times of a start and their counts, from nothing: the whole book, a peel, and of the book what is still of use.
+pub fn first_start(
+    days: &[u16],
+    first: &[u16],
+    second: &[u16],
+    scratch: &mut [u16],
+    k: u16,
+    s: u16,
+    te: u16,
+    lo: usize,
+    end: usize,
+    times: &mut [u16],
+    spare: &mut [u16],
+    queue: &mut [u16],
+    counts: &mut [u16],
+)
+    requires { ⌜ Sound (now days) (now first) (now second) ⌝ }
+    requires { ⌜ Prepared (tableOf (now days) (now first) (now second)) (now scratch) ⌝ }
+    requires { ⌜ (1 ≤ k) × (s ≤ te + 1) × (te ≤ 1024) × Split (now days) s lo × Split (now days) (te + 1) end ⌝ }
+    requires { ⌜ (length (now times) ≡ 4096) × (length (now spare) ≡ 4096) × (length (now queue) ≡ 4352) × (length (now counts) ≡ 1025) ⌝ }
+    ensures { λ _. ⌜ (
+        let t = tableOf (now (days .entry)) (now (first .entry)) (now (second .entry)) in
+        AtStart t (query k) te s lo (now (scratch .exit)) (now (times .exit)) (now (spare .exit)) (now (counts .exit))) ⌝ }
+{
+    bind(days, first, second, scratch);
+    move_heads(days, first, second, scratch, 0, s, 0, lo);
+    begin(
+        days,
+        first,
+        second,
+        scratch,
+        k,
+        s,
+        te,
+        lo,
+        end,
+        times,
+        spare,
+        queue,
+    );
+    count_times(days, first, second, k, s, te, lo, end, times, counts);
+    trim(days, first, second, scratch, s, times);
+}
+
+// The times of the next start and their counts, from those of this one: what a start costs is what changes in it. Where that grows dear, from nothing.
+pub fn next_start(
+    days: &[u16],
+    first: &[u16],
+    second: &[u16],
+    scratch: &mut [u16],
+    k: u16,
+    s: u16,
+    te: u16,
+    lo: usize,
+    next: usize,
+    end: usize,
+    times: &mut [u16],
+    spare: &mut [u16],
+    queue: &mut [u16],
+    counts: &mut [u16],
+)
+    requires { ⌜ AtStart (tableOf (now days) (now first) (now second)) (query k) te s lo (now scratch) (now times) (now spare) (now counts) ⌝ }
+    requires { ⌜ (s ≤ te) × (te ≤ 1024) × Split (now days) s lo × Split (now days) (s + 1) next × Split (now days) (te + 1) end ⌝ }
+    requires { ⌜ length (now queue) ≡ 4352 ⌝ }
+    ensures { λ _. ⌜ (
+        let t = tableOf (now (days .entry)) (now (first .entry)) (now (second .entry)) in
+        AtStart t (query k) te (s + 1) next (now (scratch .exit)) (now (times .exit)) (now (spare .exit)) (now (counts .exit))) ⌝ }
+{
+    drop_rows(days, first, second, k, s, te, lo, next, end, times, counts);
+    pass_heads(days, first, second, scratch, lo, next);
+    let risen = step(
+        days,
+        first,
+        second,
+        scratch,
+        k,
+        s,
+        te,
+        lo,
+        next,
+        end,
+        times,
+        spare,
+        queue,
+        true,
+        counts,
+    );
+    if risen <= 4352 {
+        return;
+    }
+    first_start(
+        days,
+        first,
+        second,
+        scratch,
+        k,
+        s + 1,
+        te,
+        next,
+        end,
+        times,
+        spare,
+        queue,
+        counts,
+    );
+}
+
+// The least core time at s of the rows dated s.
+pub fn first_time(
+    days: &[u16],
+    first: &[u16],
+    second: &[u16],
+    k: u16,
+    s: u16,
+    te: u16,
+    lo: usize,
+    next: usize,
+    end: usize,
+    times: &[u16],
+) -> u16
+    requires { ⌜ TimesAt (tableOf (now days) (now first) (now second)) (query k) te s lo (now times) ⌝ }
+    requires { ⌜ (s ≤ te) × Split (now days) s lo × Split (now days) (s + 1) next × Split (now days) (te + 1) end ⌝ }
+    ensures { λ r. ⌜ Earliest (tableOf (now (days .entry)) (now (first .entry)) (now (second .entry))) (query k) te s r ⌝ }
+{
+    let mut least = 65535;
+    let mut j = lo;
+    while j < next {
+        let time = row_time(days, first, second, k, s, te, lo, end, times, j);
+        least = lesser(least, time);
+        j += 1;
+    }
+    least
+}
