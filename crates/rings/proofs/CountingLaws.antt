@@ -6,6 +6,7 @@
 --     take-place, take-less, take-few, take-end    what `take_count` does
 --     owing-start, owing-same, owing-has, owing-room, owing-move, owing-end    rows that move to one day are taken off theirs first, and counted there at last
 --     Moves, moving-asks, moving-hist, moving-room, moving-made     or they go from one day to another time at once
+--     counted-so, counted-then, counted-paid      walks with the flag for counting, one after the other
 -- Assumes nothing.
 use Prim.Native.Nat.{ℕ, zero, suc, max, _+_, _-_, _≤_, _<_}
 use native.Mathlib.Nat.{le-refl, eq-or-lt-of-le}
@@ -24,7 +25,7 @@ use Rattle.rings.specs.Table.{Table, tableOf, dayOf, firstOf, secondOf, 
 use Rattle.rings.specs.CoreTimes.{never, accountTime, rowTime}
 use Rattle.rings.specs.Ring.{query}
 use Rattle.rings.specs.Inner.Peeling.{Setting, season, guess, CoreTimesAre}
-use Rattle.rings.specs.Inner.Counting.{timeBy, IsTime, Histogram, owed, Owing, Adding, Removing, Taking, Moving}
+use Rattle.rings.specs.Inner.Counting.{timeBy, IsTime, Histogram, WhereCounted, owed, Owing, Adding, Removing, Taking, Moving}
 use Rattle.rings.proofs.WordLaws.{look, and-i, and-l, and-r, tally-yes, tally-no, count-le, count-mono, count-same, count-none, count-pos, same-or}
 use Rattle.rings.specs.declared.Query.{Query}
 use Rattle.rings.proofs.PairLaws.{count-drop}
@@ -314,3 +315,19 @@ module _ (m old new : ℕ) (xs xs₁ : List ℕ) (long : length xs ≡ 1025) (sm
             ⊎-elim (λ y. let b = owed-here new m e y in let k : length xs₁ ≡ 1025 = ap length e₁ ∙ (length-set xs old (getD xs old 0 - m) ∙ long) in let c : getD xs′ e 0 ≡ getD xs₁ new 0 + m = ap (λ (ys : List ℕ). getD ys e 0) w ∙ (ap (λ (i : ℕ). getD (set xs₁ new (getD xs₁ new 0 + m)) i 0) (sym y) ∙ getD-set-same xs₁ new (getD xs₁ new 0 + m) 0 (omega arith)) in let d : getD xs₁ new 0 ≡ getD xs₁ e 0 = ap (λ (i : ℕ). getD xs₁ i 0) y in omega arith)
             (λ y. let b = owed-else new m e y in let c : getD xs′ e 0 ≡ getD xs₁ e 0 = ap (λ (ys : List ℕ). getD ys e 0) w ∙ getD-set-other xs₁ new e (getD xs₁ new 0 + m) 0 (λ z. y (sym z)) in omega arith) (same-or new e);
       }
+
+-- ---- walks with the flag for counting
+
+module _ {counting : Bool} {P Q : Type 0} where
+  pub counted-so : {xs xs′ : List ℕ} → (P → Q) → WhereCounted counting P xs xs′ → WhereCounted counting Q xs xs′
+  counted-so f W = record { counted = λ y. f (W .counted y); same = W .same }
+
+  -- what the second promises, from the counts before the first
+  pub counted-then : {xs xs′ xs″ : List ℕ} → WhereCounted counting P xs xs′ → WhereCounted counting Q xs′ xs″ → WhereCounted counting Q xs xs″
+  counted-then W X = record { counted = X .counted; same = λ y. X .same y ∙ W .same y }
+
+-- the rows that moved are counted at last
+pub counted-paid : {counting : Bool} {A : Type 0} {g : ℕ → ℕ} {n new m : ℕ} {xs xs′ xs″ : List ℕ} →
+    WhereCounted counting (Owing g n new m xs′) xs xs′ → WhereCounted counting (Adding m new xs′ xs″) xs′ xs″ →
+    WhereCounted counting (A → Histogram g n xs″) xs xs″
+counted-paid W X = record { counted = λ y a. owing-end (W .counted y) (X .counted y); same = λ y. X .same y ∙ W .same y }

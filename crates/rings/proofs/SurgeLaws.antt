@@ -5,7 +5,7 @@
 use Prim.Native.Nat.{ℕ, max, min, _+_, _*_, _≤_, _<_}
 use native.Mathlib.Nat.{le-refl}
 use native.Mathlib.Omega.{arith}
-use mathlib.Core.Path.{_≡_, sym, _∙_, ap}
+use mathlib.Core.Path.{_≡_, refl, sym, _∙_, ap}
 use mathlib.Core.Logic.{_⊎_, ⊎-elim}
 use mathlib.Core.Bool.{Bool, true, false, _&&_}
 use mathlib.Core.List.{List}
@@ -19,19 +19,19 @@ use Rattle.rings.specs.Inner.Links.{pickOther, otherOf, Reading, Every}
 use Rattle.rings.specs.Ring.{query}
 use Rattle.rings.specs.Inner.Peeling.{Season, Open, guess}
 use Rattle.rings.specs.Inner.Settling.{Days, Losing, Lessened, Queued}
-use Rattle.rings.specs.Inner.Counting.{timeBy, Owing, Taking, Raised}
+use Rattle.rings.specs.Inner.Counting.{timeBy, WhereCounted, Owing, Taking, Raised}
 use Rattle.rings.specs.declared.Query.{Query}
 use Rattle.rings.proofs.FallLaws.{guess-at}
 use Rattle.rings.proofs.ShelfLaws.{reading-out, reading-row, reading-touch, reading-from, reading-gap, reading-other}
-use Rattle.rings.proofs.CountingLaws.{owing-room}
+use Rattle.rings.proofs.CountingLaws.{counted-so, counted-then, owing-room}
 use Rattle.rings.proofs.LossLaws.{Wave, new-most, wave-start, wave-out, wave-stop, wave-late, wave-small, wave-next}
 use Rattle.rings.proofs.ShiftLaws.{Shift, rise-start, rise-all, rise-asks, rise-row}
 
-pub record Surge (d f g links : List ℕ) (r : Season) (xs : List ℕ) (u old new tail : ℕ) (sp₀ ws₀ : List ℕ) (counting : Bool) (p end m : ℕ) (sp ws counts : List ℕ) : Type 0 where
+pub record Surge (d f g links : List ℕ) (r : Season) (xs : List ℕ) (u old new tail : ℕ) (sp₀ ws₀ : List ℕ) (counting : Bool) (counts₀ : List ℕ) (p end m : ℕ) (sp ws counts : List ℕ) : Type 0 where
   pub b : ℕ
   pub late : r .lo ≤ b
   pub wave : Wave d f g links r xs u old new tail sp₀ ws₀ b p end sp ws
-  pub shift : counting ≡ true → Shift (tableOf d f g) (r .start) (r .end) u old new xs b m counts
+  pub shift : WhereCounted counting (Shift (tableOf d f g) (r .start) (r .end) u old new xs b m counts) counts₀ counts
 
 -- the rows of u are all seen: the counts but for those that moved
 abbrev pub Owed : List ℕ → List ℕ → List ℕ → Season → List ℕ → ℕ → ℕ → List ℕ → Type 0
@@ -54,14 +54,14 @@ module _ (d f g links : List ℕ) (r : Season) (R : Open d f g links r) (xs : Li
   keeps : {A : Type 0} {i : ℕ} → (i < r .lo) ⊎ (guess xs (otherOf tt i u) ≡ never) → (i < r .lo) ⊎ ((new ≤ guess xs (otherOf tt i u)) ⊎ A)
   keeps o = ⊎-elim _⊎_.inl (λ z. _⊎_.inr (_⊎_.inl z)) (over o)
 
-  pub surge-start : {p : ℕ} {counts : List ℕ} → length sp₀ ≡ 4096 → length ws₀ ≡ 4352 → Reading links u (r .lo) p → (counting ≡ true → Raised tt (r .start) (r .end) u old new xs counts) → Surge d f g links r xs u old new tail sp₀ ws₀ counting p tail 0 sp₀ ws₀ counts
-  surge-start l m A C = record { b = r .lo; late = le-refl (r .lo); wave = wave-start d f g links r R xs len small E D old new en tail sp₀ ws₀ l m A; shift = λ h. rise-start tt q (r .start) (r .end) (r .lo) (R .setting) u old new xs small (C h) }
+  pub surge-start : {p : ℕ} {counts₀ : List ℕ} → length sp₀ ≡ 4096 → length ws₀ ≡ 4352 → Reading links u (r .lo) p → (counting ≡ true → Raised tt (r .start) (r .end) u old new xs counts₀) → Surge d f g links r xs u old new tail sp₀ ws₀ counting counts₀ p tail 0 sp₀ ws₀ counts₀
+  surge-start l m A C = record { b = r .lo; late = le-refl (r .lo); wave = wave-start d f g links r R xs len small E D old new en tail sp₀ ws₀ l m A; shift = record { counted = λ h. rise-start tt q (r .start) (r .end) (r .lo) (R .setting) u old new xs small (C h); same = λ h. refl } }
 
-  module _ {p end m last : ℕ} {sp ws counts : List ℕ} (Z : Surge d f g links r xs u old new tail sp₀ ws₀ counting p end m sp ws counts) (ee : last ≡ getD links u 0) where
-    pub surge-out : last ≤ p → (Lessened tt (guess xs) (r .lo) u (length d) old new sp₀ sp × Queued tail sp₀ ws₀ end sp ws) × (counting ≡ true → Owed d f g r xs new m counts)
+  module _ {p end m last : ℕ} {counts₀ sp ws counts : List ℕ} (Z : Surge d f g links r xs u old new tail sp₀ ws₀ counting counts₀ p end m sp ws counts) (ee : last ≡ getD links u 0) where
+    pub surge-out : last ≤ p → (Lessened tt (guess xs) (r .lo) u (length d) old new sp₀ sp × Queued tail sp₀ ws₀ end sp ws) × WhereCounted counting (Owed d f g r xs new m counts) counts₀ counts
     surge-out h = (
       wave-out d f g links r R xs len small E D old new en tail sp₀ ws₀ (Z .wave) ee h,
-      λ y. rise-all tt q (r .start) (r .end) (r .lo) (R .setting) u old new xs small (Z .shift y) (λ i a k o. keeps (reading-out d f g links (R .sound) (R .shelves) small (Z .wave .reading) ee E h i a k o)),
+      counted-so (λ y. rise-all tt q (r .start) (r .end) (r .lo) (R .setting) u old new xs small y (λ i a k o. keeps (reading-out d f g links (R .sound) (R .shelves) small (Z .wave .reading) ee E h i a k o))) (Z .shift),
     )
 
     -- the walk began at lo
@@ -69,10 +69,10 @@ module _ (d f g links : List ℕ) (r : Season) (R : Open d f g links r) (xs : Li
     surge-late more ej = let a = Z .late in let c = reading-from d f g links (R .sound) (R .shelves) small (Z .wave .reading) ee more ej in omega arith
 
     module _ (more : p < last) {j : ℕ} (ej : j ≡ getD links (8192 + p) 0) {day : ℕ} (ed : day ≡ getD d j 0) {until : ℕ} (eu : until ≡ min new (r .end + 1)) where
-      pub surge-stop : until ≤ day → (Lessened tt (guess xs) (r .lo) u (length d) old new sp₀ sp × Queued tail sp₀ ws₀ end sp ws) × (counting ≡ true → Owed d f g r xs new m counts)
+      pub surge-stop : until ≤ day → (Lessened tt (guess xs) (r .lo) u (length d) old new sp₀ sp × Queued tail sp₀ ws₀ end sp ws) × WhereCounted counting (Owed d f g r xs new m counts) counts₀ counts
       surge-stop h = (
         wave-stop d f g links r R xs len small E D old new en tail sp₀ ws₀ (Z .wave) ee more ej ed eu h,
-        λ y. rise-all tt q (r .start) (r .end) (r .lo) (R .setting) u old new xs small (Z .shift y) (λ i a k o. ⊎-elim keeps (λ z. _⊎_.inr (_⊎_.inr z)) (wave-late d f g links r R xs len small E D old new en tail sp₀ ws₀ (Z .wave) ee more ej ed eu h i a k o)),
+        counted-so (λ y. rise-all tt q (r .start) (r .end) (r .lo) (R .setting) u old new xs small y (λ i a k o. ⊎-elim keeps (λ z. _⊎_.inr (_⊎_.inr z)) (wave-late d f g links r R xs len small E D old new en tail sp₀ ws₀ (Z .wave) ee more ej ed eu h i a k o))) (Z .shift),
       )
 
       module _ (before : day < until) {a e v z : ℕ} (ea : a ≡ getD f j 0) (eb : e ≡ getD g j 0) (ev : v ≡ pickOther (eqb a u) a e) (ez : z ≡ getD xs v 0) {own time : ℕ} (eo : own ≡ max old day) (et : time ≡ max own z) where
@@ -102,18 +102,21 @@ module _ (d f g links : List ℕ) (r : Season) (R : Open d f g links r) (xs : Li
           pub surge-asks : counting ≡ true → (length counts ≡ 1025) × (m < 16384) × (test ≡ true → (time < 1025) × (1 ≤ getD counts time 0))
           surge-asks h =
               let dd = w-day in
-              rise-asks tt q (r .start) (r .end) (r .lo) (R .setting) u old new xs small (Z .shift h) from (reading-row d f g links (R .sound) (R .shelves) small (Z .wave .reading) ee more ej)
+              rise-asks tt q (r .start) (r .end) (r .lo) (R .setting) u old new xs small (Z .shift .counted h) from (reading-row d f g links (R .sound) (R .shelves) small (Z .wave .reading) ee more ej)
               (reading-touch d f g links (R .sound) (R .shelves) small (Z .wave .reading) ee more ej) (λ i a k o. over (reading-gap d f g links (R .sound) (R .shelves) small (Z .wave .reading) ee more ej E i a k o)) (omega arith) (omega arith) z-is (omega arith) yes not z-day new-day (R .sound .most)
 
-          pub surge-next : {fr lost : Bool} {end′ m′ : ℕ} {sp′ ws′ counts′ : List ℕ} → end < 4352 → fr ≡ (leb (r .lo) j and leb (getD links (8192 + 2 * length d + j) 0) (r .lo)) → lost ≡ (leb own z && ltb z new) → Losing (fr && lost) v end sp ws sp′ ws′ end′ → (counting ≡ true → Taking test time m counts counts′ m′) → Surge d f g links r xs u old new tail sp₀ ws₀ counting (p + 1) end′ m′ sp′ ws′ counts′
+          pub surge-next : {fr lost : Bool} {end′ m′ : ℕ} {sp′ ws′ counts′ : List ℕ} → end < 4352 → fr ≡ (leb (r .lo) j and leb (getD links (8192 + 2 * length d + j) 0) (r .lo)) → lost ≡ (leb own z && ltb z new) → Losing (fr && lost) v end sp ws sp′ ws′ end′ → WhereCounted counting (Taking test time m counts counts′ m′) counts counts′ → Surge d f g links r xs u old new tail sp₀ ws₀ counting counts₀ (p + 1) end′ m′ sp′ ws′ counts′
           surge-next room ef el L T =
               let dd = w-day in
               record {
                 b = j + 1;
                 late = let a = Z .late in let c = from in omega arith;
                 wave = wave-next d f g links r R xs len small E D old new en tail sp₀ ws₀ (Z .wave) ee more ej ed ea eb ev room ef ez eo el L;
-                shift = λ h. rise-row tt q (r .start) (r .end) (r .lo) (R .setting) u old new xs small (Z .shift h) from (reading-row d f g links (R .sound) (R .shelves) small (Z .wave .reading) ee more ej)
-                    (reading-touch d f g links (R .sound) (R .shelves) small (Z .wave .reading) ee more ej) (λ i a k o. over (reading-gap d f g links (R .sound) (R .shelves) small (Z .wave .reading) ee more ej E i a k o)) (omega arith) (omega arith) z-is (omega arith) yes not z-day new-day (T h);
+                shift = counted-then (Z .shift) (record {
+                  counted = λ h. rise-row tt q (r .start) (r .end) (r .lo) (R .setting) u old new xs small (Z .shift .counted h) from (reading-row d f g links (R .sound) (R .shelves) small (Z .wave .reading) ee more ej)
+                      (reading-touch d f g links (R .sound) (R .shelves) small (Z .wave .reading) ee more ej) (λ i a k o. over (reading-gap d f g links (R .sound) (R .shelves) small (Z .wave .reading) ee more ej E i a k o)) (omega arith) (omega arith) z-is (omega arith) yes not z-day new-day (T .counted h);
+                  same = T .same;
+                });
               }
 
 -- what is still to be counted

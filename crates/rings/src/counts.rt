@@ -6,8 +6,8 @@ ghost use lib.ListN.{length, getD};
 ghost use Rattle.rings.specs.CoreTimes.{never};
 ghost use Rattle.rings.specs.Table.{tableOf, Split};
 ghost use Rattle.rings.specs.Ring.{query};
-ghost use Rattle.rings.specs.Inner.Peeling.{season, guess, Framed, Span, CoreTimesAre};
-ghost use Rattle.rings.specs.Inner.Counting.{timeBy, Histogram, Timed, Adding, Removing, Taking, Moving};
+ghost use Rattle.rings.specs.Inner.Peeling.{season, Framed, Span, CoreTimesAre};
+ghost use Rattle.rings.specs.Inner.Counting.{CountsBy, WhereCounted, Timed, Adding, Removing, Taking, Moving};
 use crate::choice::one;
 use crate::choice::pick;
 use crate::links::clear;
@@ -41,7 +41,8 @@ pub fn drop_count(counts: &mut [u16], time: u16)
 // Where days are counted and the test holds: one row fewer with this time, and one more of m that are still to be counted. A sum and no branch on the test: whether a row's time moves no processor foresees.
 pub fn take_count(counting: bool, counts: &mut [u16], test: bool, time: u16, m: u16) -> u16
     requires { ⌜ (counting ≡ true → (length (now counts) ≡ 1025) × (m < 16384) × (test ≡ true → (time < 1025) × (1 ≤ getD (now counts) time 0))) ⌝ }
-    ensures { λ r. ⌜ (counting ≡ true → Taking test time m (now (counts .entry)) (now (counts .exit)) r) ⌝ }
+    ensures { λ r. ⌜ WhereCounted counting (Taking test time m (now (counts .entry)) (now (counts .exit)) r) (now (counts .entry)) (now (counts .exit)) ⌝ }
+    ensures { λ r. ⌜ (counting ≡ false → r ≡ m) ⌝ }
 {
     if !counting {
         return m;
@@ -55,7 +56,7 @@ pub fn take_count(counting: bool, counts: &mut [u16], test: bool, time: u16, m: 
 // Where days are counted: the m rows that are still to be counted have this time.
 pub fn pay_counts(counting: bool, counts: &mut [u16], time: u16, m: u16)
     requires { ⌜ (counting ≡ true → (length (now counts) ≡ 1025) × ((time ≡ never → ⊥) → (time < 1025) × (getD (now counts) time 0 + m < 65536))) ⌝ }
-    ensures { λ _. ⌜ (counting ≡ true → Adding m time (now (counts .entry)) (now (counts .exit))) ⌝ }
+    ensures { λ _. ⌜ WhereCounted counting (Adding m time (now (counts .entry)) (now (counts .exit))) (now (counts .entry)) (now (counts .exit)) ⌝ }
 {
     if !counting {
         return;
@@ -66,7 +67,7 @@ pub fn pay_counts(counting: bool, counts: &mut [u16], time: u16, m: u16)
 // Where days are counted: m rows go from one day to another time.
 pub fn move_counts(counting: bool, counts: &mut [u16], old: u16, new: u16, m: u16)
     requires { ⌜ (counting ≡ true → (length (now counts) ≡ 1025) × (old < 1025) × (m ≤ getD (now counts) old 0) × ((new ≡ never → ⊥) → (new < 1025) × (getD (now counts) new 0 + m < 65536))) ⌝ }
-    ensures { λ _. ⌜ (counting ≡ true → Moving m old new (now (counts .entry)) (now (counts .exit))) × (counting ≡ false → now (counts .exit) ≡ now (counts .entry)) ⌝ }
+    ensures { λ _. ⌜ WhereCounted counting (Moving m old new (now (counts .entry)) (now (counts .exit))) (now (counts .entry)) (now (counts .exit)) ⌝ }
 {
     if !counting {
         return;
@@ -120,7 +121,7 @@ pub fn drop_rows(
     requires { ⌜ Framed (now days) (now first) (now second) (season k s te lo) ⌝ }
     requires { ⌜ Span (now days) te lo end × CoreTimesAre (now days) (now first) (now second) (season k s te lo) (now times) × (te ≤ 1024) × Split (now days) (s + 1) next ⌝ }
     requires { ⌜ Timed (tableOf (now days) (now first) (now second)) (query k) te s (length (now days)) (now counts) ⌝ }
-    ensures { λ _. ⌜ Histogram (timeBy (tableOf (now (days .entry)) (now (first .entry)) (now (second .entry))) (guess (now (times .entry))) (s + 1) te) (length (now (days .entry))) (now (counts .exit)) ⌝ }
+    ensures { λ _. ⌜ CountsBy (now (days .entry)) (now (first .entry)) (now (second .entry)) (s + 1) te (now (times .entry)) (now (counts .exit)) ⌝ }
 {
     let mut j = lo;
     while j < next {

@@ -8,7 +8,7 @@ ghost use lib.Dec.{leb, ltb};
 ghost use Rattle.rings.specs.Table.{tableOf};
 ghost use Rattle.rings.specs.Inner.Peeling.{guess, season, Open};
 ghost use Rattle.rings.specs.Inner.Links.{Reading, Every};
-ghost use Rattle.rings.specs.Inner.Counting.{timeBy, Histogram, Raised};
+ghost use Rattle.rings.specs.Inner.Counting.{CountsBy, WhereCounted, Raised};
 ghost use Rattle.rings.specs.Inner.Settling.{Days, Losing, Fewer, Lessened, Queued};
 use crate::choice::lesser;
 use crate::choice::one;
@@ -80,7 +80,13 @@ pub fn lose_others(
     requires { ⌜ Open (now days) (now first) (now second) (now links) (season k start stop lo) ⌝ }
     requires { ⌜ (u < 4096) × (length (now times) ≡ 4096) × (length (now spare) ≡ 4096) × (length (now queue) ≡ 4352) × Reading (now links) u lo from × Every (tableOf (now days) (now first) (now second)) (guess (now times)) lo u (now links) × Days stop (now times) × (new ≡ getD (now times) u 0) ⌝ }
     requires { ⌜ (counting ≡ true → Raised (tableOf (now days) (now first) (now second)) start stop u old new (now times) (now counts)) ⌝ }
-    ensures { λ r. ⌜ (r ≤ 4352 → Lessened (tableOf (now (days .entry)) (now (first .entry)) (now (second .entry))) (guess (now (times .entry))) lo u (length (now (days .entry))) old new (now (spare .entry)) (now (spare .exit)) × Queued tail (now (spare .entry)) (now (queue .entry)) r (now (spare .exit)) (now (queue .exit)) × (counting ≡ true → Histogram (timeBy (tableOf (now (days .entry)) (now (first .entry)) (now (second .entry))) (guess (now (times .entry))) start stop) (length (now (days .entry))) (now (counts .exit)))) ⌝ }
+    ensures { λ r. ⌜ (r ≤ 4352 →
+        Lessened (tableOf (now (days .entry)) (now (first .entry)) (now (second .entry))) (guess (now (times .entry))) lo u
+        (length (now (days .entry))) old new (now (spare .entry)) (now (spare .exit))
+        × Queued tail (now (spare .entry)) (now (queue .entry)) r (now (spare .exit)) (now (queue .exit))) ⌝ }
+    ensures { λ r. ⌜ WhereCounted counting
+        (r ≤ 4352 → CountsBy (now (days .entry)) (now (first .entry)) (now (second .entry)) start stop (now (times .entry)) (now (counts .exit)))
+        (now (counts .entry)) (now (counts .exit)) ⌝ }
 {
     let n = days.len();
     let last = entry(links, u);

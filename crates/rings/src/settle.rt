@@ -11,7 +11,7 @@ ghost use Rattle.rings.specs.CoreTimes.{never};
 ghost use Rattle.rings.specs.Ring.{query};
 ghost use Rattle.rings.specs.Inner.Peeling.{guess, season, Ready, Placed, Open, Span, CoreTimesAre};
 ghost use Rattle.rings.specs.Inner.Links.{Every, Reading, Covered};
-ghost use Rattle.rings.specs.Inner.Counting.{timeBy, Histogram, Timed};
+ghost use Rattle.rings.specs.Inner.Counting.{CountsBy, WhereCounted, Timed};
 ghost use Rattle.rings.specs.Inner.Settling.{Days, Behind, Short, Leaving, Queued, Rising, Spare, Risen};
 use crate::counts::move_counts;
 use crate::links::entry;
@@ -65,10 +65,12 @@ fn settle_near(
 ) -> Near
     requires { ⌜ Open (now days) (now first) (now second) (now links) (season k start stop lo) ⌝ }
     requires { ⌜ (head < tail) × (tail ≤ 4352) × (risen ≤ head) × (length (now times) ≡ 4096) × (length (now spare) ≡ 4096) × (length (now queue) ≡ 4352) × (u < 4096) × (getD (now queue) head 0 ≡ u) × Reading (now links) u lo from × Days stop (now times) × Covered (tableOf (now days) (now first) (now second)) (guess (now times)) lo (now links) ⌝ }
-    requires { ⌜ (counting ≡ true → (stop ≤ 1024) × Histogram (timeBy (tableOf (now days) (now first) (now second)) (guess (now times)) start stop) (length (now days)) (now counts)) ⌝ }
+    requires { ⌜ (counting ≡ true → (stop ≤ 1024) × CountsBy (now days) (now first) (now second) start stop (now times) (now counts)) ⌝ }
     ensures { λ r. ⌜ (r .walked ≤ 32768) × (r .tail ≤ 4352 → (xs : List ℕ) → Rising (tableOf (now (days .entry)) (now (first .entry)) (now (second .entry))) (query k) stop start xs (now (times .entry)) (now (spare .entry)) (now (queue .entry)) head tail risen → Rising (tableOf (now (days .entry)) (now (first .entry)) (now (second .entry))) (query k) stop start xs (now (times .exit)) (now (spare .exit)) (now (queue .exit)) (head + 1) (r .tail) (r .risen)) ⌝ }
     ensures { λ _. ⌜ ((v : ℕ) → guess (now (times .entry)) v ≡ never → guess (now (times .exit)) v ≡ never) ⌝ }
-    ensures { λ r. ⌜ (r .tail ≤ 4352 → counting ≡ true → Histogram (timeBy (tableOf (now (days .entry)) (now (first .entry)) (now (second .entry))) (guess (now (times .exit))) start stop) (length (now (days .entry))) (now (counts .exit))) ⌝ }
+    ensures { λ r. ⌜ WhereCounted counting
+        (r .tail ≤ 4352 → CountsBy (now (days .entry)) (now (first .entry)) (now (second .entry)) start stop (now (times .exit)) (now (counts .exit)))
+        (now (counts .entry)) (now (counts .exit)) ⌝ }
     ensures { λ r. ⌜ (4352 < r .tail → (now (times .exit) ≡ now (times .entry)) × (now (spare .exit) ≡ now (spare .entry)) × (now (counts .exit) ≡ now (counts .entry)) × Behind tail (now (queue .entry)) (now (queue .exit)) × Short (tableOf (now (days .entry)) (now (first .entry)) (now (second .entry))) (guess (now (times .entry))) start k stop (getD (now (times .entry)) u 0) u (r .day)) ⌝ }
 {
     let old = times[u];
@@ -163,10 +165,12 @@ fn settle_far(
     requires { ⌜ Open (now days) (now first) (now second) (now links) (season k start stop lo) ⌝ }
     requires { ⌜ (budget ≤ 65536) × (head < tail) × (tail ≤ 4352) × (risen ≤ head) × (length (now times) ≡ 4096) × (length (now spare) ≡ 4096) × (length (now queue) ≡ 4352) × (u < 4096) × (getD (now queue) head 0 ≡ u) × Reading (now links) u lo from × Days stop (now times) × Covered (tableOf (now days) (now first) (now second)) (guess (now times)) lo (now links) ⌝ }
     requires { ⌜ Short (tableOf (now days) (now first) (now second)) (guess (now times)) start k stop (getD (now times) u 0) u day ⌝ }
-    requires { ⌜ (counting ≡ true → (stop ≤ 1024) × Histogram (timeBy (tableOf (now days) (now first) (now second)) (guess (now times)) start stop) (length (now days)) (now counts)) ⌝ }
+    requires { ⌜ (counting ≡ true → (stop ≤ 1024) × CountsBy (now days) (now first) (now second) start stop (now times) (now counts)) ⌝ }
     ensures { λ r. ⌜ (r .walked ≤ 98304) × (r .tail ≤ 4352 → (xs : List ℕ) → Rising (tableOf (now (days .entry)) (now (first .entry)) (now (second .entry))) (query k) stop start xs (now (times .entry)) (now (spare .entry)) (now (queue .entry)) head tail risen → Rising (tableOf (now (days .entry)) (now (first .entry)) (now (second .entry))) (query k) stop start xs (now (times .exit)) (now (spare .exit)) (now (queue .exit)) (head + 1) (r .tail) (r .risen)) ⌝ }
     ensures { λ _. ⌜ ((v : ℕ) → guess (now (times .entry)) v ≡ never → guess (now (times .exit)) v ≡ never) ⌝ }
-    ensures { λ r. ⌜ (r .tail ≤ 4352 → counting ≡ true → Histogram (timeBy (tableOf (now (days .entry)) (now (first .entry)) (now (second .entry))) (guess (now (times .exit))) start stop) (length (now (days .entry))) (now (counts .exit))) ⌝ }
+    ensures { λ r. ⌜ WhereCounted counting
+        (r .tail ≤ 4352 → CountsBy (now (days .entry)) (now (first .entry)) (now (second .entry)) start stop (now (times .exit)) (now (counts .exit)))
+        (now (counts .entry)) (now (counts .exit)) ⌝ }
 {
     let old = times[u];
     let seen = look(
@@ -251,10 +255,12 @@ fn settle_account(
 ) -> Standing
     requires { ⌜ Open (now days) (now first) (now second) (now links) (season k start stop lo) ⌝ }
     requires { ⌜ (budget ≤ 65536) × (head < tail) × (tail ≤ 4352) × (risen ≤ head) × (length (now times) ≡ 4096) × (length (now spare) ≡ 4096) × (length (now queue) ≡ 4352) × (getD (now queue) head 0 < 4096) × Days stop (now times) × Covered (tableOf (now days) (now first) (now second)) (guess (now times)) lo (now links) ⌝ }
-    requires { ⌜ (counting ≡ true → (stop ≤ 1024) × Histogram (timeBy (tableOf (now days) (now first) (now second)) (guess (now times)) start stop) (length (now days)) (now counts)) ⌝ }
+    requires { ⌜ (counting ≡ true → (stop ≤ 1024) × CountsBy (now days) (now first) (now second) start stop (now times) (now counts)) ⌝ }
     ensures { λ r. ⌜ (r .walked ≤ 131072) × (r .tail ≤ 4352 → (xs : List ℕ) → Rising (tableOf (now (days .entry)) (now (first .entry)) (now (second .entry))) (query k) stop start xs (now (times .entry)) (now (spare .entry)) (now (queue .entry)) head tail risen → Rising (tableOf (now (days .entry)) (now (first .entry)) (now (second .entry))) (query k) stop start xs (now (times .exit)) (now (spare .exit)) (now (queue .exit)) (head + 1) (r .tail) (r .risen)) ⌝ }
     ensures { λ _. ⌜ ((v : ℕ) → guess (now (times .entry)) v ≡ never → guess (now (times .exit)) v ≡ never) ⌝ }
-    ensures { λ r. ⌜ (r .tail ≤ 4352 → counting ≡ true → Histogram (timeBy (tableOf (now (days .entry)) (now (first .entry)) (now (second .entry))) (guess (now (times .exit))) start stop) (length (now (days .entry))) (now (counts .exit))) ⌝ }
+    ensures { λ r. ⌜ WhereCounted counting
+        (r .tail ≤ 4352 → CountsBy (now (days .entry)) (now (first .entry)) (now (second .entry)) start stop (now (times .exit)) (now (counts .exit)))
+        (now (counts .entry)) (now (counts .exit)) ⌝ }
 {
     let u = entry(queue, head);
     let from = first_from(days, first, second, links, u, lo);
@@ -334,9 +340,11 @@ fn settle(
 ) -> usize
     requires { ⌜ Open (now days) (now first) (now second) (now links) (season k start stop lo) ⌝ }
     requires { ⌜ (budget ≤ 65536) × (length (now times) ≡ 4096) × (length (now spare) ≡ 4096) × (length (now queue) ≡ 4352) × (waiting ≤ 4352 → Rising (tableOf (now days) (now first) (now second)) (query k) stop start (now times) (now times) (now spare) (now queue) 0 waiting 0) × Covered (tableOf (now days) (now first) (now second)) (guess (now times)) lo (now links) ⌝ }
-    requires { ⌜ (counting ≡ true → (stop ≤ 1024) × Histogram (timeBy (tableOf (now days) (now first) (now second)) (guess (now times)) start stop) (length (now days)) (now counts)) ⌝ }
+    requires { ⌜ (counting ≡ true → (stop ≤ 1024) × CountsBy (now days) (now first) (now second) start stop (now times) (now counts)) ⌝ }
     ensures { λ r. ⌜ (r ≤ 4352 → CoreTimesAre (now (days .entry)) (now (first .entry)) (now (second .entry)) (season k start stop lo) (now (times .exit)) × Spare (tableOf (now (days .entry)) (now (first .entry)) (now (second .entry))) (query k) start (now (times .exit)) (now (spare .exit)) × Risen (now (times .entry)) (now (times .exit)) (now (queue .exit)) r) ⌝ }
-    ensures { λ r. ⌜ (r ≤ 4352 → counting ≡ true → Histogram (timeBy (tableOf (now (days .entry)) (now (first .entry)) (now (second .entry))) (guess (now (times .exit))) start stop) (length (now (days .entry))) (now (counts .exit))) ⌝ }
+    ensures { λ r. ⌜ WhereCounted counting
+        (r ≤ 4352 → CountsBy (now (days .entry)) (now (first .entry)) (now (second .entry)) start stop (now (times .exit)) (now (counts .exit)))
+        (now (counts .entry)) (now (counts .exit)) ⌝ }
 {
     let mut head = 0;
     let mut tail = waiting;
@@ -536,9 +544,12 @@ pub fn step(
     requires { ⌜ Open (now days) (now first) (now second) (now links) (season k (s + 1) te next) ⌝ }
     requires { ⌜ (s ≤ te) × (te ≤ 1024) × Split (now days) s lo × Split (now days) (s + 1) next × Split (now days) (te + 1) end ⌝ }
     requires { ⌜ CoreTimesAre (now days) (now first) (now second) (season k s te lo) (now times) × Spare (tableOf (now days) (now first) (now second)) (query k) s (now times) (now spare) × (length (now queue) ≡ 4352) × Covered (tableOf (now days) (now first) (now second)) (guess (now times)) next (now links) ⌝ }
-    requires { ⌜ (counting ≡ true → Histogram (timeBy (tableOf (now days) (now first) (now second)) (guess (now times)) (s + 1) te) (length (now days)) (now counts)) ⌝ }
+    requires { ⌜ (counting ≡ true → CountsBy (now days) (now first) (now second) (s + 1) te (now times) (now counts)) ⌝ }
     ensures { λ r. ⌜ (r ≤ 4352 → CoreTimesAre (now (days .entry)) (now (first .entry)) (now (second .entry)) (season k (s + 1) te next) (now (times .exit)) × Spare (tableOf (now (days .entry)) (now (first .entry)) (now (second .entry))) (query k) (s + 1) (now (times .exit)) (now (spare .exit)) × Risen (now (times .entry)) (now (times .exit)) (now (queue .exit)) r) ⌝ }
-    ensures { λ r. ⌜ (r ≤ 4352 → counting ≡ true → Timed (tableOf (now (days .entry)) (now (first .entry)) (now (second .entry))) (query k) te (s + 1) (length (now (days .entry))) (now (counts .exit))) ⌝ }
+    ensures { λ r. ⌜ WhereCounted counting
+        (r ≤ 4352 → Timed (tableOf (now (days .entry)) (now (first .entry)) (now (second .entry))) (query k) te (s + 1)
+        (length (now (days .entry))) (now (counts .exit)))
+        (now (counts .entry)) (now (counts .exit)) ⌝ }
 {
     let waiting = leave_rows(
         days,
@@ -595,6 +606,7 @@ pub fn advance(
     requires { ⌜ (s ≤ te) × (te ≤ 1024) × Split (now days) s lo × Split (now days) (s + 1) next × Split (now days) (te + 1) end ⌝ }
     requires { ⌜ CoreTimesAre (now days) (now first) (now second) (season k s te lo) (now times) × Spare (tableOf (now days) (now first) (now second)) (query k) s (now times) (now spare) × (length (now queue) ≡ 4352) ⌝ }
     ensures { λ r. ⌜ CoreTimesAre (now (days .entry)) (now (first .entry)) (now (second .entry)) (season k (s + 1) te next) (now (times .exit)) × Spare (tableOf (now (days .entry)) (now (first .entry)) (now (second .entry))) (query k) (s + 1) (now (times .exit)) (now (spare .exit)) × Risen (now (times .entry)) (now (times .exit)) (now (queue .exit)) r ⌝ }
+    ensures { λ _. ⌜ now (counts .exit) ≡ now (counts .entry) ⌝ }
 {
     let counting = false;
     let risen = step(

@@ -2,6 +2,8 @@
 --     timeBy t x s hi j     the time of row j where x gives those of the accounts: the greatest of both and of its own day; never outside the days from s to hi
 --     IsTime x              x is a day, or never
 --     Histogram g n xs      xs holds, for each day, how many of the first n rows have it by g
+--     CountsBy              that histogram, by the times that the accounts have
+--     WhereCounted          what a walk with the flag `counting` promises: where days are counted P, where they are not the counts as they were
 --     owed new m e          m on the day new, else 0
 --     Owing g n new m xs    the same but for m rows that are still to be counted on the day new
 --     Adding, Removing      m rows more with a time, and one fewer
@@ -35,6 +37,14 @@ IsTime x = (x < 1025) ⊎ (x ≡ never)
 pub record Histogram (g : ℕ → ℕ) (n : ℕ) (xs : List ℕ) : Type 0 where
   pub long : length xs ≡ 1025
   pub each : (e : ℕ) → e < 1025 → getD xs e 0 ≡ count (λ j. eqb (g j) e) n
+
+abbrev pub CountsBy : (d f g : List ℕ) (s hi : ℕ) (times xs : List ℕ) → Type 0
+CountsBy d f g s hi times xs = Histogram (timeBy (tableOf d f g) (guess times) s hi) (length d) xs
+
+-- xs the counts before, xs′ those after
+pub record WhereCounted (counting : Bool) (P : Type 0) (xs xs′ : List ℕ) : Type 0 where
+  pub counted : counting ≡ true → P
+  pub same : counting ≡ false → xs′ ≡ xs
 
 unfoldable pub owed : ℕ → ℕ → ℕ → ℕ
 owed new m e = elim (eqb new e) [ true ↦ m | false ↦ 0 ]

@@ -15,7 +15,7 @@ use Rattle.rings.proofs.links.wide.Reads as wide-reads
 
 -- src/counts.rt:71:9
 returns : tie.Need-returns
-returns c = (λ h. clash h (not-true _ (c .if1 .taken)), λ h. refl)
+returns c = record { counted = λ h. clash h (not-true _ (c .if1 .taken)); same = λ h. refl }
 
 -- src/counts.rt:73:9
 wide-requires : tie.Need-wide-requires
@@ -51,7 +51,7 @@ same-length c = c .before .before .add-count .kept .0 ∙ length-set (c .before 
 
 -- src/counts.rt:66:1
 returns-2 : tie.Need-returns-2
-returns-2 c = (λ h. moving-made _ _ _ (c .before .before .before .before .before .before .before .before .args .counts .now) _ ((c .before .before .before .before .before .before .before .before .pre (not-false _ (c .before .before .before .before .before .before .if1 .left))) .0) ((c .before .before .before .before .before .before .before .before .pre (not-false _ (c .before .before .before .before .before .before .if1 .left))) .1) ((c .before .before .before .before .before .before .before .before .pre (not-false _ (c .before .before .before .before .before .before .if1 .left))) .2) (ap (λ (i : ℕ). set (c .before .before .before .before .before .before .before .before .args .counts .now) i (getD (c .before .before .before .before .before .before .before .before .args .counts .now) i 0 - c .before .before .before .before .before .before .before .before .args .m)) (c .before .before .before .before .before .wide .ensures)) (c .before .before .add-count .ensures), λ h. clash (not-false _ (c .before .before .before .before .before .before .if1 .left)) h)
+returns-2 c = record { counted = λ h. moving-made _ _ _ (c .before .before .before .before .before .before .before .before .args .counts .now) _ ((c .before .before .before .before .before .before .before .before .pre (not-false _ (c .before .before .before .before .before .before .if1 .left))) .0) ((c .before .before .before .before .before .before .before .before .pre (not-false _ (c .before .before .before .before .before .before .if1 .left))) .1) ((c .before .before .before .before .before .before .before .before .pre (not-false _ (c .before .before .before .before .before .before .if1 .left))) .2) (ap (λ (i : ℕ). set (c .before .before .before .before .before .before .before .before .args .counts .now) i (getD (c .before .before .before .before .before .before .before .before .args .counts .now) i 0 - c .before .before .before .before .before .before .before .before .args .m)) (c .before .before .before .before .before .wide .ensures)) (c .before .before .add-count .ensures); same = λ h. clash (not-false _ (c .before .before .before .before .before .before .if1 .left)) h }
 
 pub move-counts-spec : {M : Type 1} → statement M
 move-counts-spec =

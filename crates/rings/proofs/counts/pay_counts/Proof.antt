@@ -1,3 +1,4 @@
+use mathlib.Core.Path.{refl}
 use Rattle.rings.proofs.WordLaws.{clash}
 use borrow.Author.Tests.{not-true, not-false}
 use borrow.Author.Needs.{needs}
@@ -9,7 +10,7 @@ use Rattle.rings.proofs.counts.add_count.Reads as add-count-reads
 
 -- src/counts.rt:60:9
 returns : tie.Need-returns
-returns c = λ h. clash h (not-true _ (c .if1 .taken))
+returns c = record { counted = λ h. clash h (not-true _ (c .if1 .taken)); same = λ h. refl }
 
 -- src/counts.rt:62:5
 add-count-requires : tie.Need-add-count-requires
@@ -21,7 +22,7 @@ same-length c = search needs
 
 -- src/counts.rt:55:1
 returns-2 : tie.Need-returns-2
-returns-2 c = λ h. c .before .before .add-count .ensures
+returns-2 c = record { counted = λ h. c .before .before .add-count .ensures; same = λ h. clash (not-false _ (c .before .before .before .before .if1 .left)) h }
 
 pub pay-counts-spec : {M : Type 1} → statement M
 pay-counts-spec = tie.close (tie.spec returns add-count-requires same-length returns-2)

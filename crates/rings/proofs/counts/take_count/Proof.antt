@@ -1,4 +1,4 @@
-use mathlib.Core.Path.{_∙_}
+use mathlib.Core.Path.{refl, _∙_}
 use Rattle.rings.proofs.CountingLaws.{take-place, take-less, take-few, take-end}
 use Rattle.rings.proofs.WordLaws.{clash}
 use borrow.Author.Tests.{not-true, not-false}
@@ -14,7 +14,7 @@ use Rattle.rings.proofs.links.wide.Reads as wide-reads
 
 -- src/counts.rt:46:9
 returns : tie.Need-returns
-returns c = λ h. clash h (not-true _ (c .if1 .taken))
+returns c = (record { counted = λ h. clash h (not-true _ (c .if1 .taken)); same = λ h. refl }, λ h. refl)
 
 -- src/counts.rt:48:9
 one-requires : tie.Need-one-requires
@@ -58,7 +58,7 @@ same-length c = search needs
 
 -- src/counts.rt:41:1
 returns-2 : tie.Need-returns-2
-returns-2 c = λ h. take-end (c .before .before .before .before .before .before .args .counts .now) (λ y. c .before .wide .ensures ∙ c .before .before .pick .ensures .0 y, λ y. c .before .wide .ensures ∙ c .before .before .pick .ensures .1 y) (c .before .before .before .one .ensures) (c .before .before .before .before .before .before .pre (not-false _ (c .before .before .before .before .if1 .left)) .2)
+returns-2 c = (record { counted = λ h. take-end (c .before .before .before .before .before .before .args .counts .now) (λ y. c .before .wide .ensures ∙ c .before .before .pick .ensures .0 y, λ y. c .before .wide .ensures ∙ c .before .before .pick .ensures .1 y) (c .before .before .before .one .ensures) (c .before .before .before .before .before .before .pre (not-false _ (c .before .before .before .before .if1 .left)) .2); same = λ h. clash (not-false _ (c .before .before .before .before .if1 .left)) h }, λ h. clash (not-false _ (c .before .before .before .before .if1 .left)) h)
 
 pub take-count-spec : {M : Type 1} → statement M
 take-count-spec =

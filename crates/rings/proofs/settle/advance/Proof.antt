@@ -35,7 +35,7 @@ same-length-4 c = search needs
 
 -- src/settle.rt:691:9
 returns : tie.Need-returns
-returns c = c .before .before .before .before .before .before .before .before .before .step .ensures .0 (c .if1 .taken)
+returns c = (c .before .before .before .before .before .before .before .before .before .step .ensures .0 (c .if1 .taken), c .before .before .before .before .before .before .before .before .before .step .ensures .1 .same refl)
 
 -- src/settle.rt:699:9
 add-begin : tie.Need-add-begin
@@ -67,7 +67,7 @@ same-length-8 c = search needs
 
 -- src/settle.rt:651:1
 returns-2 : tie.Need-returns-2
-returns-2 c = (c .before .before .before .before .before .before .before .before .before .before .begin .ensures .0, c .before .before .before .before .before .before .before .before .before .before .begin .ensures .1, all-risen (c .before .before .list-all .ensures .0) (c .before .before .list-all .ensures .1))
+returns-2 c = ((c .before .before .before .before .before .before .before .before .before .before .begin .ensures .0, c .before .before .before .before .before .before .before .before .before .before .begin .ensures .1, all-risen (c .before .before .list-all .ensures .0) (c .before .before .list-all .ensures .1)), c .before .before .before .before .before .before .before .before .before .before .before .before .before .before .before .before .before .before .before .before .before .before .before .step .ensures .1 .same refl)
 
 pub advance-spec : {M : Type 1} → statement M
 advance-spec =

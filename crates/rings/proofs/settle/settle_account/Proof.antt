@@ -73,7 +73,7 @@ same-length-8 c = search needs
 
 -- src/settle.rt:232:1
 returns-2 : tie.Need-returns-2
-returns-2 c = ((omega (arith, c .before .before .before .before .before .before .before .before .before .before .before .before .before .before .before .before .before .before .before .before .before .before .before .before .before .settle-near .ensures .0 .0, c .before .before .before .before .before .before .before .before .before .before .settle-far .ensures .0 .0), λ h xs Z. c .before .before .before .before .before .before .before .before .before .before .settle-far .ensures .0 .1 h xs (same-rising ((c .before .before .before .before .before .before .before .before .before .before .before .before .before .before .before .before .before .before .before .before .before .before .before .before .before .settle-near .ensures .1 .1 .1 (c .before .before .before .before .before .before .before .before .before .before .before .before .before .before .before .if1 .left)) .0) ((c .before .before .before .before .before .before .before .before .before .before .before .before .before .before .before .before .before .before .before .before .before .before .before .before .before .settle-near .ensures .1 .1 .1 (c .before .before .before .before .before .before .before .before .before .before .before .before .before .before .before .if1 .left)) .1) ((c .before .before .before .before .before .before .before .before .before .before .before .before .before .before .before .before .before .before .before .before .before .before .before .before .before .settle-near .ensures .1 .1 .1 (c .before .before .before .before .before .before .before .before .before .before .before .before .before .before .before .if1 .left)) .3) Z)), (λ v w. c .before .before .before .before .before .before .before .before .before .before .settle-far .ensures .1 .0 v (c .before .before .before .before .before .before .before .before .before .before .before .before .before .before .before .before .before .before .before .before .before .before .before .before .before .settle-near .ensures .1 .0 v w), c .before .before .before .before .before .before .before .before .before .before .settle-far .ensures .1 .1))
+returns-2 c = ((omega (arith, c .before .before .before .before .before .before .before .before .before .before .before .before .before .before .before .before .before .before .before .before .before .before .before .before .before .settle-near .ensures .0 .0, c .before .before .before .before .before .before .before .before .before .before .settle-far .ensures .0 .0), λ h xs Z. c .before .before .before .before .before .before .before .before .before .before .settle-far .ensures .0 .1 h xs (same-rising ((c .before .before .before .before .before .before .before .before .before .before .before .before .before .before .before .before .before .before .before .before .before .before .before .before .before .settle-near .ensures .1 .1 .1 (c .before .before .before .before .before .before .before .before .before .before .before .before .before .before .before .if1 .left)) .0) ((c .before .before .before .before .before .before .before .before .before .before .before .before .before .before .before .before .before .before .before .before .before .before .before .before .before .settle-near .ensures .1 .1 .1 (c .before .before .before .before .before .before .before .before .before .before .before .before .before .before .before .if1 .left)) .1) ((c .before .before .before .before .before .before .before .before .before .before .before .before .before .before .before .before .before .before .before .before .before .before .before .before .before .settle-near .ensures .1 .1 .1 (c .before .before .before .before .before .before .before .before .before .before .before .before .before .before .before .if1 .left)) .3) Z)), (λ v w. c .before .before .before .before .before .before .before .before .before .before .settle-far .ensures .1 .0 v (c .before .before .before .before .before .before .before .before .before .before .before .before .before .before .before .before .before .before .before .before .before .before .before .before .before .settle-near .ensures .1 .0 v w), record { counted = c .before .before .before .before .before .before .before .before .before .before .settle-far .ensures .1 .1 .counted; same = λ y. c .before .before .before .before .before .before .before .before .before .before .settle-far .ensures .1 .1 .same y ∙ (c .before .before .before .before .before .before .before .before .before .before .before .before .before .before .before .before .before .before .before .before .before .before .before .before .before .settle-near .ensures .1 .1 .1 (c .before .before .before .before .before .before .before .before .before .before .before .before .before .before .before .if1 .left)) .2 }))
 
 pub settle-account-spec : {M : Type 1} → statement M
 settle-account-spec =

@@ -1,5 +1,5 @@
 use native.Mathlib.Omega.{arith}
-use mathlib.Core.Path.{sym, _∙_}
+use mathlib.Core.Path.{refl, sym, _∙_}
 use Rattle.rings.proofs.SettleLaws.{account-same, account-rise, account-days, account-now, account-never, account-every, account-raised}
 use lib.ListN.{length-set}
 use Rattle.rings.proofs.FallLaws.{guess-at}
@@ -30,7 +30,7 @@ same-length c = search needs
 
 -- src/settle.rt:188:9
 returns : tie.Need-returns
-returns c = ((c .before .look .ensures .1, λ h. absurd (omega (arith, h))), (λ v e. e, λ h. absurd (omega (arith, h))))
+returns c = ((c .before .look .ensures .1, λ h. absurd (omega (arith, h))), (λ v e. e, record { counted = λ y h. absurd (omega (arith, h)); same = λ y. refl }))
 
 -- src/settle.rt:194:5
 mul-spare : tie.Need-mul-spare
@@ -50,7 +50,7 @@ same-length-3 c = search needs
 
 -- src/settle.rt:196:9
 returns-2 : tie.Need-returns-2
-returns-2 c = ((c .before .before .look .ensures .1, λ h xs Z. account-same _ _ _ _ _ (c .before .before .before .before .before .before .before .before .before .before .before .before .before .pre .0 .setting) (Z .settling) (c .before .before .before .before .before .before .before .before .before .before .before .before .before .pre .1 .0 .7) (c .before .before .look .ensures .0 (c .before .if1 .left)) (Z .waiting) (c .before .before .before .before .before .before .before .before .before .before .before .before .before .pre .1 .0 .8) (Z .behind) (Z .risen) (c .before .before .before .before .before .before .before .before .before .before .before .before .before .pre .1 .0 .1) (c .before .before .before .before .before .before .before .before .before .before .before .before .before .pre .1 .0 .2) (c .if2 .taken)), (λ v e. e, λ h y. c .before .before .before .before .before .before .before .before .before .before .before .before .before .pre .1 .1 .1 y .1))
+returns-2 c = ((c .before .before .look .ensures .1, λ h xs Z. account-same _ _ _ _ _ (c .before .before .before .before .before .before .before .before .before .before .before .before .before .pre .0 .setting) (Z .settling) (c .before .before .before .before .before .before .before .before .before .before .before .before .before .pre .1 .0 .7) (c .before .before .look .ensures .0 (c .before .if1 .left)) (Z .waiting) (c .before .before .before .before .before .before .before .before .before .before .before .before .before .pre .1 .0 .8) (Z .behind) (Z .risen) (c .before .before .before .before .before .before .before .before .before .before .before .before .before .pre .1 .0 .1) (c .before .before .before .before .before .before .before .before .before .before .before .before .before .pre .1 .0 .2) (c .if2 .taken)), (λ v e. e, record { counted = λ y h. c .before .before .before .before .before .before .before .before .before .before .before .before .before .pre .1 .1 .1 y .1; same = λ y. refl }))
 
 -- src/settle.rt:202:5
 mul-times : tie.Need-mul-times
@@ -90,7 +90,7 @@ same-length-7 c = search needs
 
 -- src/settle.rt:140:1
 returns-3 : tie.Need-returns-3
-returns-3 c = ((c .before .before .before .before .before .before .before .before .before .before .before .before .before .before .before .before .before .look .ensures .1, λ h xs Z. account-rise _ _ _ _ _ (c .before .before .before .before .before .before .before .before .before .before .before .before .before .before .before .before .before .before .before .before .before .before .before .before .before .before .before .before .pre .0 .setting) (Z .settling) (c .before .before .before .before .before .before .before .before .before .before .before .before .before .before .before .before .before .before .before .before .before .before .before .before .before .before .before .before .pre .1 .0 .7) (c .before .before .before .before .before .before .before .before .before .before .before .before .before .before .before .before .before .look .ensures .0 (c .before .before .before .before .before .before .before .before .before .before .before .before .before .before .before .before .if1 .left)) (Z .waiting) (c .before .before .before .before .before .before .before .before .before .before .before .before .before .before .before .before .before .before .before .before .before .before .before .before .before .before .before .before .pre .1 .0 .8) (Z .behind) (Z .risen) (c .before .before .before .before .before .before .before .before .before .before .before .before .before .before .before .before .before .before .before .before .before .before .before .before .before .before .before .before .pre .1 .0 .1) (c .before .before .before .before .before .before .before .before .before .before .before .before .before .before .before .before .before .before .before .before .before .before .before .before .before .before .before .before .pre .1 .0 .2) (c .before .before .before .before .before .before .before .before .before .before .before .before .before .put .ensures) (c .before .before .before .before .before .before .lose-others .ensures h .0) (c .before .before .before .before .before .before .lose-others .ensures h .1) h), (account-never (c .before .before .before .before .before .before .before .before .before .before .before .before .before .before .before .before .before .before .before .before .before .before .before .before .before .before .before .before .args .times .now) (omega (arith, c .before .before .before .before .before .before .before .before .before .before .before .before .before .before .before .before .before .before .before .before .before .before .before .before .before .before .before .before .pre .0 .setting .fits)) (c .before .before .before .before .before .before .before .before .before .before .before .before .before .before .before .before .before .before .before .before .before .before .before .before .before .before .before .before .pre .1 .0 .4) (c .before .before .before .before .before .before .before .before .before .before .before .before .before .before .before .before .before .before .before .before .before .before .before .before .before .before .before .before .pre .1 .0 .7) (c .before .before .before .before .before .before .before .before .before .before .before .before .before .before .before .before .before .before .before .before .before .before .before .before .before .before .before .before .pre .1 .0 .10) (c .before .before .before .before .before .before .before .before .before .before .before .before .before .before .before .before .before .look .ensures .0 (c .before .before .before .before .before .before .before .before .before .before .before .before .before .before .before .before .if1 .left)), λ h y. c .before .before .before .before .before .before .lose-others .ensures h .2 y))
+returns-3 c = ((c .before .before .before .before .before .before .before .before .before .before .before .before .before .before .before .before .before .look .ensures .1, λ h xs Z. account-rise _ _ _ _ _ (c .before .before .before .before .before .before .before .before .before .before .before .before .before .before .before .before .before .before .before .before .before .before .before .before .before .before .before .before .pre .0 .setting) (Z .settling) (c .before .before .before .before .before .before .before .before .before .before .before .before .before .before .before .before .before .before .before .before .before .before .before .before .before .before .before .before .pre .1 .0 .7) (c .before .before .before .before .before .before .before .before .before .before .before .before .before .before .before .before .before .look .ensures .0 (c .before .before .before .before .before .before .before .before .before .before .before .before .before .before .before .before .if1 .left)) (Z .waiting) (c .before .before .before .before .before .before .before .before .before .before .before .before .before .before .before .before .before .before .before .before .before .before .before .before .before .before .before .before .pre .1 .0 .8) (Z .behind) (Z .risen) (c .before .before .before .before .before .before .before .before .before .before .before .before .before .before .before .before .before .before .before .before .before .before .before .before .before .before .before .before .pre .1 .0 .1) (c .before .before .before .before .before .before .before .before .before .before .before .before .before .before .before .before .before .before .before .before .before .before .before .before .before .before .before .before .pre .1 .0 .2) (c .before .before .before .before .before .before .before .before .before .before .before .before .before .put .ensures) (c .before .before .before .before .before .before .lose-others .ensures .0 h .0) (c .before .before .before .before .before .before .lose-others .ensures .0 h .1) h), (account-never (c .before .before .before .before .before .before .before .before .before .before .before .before .before .before .before .before .before .before .before .before .before .before .before .before .before .before .before .before .args .times .now) (omega (arith, c .before .before .before .before .before .before .before .before .before .before .before .before .before .before .before .before .before .before .before .before .before .before .before .before .before .before .before .before .pre .0 .setting .fits)) (c .before .before .before .before .before .before .before .before .before .before .before .before .before .before .before .before .before .before .before .before .before .before .before .before .before .before .before .before .pre .1 .0 .4) (c .before .before .before .before .before .before .before .before .before .before .before .before .before .before .before .before .before .before .before .before .before .before .before .before .before .before .before .before .pre .1 .0 .7) (c .before .before .before .before .before .before .before .before .before .before .before .before .before .before .before .before .before .before .before .before .before .before .before .before .before .before .before .before .pre .1 .0 .10) (c .before .before .before .before .before .before .before .before .before .before .before .before .before .before .before .before .before .look .ensures .0 (c .before .before .before .before .before .before .before .before .before .before .before .before .before .before .before .before .if1 .left)), c .before .before .before .before .before .before .lose-others .ensures .1))
 
 pub settle-far-spec : {M : Type 1} → statement M
 settle-far-spec =

@@ -1,7 +1,7 @@
 use Rattle.rings.proofs.DayLaws.{placed-of, shelves-paired, span-after}
 use Rattle.rings.proofs.SettleLaws.{core-days, split-rises, settle-start}
 use mathlib.Core.Path.{_∙_, sym}
-use Rattle.rings.proofs.CountingLaws.{by-core, hist-same}
+use Rattle.rings.proofs.CountingLaws.{by-core, counted-so, hist-same}
 use native.Mathlib.Omega.{arith}
 use borrow.Author.Needs.{needs}
 use Rattle.rings.proofs.settle.step.Statement.{statement}
@@ -49,7 +49,7 @@ same-length-4 c = search needs
 
 -- src/settle.rt:592:1
 returns : tie.Need-returns
-returns c = (c .before .before .before .before .before .before .before .before .settle .ensures .0, λ h y. hist-same (λ j l. sym (by-core _ _ _ _ _ _ _ (c .before .before .before .before .before .before .before .before .before .before .before .before .before .before .before .before .before .before .before .before .before .before .before .before .before .before .before .before .before .pre .0 .setting) (c .before .before .before .before .before .before .before .before .settle .ensures .0 h .0) j l)) (c .before .before .before .before .before .before .before .before .settle .ensures .1 h y))
+returns c = (c .before .before .before .before .before .before .before .before .settle .ensures .0, counted-so (λ y h. hist-same (λ j l. sym (by-core _ _ _ _ _ _ _ (c .before .before .before .before .before .before .before .before .before .before .before .before .before .before .before .before .before .before .before .before .before .before .before .before .before .before .before .before .before .pre .0 .setting) (c .before .before .before .before .before .before .before .before .settle .ensures .0 h .0) j l)) (y h)) (c .before .before .before .before .before .before .before .before .settle .ensures .1))
 
 pub step-spec : {M : Type 1} → statement M
 step-spec =

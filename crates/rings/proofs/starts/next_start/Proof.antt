@@ -48,7 +48,7 @@ same-length-5 c = search needs
 
 -- src/starts.rt:132:9
 returns : tie.Need-returns
-returns c = record { inside = record { opened = (open-of (c .before .before .before .before .before .before .before .before .before .before .before .before .before .before .before .before .before .before .before .before .before .before .before .before .before .before .before .before .before .before .before .before .pre .0 .inside .opened .sound) (c .before .before .before .before .before .before .before .before .before .before .before .before .before .before .before .before .before .pass-heads .ensures .0) (c .before .before .before .before .before .before .before .before .before .before .before .before .before .before .before .before .before .before .before .before .before .before .before .before .before .before .before .before .before .before .before .before .pre .0 .inside .opened .setting .some-k) (c .before .before .before .before .before .before .before .before .before .before .before .before .before .before .before .before .before .before .before .before .before .before .before .before .before .before .before .before .before .before .before .before .pre .1 .0 .1) (c .before .before .before .before .before .before .before .before .before .before .before .before .before .before .before .before .before .before .before .before .before .before .before .before .before .before .before .before .before .before .before .before .pre .1 .0 .3)); covered = covered-rise (core-never (c .before .before .before .before .before .before .before .before .before .before .before .before .before .before .before .before .before .before .before .before .before .before .before .before .before .before .before .before .before .before .before .before .pre .0 .inside .opened .setting .fits) (c .before .before .before .before .before .before .before .before .before .before .before .before .before .before .before .before .before .before .before .before .before .before .before .before .before .before .before .before .before .before .before .before .pre .0 .inside .times-are) (c .before .before .before .before .before .before .before .before .before .step .ensures .0 (c .if1 .taken) .0)) (le-refl _) (c .before .before .before .before .before .before .before .before .before .before .before .before .before .before .before .before .before .pass-heads .ensures .1 _ (c .before .before .before .before .before .before .before .before .before .before .before .before .before .before .before .before .before .before .before .before .before .before .before .before .before .before .before .before .before .before .before .before .pre .0 .inside .covered)); times-are = c .before .before .before .before .before .before .before .before .before .step .ensures .0 (c .if1 .taken) .0; spares = c .before .before .before .before .before .before .before .before .before .step .ensures .0 (c .if1 .taken) .1; timed = c .before .before .before .before .before .before .before .before .before .step .ensures .1 (c .if1 .taken) refl } }
+returns c = record { inside = record { opened = (open-of (c .before .before .before .before .before .before .before .before .before .before .before .before .before .before .before .before .before .before .before .before .before .before .before .before .before .before .before .before .before .before .before .before .pre .0 .inside .opened .sound) (c .before .before .before .before .before .before .before .before .before .before .before .before .before .before .before .before .before .pass-heads .ensures .0) (c .before .before .before .before .before .before .before .before .before .before .before .before .before .before .before .before .before .before .before .before .before .before .before .before .before .before .before .before .before .before .before .before .pre .0 .inside .opened .setting .some-k) (c .before .before .before .before .before .before .before .before .before .before .before .before .before .before .before .before .before .before .before .before .before .before .before .before .before .before .before .before .before .before .before .before .pre .1 .0 .1) (c .before .before .before .before .before .before .before .before .before .before .before .before .before .before .before .before .before .before .before .before .before .before .before .before .before .before .before .before .before .before .before .before .pre .1 .0 .3)); covered = covered-rise (core-never (c .before .before .before .before .before .before .before .before .before .before .before .before .before .before .before .before .before .before .before .before .before .before .before .before .before .before .before .before .before .before .before .before .pre .0 .inside .opened .setting .fits) (c .before .before .before .before .before .before .before .before .before .before .before .before .before .before .before .before .before .before .before .before .before .before .before .before .before .before .before .before .before .before .before .before .pre .0 .inside .times-are) (c .before .before .before .before .before .before .before .before .before .step .ensures .0 (c .if1 .taken) .0)) (le-refl _) (c .before .before .before .before .before .before .before .before .before .before .before .before .before .before .before .before .before .pass-heads .ensures .1 _ (c .before .before .before .before .before .before .before .before .before .before .before .before .before .before .before .before .before .before .before .before .before .before .before .before .before .before .before .before .before .before .before .before .pre .0 .inside .covered)); times-are = c .before .before .before .before .before .before .before .before .before .step .ensures .0 (c .if1 .taken) .0; spares = c .before .before .before .before .before .before .before .before .before .step .ensures .0 (c .if1 .taken) .1; timed = c .before .before .before .before .before .before .before .before .before .step .ensures .1 .counted refl (c .if1 .taken) } }
 
 -- src/starts.rt:140:9
 add-first-start : tie.Need-add-first-start
