@@ -50,7 +50,7 @@ fn place_of(r: Refusal) -> u64
     }
 }
 
-pub fn of_refusal(r: Refusal) -> Numbers
+pub(crate) fn of_refusal(r: Refusal) -> Numbers
     ensures { λ n. ⌜ n ≡ numbers (refused r) ⌝ }
 {
     let number = number_of(r);
@@ -63,7 +63,7 @@ pub fn of_refusal(r: Refusal) -> Numbers
 }
 
 // Table check, Core times, Recall.
-pub fn of_verdict(v: Verdict) -> Numbers
+pub(crate) fn of_verdict(v: Verdict) -> Numbers
     ensures { λ n. ⌜ n ≡ numbers (verdictReport v) ⌝ }
 {
     match v {
@@ -77,7 +77,7 @@ pub fn of_verdict(v: Verdict) -> Numbers
 }
 
 // Window ring, Minimal windows, Longest list.
-pub fn of_counted(c: Counted) -> Numbers
+pub(crate) fn of_counted(c: Counted) -> Numbers
     ensures { λ n. ⌜ n ≡ numbers (countedReport c) ⌝ }
 {
     match c {
@@ -91,7 +91,7 @@ pub fn of_counted(c: Counted) -> Numbers
 }
 
 // The table reader.
-pub fn of_read(t: TableRead) -> Numbers
+pub(crate) fn of_read(t: TableRead) -> Numbers
     ensures { λ n. ⌜ n ≡ numbers (readReport t) ⌝ }
 {
     match t {

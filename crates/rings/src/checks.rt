@@ -27,7 +27,7 @@ pub fn is_window(s: u16, e: u16) -> bool
 }
 
 // 1 ≤ Ts ≤ s ≤ Te ≤ 1,024.
-pub fn is_start(ts: u16, s: u16, te: u16) -> bool
+pub(crate) fn is_start(ts: u16, s: u16, te: u16) -> bool
     ensures { λ r. ⌜ r ≡ (leb 1 ts and leb ts s and leb s te and leb te 1024) ⌝ }
 {
     if ts < 1 {

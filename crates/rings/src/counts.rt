@@ -15,7 +15,7 @@ use crate::links::wide;
 use crate::times::row_time;
 
 // m rows more with this time, if it is a day.
-pub fn add_count(counts: &mut [u16], time: u16, m: u16)
+pub(crate) fn add_count(counts: &mut [u16], time: u16, m: u16)
     requires { ⌜ (length (now counts) ≡ 1025) × ((time ≡ never → ⊥) → (time < 1025) × (getD (now counts) time 0 + m < 65536)) ⌝ }
     ensures { λ _. ⌜ Adding m time (now (counts .entry)) (now (counts .exit)) ⌝ }
 {
@@ -27,7 +27,7 @@ pub fn add_count(counts: &mut [u16], time: u16, m: u16)
 }
 
 // One row fewer with this time, if it is a day.
-pub fn drop_count(counts: &mut [u16], time: u16)
+pub(crate) fn drop_count(counts: &mut [u16], time: u16)
     requires { ⌜ (length (now counts) ≡ 1025) × ((time ≡ never → ⊥) → (time < 1025) × (1 ≤ getD (now counts) time 0)) ⌝ }
     ensures { λ _. ⌜ Removing time (now (counts .entry)) (now (counts .exit)) ⌝ }
 {
@@ -39,7 +39,7 @@ pub fn drop_count(counts: &mut [u16], time: u16)
 }
 
 // Where days are counted and the test holds: one row fewer with this time, and one more of m that are still to be counted. A sum and no branch on the test: whether a row's time moves no processor foresees.
-pub fn take_count(counting: bool, counts: &mut [u16], test: bool, time: u16, m: u16) -> u16
+pub(crate) fn take_count(counting: bool, counts: &mut [u16], test: bool, time: u16, m: u16) -> u16
     requires { ⌜ (counting ≡ true → (length (now counts) ≡ 1025) × (m < 16384) × (test ≡ true → (time < 1025) × (1 ≤ getD (now counts) time 0))) ⌝ }
     ensures { λ r. ⌜ WhereCounted counting (Taking test time m (now (counts .entry)) (now (counts .exit)) r) (now (counts .entry)) (now (counts .exit)) ⌝ }
     ensures { λ r. ⌜ (counting ≡ false → r ≡ m) ⌝ }
@@ -54,7 +54,7 @@ pub fn take_count(counting: bool, counts: &mut [u16], test: bool, time: u16, m: 
 }
 
 // Where days are counted: the m rows that are still to be counted have this time.
-pub fn pay_counts(counting: bool, counts: &mut [u16], time: u16, m: u16)
+pub(crate) fn pay_counts(counting: bool, counts: &mut [u16], time: u16, m: u16)
     requires { ⌜ (counting ≡ true → (length (now counts) ≡ 1025) × ((time ≡ never → ⊥) → (time < 1025) × (getD (now counts) time 0 + m < 65536))) ⌝ }
     ensures { λ _. ⌜ WhereCounted counting (Adding m time (now (counts .entry)) (now (counts .exit))) (now (counts .entry)) (now (counts .exit)) ⌝ }
 {
@@ -65,7 +65,7 @@ pub fn pay_counts(counting: bool, counts: &mut [u16], time: u16, m: u16)
 }
 
 // Where days are counted: m rows go from one day to another time.
-pub fn move_counts(counting: bool, counts: &mut [u16], old: u16, new: u16, m: u16)
+pub(crate) fn move_counts(counting: bool, counts: &mut [u16], old: u16, new: u16, m: u16)
     requires { ⌜ (counting ≡ true → (length (now counts) ≡ 1025) × (old < 1025) × (m ≤ getD (now counts) old 0) × ((new ≡ never → ⊥) → (new < 1025) × (getD (now counts) new 0 + m < 65536))) ⌝ }
     ensures { λ _. ⌜ WhereCounted counting (Moving m old new (now (counts .entry)) (now (counts .exit))) (now (counts .entry)) (now (counts .exit)) ⌝ }
 {
@@ -78,7 +78,7 @@ pub fn move_counts(counting: bool, counts: &mut [u16], old: u16, new: u16, m: u1
 }
 
 // The core times at s of all rows, from nothing.
-pub fn count_times(
+pub(crate) fn count_times(
     days: &[u16],
     first: &[u16],
     second: &[u16],
@@ -105,7 +105,7 @@ pub fn count_times(
 }
 
 // The rows of the first day leave: they have no time on the day after it.
-pub fn drop_rows(
+pub(crate) fn drop_rows(
     days: &[u16],
     first: &[u16],
     second: &[u16],

@@ -140,7 +140,7 @@ fn look_at(
 }
 
 // The same walk on the time of u, for a rise from there to the day above. Here each row may bring that day nearer, first of its pair or not, so that none comes in between: the rows that move with u are then those that come in by c, and who loses it are those of its supporters who have the time c. These are listed behind the queue, which has room for one for each row: each is written, and the end moves on behind those who lose it, without a branch.
-pub fn gather(
+pub(crate) fn gather(
     days: &[u16],
     first: &[u16],
     second: &[u16],
@@ -210,7 +210,7 @@ pub fn gather(
 }
 
 // What an account has to spare on the day above, counted from 1; 0 where those who support it then are too few. Never asks for none.
-pub fn spare_above(above: u16, both: u16, k: u16) -> u16
+pub(crate) fn spare_above(above: u16, both: u16, k: u16) -> u16
     requires { ⌜ both ≤ 16384 ⌝ }
     ensures { λ r. ⌜ Spared above both k r ⌝ }
 {
@@ -224,7 +224,7 @@ pub fn spare_above(above: u16, both: u16, k: u16) -> u16
 }
 
 // The first day from the time of u on with k supporters, or never, where it is known that no day before this one has them. It gives up when it has passed more rows than the budget allows.
-pub fn look(
+pub(crate) fn look(
     days: &[u16],
     first: &[u16],
     second: &[u16],
@@ -301,7 +301,7 @@ pub fn look(
 }
 
 // Where the rows of u from lo on begin in the book: at its head, which has passed those that left. The search makes it sure, so no walk asks for it row by row.
-pub fn first_from(
+pub(crate) fn first_from(
     days: &[u16],
     first: &[u16],
     second: &[u16],

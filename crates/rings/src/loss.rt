@@ -22,14 +22,14 @@ use crate::peel::is_first;
 use crate::times::greater;
 
 // An account whose time is z had a supporter with the time old by a row of this day, and has it no more when that has the time new.
-pub fn is_lost(z: u16, day: u16, old: u16, new: u16) -> bool
+pub(crate) fn is_lost(z: u16, day: u16, old: u16, new: u16) -> bool
     ensures { λ r. ⌜ r ≡ ((leb old z && leb day z) && ltb z new) ⌝ }
 {
     (old <= z) & (day <= z) & (z < new)
 }
 
 // v loses a supporter where the test holds. It is put at the end of the queue, and the end moves on if it has none to spare now: no branch, as in a look.
-pub fn lose(spare: &mut [u16], queue: &mut [u16], tail: usize, v: usize, test: bool) -> usize
+pub(crate) fn lose(spare: &mut [u16], queue: &mut [u16], tail: usize, v: usize, test: bool) -> usize
     requires { ⌜ (length (now spare) ≡ 4096) × (length (now queue) ≡ 4352) × (v < 4096) × (tail < 4352) ⌝ }
     ensures { λ r. ⌜ Losing test v tail (now (spare .entry)) (now (queue .entry)) (now (spare .exit)) (now (queue .exit)) r ⌝ }
 {
@@ -42,7 +42,7 @@ pub fn lose(spare: &mut [u16], queue: &mut [u16], tail: usize, v: usize, test: b
 }
 
 // Each account that is listed from place tail to upto loses a supporter, and waits if it has none to spare now. The list stands behind the queue: the queue grows over what has been read of it.
-pub fn lose_listed(spare: &mut [u16], queue: &mut [u16], tail: usize, upto: usize) -> usize
+pub(crate) fn lose_listed(spare: &mut [u16], queue: &mut [u16], tail: usize, upto: usize) -> usize
     requires { ⌜ (length (now spare) ≡ 4096) × (length (now queue) ≡ 4352) × (tail ≤ upto) × (upto ≤ 4352) × ((i : ℕ) → tail ≤ i → i < upto → getD (now queue) i 0 < 4096) ⌝ }
     ensures { λ r. ⌜ (r ≤ 4352) × Queued tail (now (spare .entry)) (now (queue .entry)) r (now (spare .exit)) (now (queue .exit)) × Fewer tail upto (now (queue .entry)) (now (spare .entry)) (now (spare .exit)) ⌝ }
 {
@@ -57,7 +57,7 @@ pub fn lose_listed(spare: &mut [u16], queue: &mut [u16], tail: usize, upto: usiz
 }
 
 // The rise of u takes a supporter from each that it supported till now. A row dated on the new time or later, or behind the range, takes none. Where days are counted, each row whose time moves with it is taken off its day, and all of them are counted on the new one at the end. 4,353 says that the queue has no place left.
-pub fn lose_others(
+pub(crate) fn lose_others(
     days: &[u16],
     first: &[u16],
     second: &[u16],

@@ -15,7 +15,7 @@ use crate::links::other;
 use crate::links::put;
 
 // Row j is the first of its pair from row lo on: it brings a new neighbour.
-pub fn is_fresh(links: &[u16], n: usize, lo: usize, j: usize) -> bool
+pub(crate) fn is_fresh(links: &[u16], n: usize, lo: usize, j: usize) -> bool
     requires { ⌜ (n ≤ 16384) × (j < n) × (8192 + 2 * n + j < length (now links)) ⌝ }
     ensures { λ r. ⌜ r ≡ (leb lo j and leb (getD (now (links .entry)) (8192 + 2 * n + j) 0) lo) ⌝ }
 {
@@ -24,7 +24,7 @@ pub fn is_fresh(links: &[u16], n: usize, lo: usize, j: usize) -> bool
 }
 
 // The same for a row that is known to be at lo or later.
-pub fn is_first(links: &[u16], n: usize, lo: usize, j: usize) -> bool
+pub(crate) fn is_first(links: &[u16], n: usize, lo: usize, j: usize) -> bool
     requires { ⌜ (n ≤ 16384) × (j < n) × (8192 + 2 * n + j < length (now links)) × (lo ≤ j) ⌝ }
     ensures { λ r. ⌜ r ≡ (leb lo j and leb (getD (now (links .entry)) (8192 + 2 * n + j) 0) lo) ⌝ }
 {
@@ -319,7 +319,7 @@ fn weed(
 }
 
 // The ring of the whole window: who has not fallen when nobody waits is met in it.
-pub fn core(
+pub(crate) fn core(
     days: &[u16],
     first: &[u16],
     second: &[u16],
@@ -375,7 +375,7 @@ pub fn core(
 }
 
 // The core times of all accounts at one start.
-pub fn peel(
+pub(crate) fn peel(
     days: &[u16],
     first: &[u16],
     second: &[u16],

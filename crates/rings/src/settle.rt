@@ -487,7 +487,7 @@ fn list_all(list: &mut [u16])
 }
 
 // The core times of the first start, from nothing.
-pub fn begin(
+pub(crate) fn begin(
     days: &[u16],
     first: &[u16],
     second: &[u16],
@@ -524,7 +524,7 @@ pub fn begin(
 }
 
 // From the core times at s to those at the day after it, where the heads stand already, with a list of the accounts whose times are others; the number of its entries. Where days are counted, so are the row times: at entry without the rows dated s. 4,353 where settling grows dear: the start is to be peeled then, so that none costs more than a constant times its rows.
-pub fn step(
+pub(crate) fn step(
     days: &[u16],
     first: &[u16],
     second: &[u16],
@@ -586,7 +586,7 @@ pub fn step(
 }
 
 // The same with the whole book at hand, and where no days are counted: counts is not used. A start that is peeled lists every account.
-pub fn advance(
+pub(crate) fn advance(
     days: &[u16],
     first: &[u16],
     second: &[u16],

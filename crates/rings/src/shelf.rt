@@ -28,7 +28,7 @@ fn pass_head(scratch: &mut [u16], u: usize, j: usize)
 }
 
 // The rows from lo to next leave: the heads pass those that stand in the book.
-pub fn pass_heads(
+pub(crate) fn pass_heads(
     days: &[u16],
     first: &[u16],
     second: &[u16],
@@ -80,7 +80,7 @@ fn trim_account(
 }
 
 // The rows that lead to an account without a time go from the book. What stands under such an account itself stays: nobody walks it.
-pub fn trim(
+pub(crate) fn trim(
     days: &[u16],
     first: &[u16],
     second: &[u16],

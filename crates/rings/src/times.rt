@@ -23,14 +23,14 @@ use crate::refusal::Verdict;
 use crate::table::rows_before;
 
 // The greater of two numbers.
-pub fn greater(a: u16, b: u16) -> u16
+pub(crate) fn greater(a: u16, b: u16) -> u16
     ensures { λ r. ⌜ r ≡ Prim.Native.Nat.max a b ⌝ }
 {
     if a < b { b } else { a }
 }
 
 // The core time of row j: never outside the window's rows, else the greatest of its accounts' core times and its own day.
-pub fn row_time(
+pub(crate) fn row_time(
     days: &[u16],
     first: &[u16],
     second: &[u16],
