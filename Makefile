@@ -10,7 +10,7 @@
 SHELL := bash
 .SHELLFLAGS := -eu -o pipefail -c
 .NOTPARALLEL:
-.PHONY: list test kit layout proofs refusals hosts verdict engine bench mutants mutants-rattle clean
+.PHONY: list test kit layout surface proofs refusals hosts verdict engine bench mutants mutants-rattle clean
 
 RT ?= rt
 IN ?= examples/season.txt
@@ -28,7 +28,7 @@ list: kit
 	@echo "list: the rings of $(IN)"
 	@target/bin/ringlist <"$(IN)"
 
-test: kit layout proofs refusals hosts verdict
+test: kit layout surface proofs refusals hosts verdict
 
 # The kits of the file KIT have proved this repository. Another may too, but nobody has looked.
 kit:
@@ -45,6 +45,10 @@ kit:
 layout:
 	@echo "layout: rt fmt --check"
 	@$(RT) fmt --check || { echo "layout: rt fmt puts it right"; exit 1; }
+
+surface:
+	@echo "surface: what each crate shows, against docs/DECISIONS.md"
+	@python3 tools/surface.py
 
 # rt ci takes every .rt and .antt file outside target/ for a lost one: so copies of `make mutants` go first.
 proofs:

@@ -139,10 +139,9 @@ def check_citations():
             for owner, page in set(re.findall(r"Rattle·([a-z]+)\.proofs\.([A-Z][A-Za-z0-9]*)", text)):
                 check_page(where, owner, page)
             for owner in crates():
-                if owner != crate:
-                    for name in shut(owner):
-                        if re.search(r"^ *unfolding\b[^\n]*\b%s\b" % name, text, re.M) and "Rattle.%s.specs" % owner in text:
-                            faults.append("inner: %s opens %s of %s" % (where, name, owner))
+                if owner != crate and has_shut(owner) and "Rattle.%s." % owner in text:
+                    if re.search(r"\.inside\b|[{;] *inside =", text):
+                        faults.append("inner: %s opens a state of %s that stays shut" % (where, owner))
 
 
 def check_page(where, owner, page):
@@ -153,15 +152,10 @@ def check_page(where, owner, page):
                 faults.append("inner: %s cites %s of %s, which speaks of specs/Inner" % (where, page, owner))
 
 
-def shut(crate):
-    """The names below the line '-- ---- shut' of a page of a crate's specs/."""
-    names = []
-    for path in glob.glob(os.path.join(ROOT, "crates", crate, "specs", "*.antt")):
-        with open(path) as f:
-            text = f.read()
-        if "-- ---- shut" in text:
-            names += re.findall(r"^unfoldable pub (\w+) :", text.split("-- ---- shut", 1)[1], re.M)
-    return names
+def has_shut(crate):
+    """A page of its specs/ has states that stay shut: records whose one field is `inside`."""
+    pages = glob.glob(os.path.join(ROOT, "crates", crate, "specs", "*.antt"))
+    return any("-- ---- shut" in open(page).read() for page in pages)
 
 
 check_surface()
