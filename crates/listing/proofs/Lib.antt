@@ -5,6 +5,7 @@ pub mod ReachedLaws
 pub mod StartLaws
 pub mod ProgressLaws
 pub mod ReadingLaws
+pub mod InputLaws
 pub mod PrintingLaws
 pub mod AnswerLaws
 pub mod OutcomeLaws

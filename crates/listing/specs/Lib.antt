@@ -7,6 +7,7 @@ pub mod Examples
 pub mod EachRing
 pub mod Program
 pub mod ProgramText
+pub mod ProgramInput
 pub mod ProgramRows
 pub mod ProgramSteps
 pub mod Inner

@@ -1,10 +1,12 @@
 // The listing program: a query and rows from standard input, their listing or the refused line to standard output.
 ghost use mathlib.Core.Path.{_≡_};
-ghost use Prim.Native.Nat.{_≤_};
+ghost use Prim.Native.Nat.{ℕ, _≤_};
+ghost use mathlib.Core.List.{List};
 ghost use lib.ListN.{length, take};
 ghost use Rattle.io.specs.Counts.{Counts};
 ghost use Rattle.text.specs.Print.{refusedLine};
 ghost use Rattle.listing.specs.ProgramText.{programText};
+ghost use Rattle.listing.specs.ProgramInput.{Brought};
 use libc::STDIN_FILENO;
 use libc::STDOUT_FILENO;
 use listing::Printed;
@@ -22,7 +24,7 @@ fn refuse(number: u32, line: usize, output: &mut [u8]) -> usize
 }
 
 // What the program prints for an input, from the output's start on; its length. 45,078 bytes hold the listing of 2,048 rings.
-fn answer(input: &[u8], output: &mut [u8]) -> usize
+fn print(input: &[u8], output: &mut [u8]) -> usize
     requires { ⌜ length (now output) ≡ 45078 ⌝ }
     ensures { λ r. ⌜ Counts r (now (output .exit)) ⌝ }
     ensures { λ r. ⌜ take r (now (output .exit)) ≡ programText (now (input .entry)) ⌝ }
@@ -38,11 +40,21 @@ fn answer(input: &[u8], output: &mut [u8]) -> usize
     }
 }
 
-// One byte more than an input may have, so that a longer one is seen.
+// What the program prints for the input of which a read brought so many bytes into the buffer. 18,449 bytes are one more than an input may have: a
+// longer one is seen to be too long, and of any other all is there.
+fn answer(buffer: &[u8], read: usize, output: &mut [u8]) -> usize
+    requires { ⌜ Counts read (now buffer) ⌝ }
+    requires { ⌜ (18449 ≤ length (now buffer)) × (length (now output) ≡ 45078) ⌝ }
+    ensures { λ r. ⌜ Counts r (now (output .exit)) ⌝ }
+    ensures { λ r. ⌜ ((input : List ℕ) → Brought input (now (buffer .entry)) read → take r (now (output .exit)) ≡ programText input) ⌝ }
+{
+    print(&buffer[..read], output)
+}
+
 fn main() {
-    let mut input = [0u8; 18449];
+    let mut buffer = [0u8; 18449];
     let mut output = [0u8; 45078];
-    let read = io::read_full(STDIN_FILENO, &mut input);
-    let size = answer(&input[..read], &mut output);
+    let read = io::read_full(STDIN_FILENO, &mut buffer);
+    let size = answer(&buffer, read, &mut output);
     io::write_all(STDOUT_FILENO, &output[..size]);
 }

@@ -1,60 +1,26 @@
--- `ringlist::answer` meets its contract: the list call's answer, in an output that holds every text.
+-- `ringlist::answer` meets its contract: a buffer of 18,449 bytes has the text of every input that it was filled from.
 -- Assumes nothing.
-use mathlib.Core.Path.{ap, _∙_}
-use lib.ListN.{length}
+use mathlib.Core.Path.{_∙_}
 use borrow.Author.Needs.{needs}
-use Rattle.listing.proofs.OutcomeLaws.{text-answer, refused-answer}
-use Rattle.ringlist.proofs.PrintedLaws.{prints-found, prints-stopped}
+use Rattle.listing.proofs.InputLaws.{brought-text}
 use Rattle.ringlist.proofs.answer.Statement.{statement}
 use Rattle.ringlist.proofs.answer.Tie as tie
 
-list-text-requires : tie.Need-list-text-requires
-list-text-requires c κs = search needs
+slice-aggregate-print : tie.Need-slice-aggregate-print
+slice-aggregate-print c = search needs
 
-enum-known-printed : tie.Need-enum-known-printed
-enum-known-printed c = search needs
+print-requires : tie.Need-print-requires
+print-requires c κs = search needs
 
 same-length : tie.Need-same-length
 same-length c = search needs
 
 returns : tie.Need-returns
 returns c =
-    let a = c .before .before .before .before .before .before .before .before .before .args in
-    let pre = c .before .before .before .before .before .before .before .before .before .pre in
-    let list-text = c .before .before .before .before .before .list-text in
-    prints-found (a .input .now) (text-answer (a .input .now) (a .output .now) pre (list-text .ensures .0) (list-text .ensures .1) (c .before .printed .given .1))
-
-enum-known-printed-2 : tie.Need-enum-known-printed-2
-enum-known-printed-2 c = search needs
-
-refuse-requires : tie.Need-refuse-requires
-refuse-requires c κs =
-    let a = c .before .before .before .before .before .before .before .before .before .before .args in
-    let pre = c .before .before .before .before .before .before .before .before .before .before .pre in
-    let list-text = c .before .before .before .before .before .before .list-text in
-    let a = refused-answer (a .input .now) (a .output .now) pre (list-text .ensures .0) (list-text .ensures .1) (c .before .before .printed2 .given .1) in (a .number, a .place, ap length (a .kept) ∙ pre)
-
-same-length-2 : tie.Need-same-length-2
-same-length-2 c = search needs
-
-returns-2 : tie.Need-returns-2
-returns-2 c =
-    let a = c .before .before .before .before .before .before .before .before .before .before .before .before .before .args in
-    let refuse = c .before .before .refuse in
-    let pre = c .before .before .before .before .before .before .before .before .before .before .before .before .before .pre in
-    let list-text = c .before .before .before .before .before .before .before .before .before .list-text in
-    let printed2 = c .before .before .before .before .before .printed2 in
-    prints-stopped (a .input .now) (refuse .result) (refuse .last .1 .1 .0) (refused-answer (a .input .now) (a .output .now) pre (list-text .ensures .0) (list-text .ensures .1) (printed2 .given .1)) (refuse .ensures)
+    let a = c .before .before .before .before .before .before .before .args in
+    let pre = c .before .before .before .before .before .before .before .pre in
+    let print = c .before .before .print in
+    (print .ensures .0, λ input b. print .ensures .1 ∙ brought-text input (a .buffer .now) (a .read) (pre .1 .0) b)
 
 pub answer-spec : {M : Type 1} → statement M
-answer-spec =
-    tie.close
-    (tie.spec
-    list-text-requires
-    enum-known-printed
-    same-length
-    returns
-    enum-known-printed-2
-    refuse-requires
-    same-length-2
-    returns-2)
+answer-spec = tie.close (tie.spec slice-aggregate-print print-requires same-length returns)
