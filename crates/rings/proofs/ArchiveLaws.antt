@@ -14,9 +14,9 @@ use mathlib.Core.Logic.{_⊎_, ⊎-elim}
 use mathlib.Core.Bool.{Bool, true}
 use mathlib.Core.List.{List, [], _∷_, _++_, map}
 use lib.ListN.{length, getD, take, drop, length-map}
-use lib.Dec.{ltb, eqb}
+use lib.Dec.{eqb}
 use borrow.Author.Tests.{lt-ltb, le-leb, eq-eqb}
-use Rattle.rings.specs.Words.{_and_, _or_, no, at, run, Pairwise}
+use Rattle.rings.specs.Words.{_and_, no, at, run, Pairwise}
 use Rattle.rings.specs.Table.{Table, size, dayOf}
 use Rattle.rings.specs.Ring.{ring, inRing}
 use Rattle.rings.specs.Windows.{Entry, Listed, minimalWindows, Before, IsMinimalList, entries, recalled}
@@ -35,7 +35,7 @@ use Rattle.rings.proofs.WordLaws.{and-i, or-l, or-r, length-run, marked
 use Rattle.rings.proofs.ListLaws.{mem-run}
 use Rattle.rings.proofs.CheckLaws.{then-accepted, order-accepted}
 use Rattle.rings.proofs.RingLaws.{ring-is, in-window}
-use Rattle.rings.proofs.WindowLaws.{list-is, recall-ring}
+use Rattle.rings.proofs.WindowLaws.{ends-rise, list-is, recall-ring}
 
 -- ---- lists
 
@@ -125,11 +125,6 @@ passes : (r : Refusal) {b : Bool} → b ≡ true → r when no b ≡ Accepted
 unfolding _when_ no
 passes r h = rw h refl
 
-after : (x y : Entry) → Before x y → comesAfter x y ≡ true
-unfolding comesAfter
-after x y (_⊎_.inl l) = or-l (ltb (x .row) (y .row)) (eqb (x .row) (y .row) and ltb (x .start) (y .start) and ltb (x .end) (y .end)) (lt-ltb (x .row) (y .row) l)
-after x y (_⊎_.inr w) = or-r (ltb (x .row) (y .row)) (eqb (x .row) (y .row) and ltb (x .start) (y .start) and ltb (x .end) (y .end)) (and-i (eq-eqb (x .row) (y .row) (w .0)) (and-i (lt-ltb (x .start) (y .start) (w .1)) (lt-ltb (x .end) (y .end) (w .2))))
-
 module _ (t : Table) (q : Query) (lo hi : ℕ) (one : 1 ≤ lo) (top : hi ≤ 1024) (rows starts ends : List ℕ) (A : Archive t q lo hi rows starts ends) where
   abbrev c : Columns
   c = columnsOf rows starts ends
@@ -147,10 +142,20 @@ module _ (t : Table) (q : Query) (lo hi : ℕ) (one : 1 ≤ lo) (top : hi ≤ 10
       let d = in-window t q (x .start) (x .end) (x .row) (w .is-minimal .has) in
       and-i (lt-ltb (x .row) (size t) (w .in-table)) (and-i (le-leb 1 (x .start) (omega arith)) (and-i (le-leb (x .start) (dayOf t (x .row)) (d .from)) (and-i (le-leb (dayOf t (x .row)) (x .end) (d .to)) (le-leb (x .end) 1024 (omega arith)))))
 
+  -- 14 asks more than the list's order: that ends rise too follows from the entries being minimal windows
+  after : (x y : Entry) → Listed t q lo hi x → Listed t q lo hi y → Before x y → comesAfter x y ≡ true
+  unfolding comesAfter
+  after x y a b (_⊎_.inl l) = or-l _ _ (lt-ltb (x .row) (y .row) l)
+  after x y a b (_⊎_.inr w) =
+      let ends : x .end < y .end = ends-rise t q lo hi x y a b (w .0) (w .1) in
+      or-r _ _ (and-i (eq-eqb (x .row) (y .row) (w .0)) (and-i (lt-ltb (x .start) (y .start) (w .1)) (lt-ltb (x .end) (y .end) ends)))
+
   in-place : (i : ℕ) → i < length rows → inPlace c i ≡ true
   unfolding inPlace entries entryAt
   in-place zero l = refl
-  in-place (suc i) l = after (entryAt c i) (entryAt c (suc i)) (run-pair Before (λ j. entryAt c j) 0 (length rows) i (suc i) (A .holds .in-order) (omega arith) (omega arith) (omega arith))
+  in-place (suc i) l =
+      after (entryAt c i) (entryAt c (suc i)) (entry i (omega arith)) (entry (suc i) l)
+      (run-pair Before (λ j. entryAt c j) 0 (length rows) i (suc i) (A .holds .in-order) (omega arith) (omega arith) (omega arith))
 
   entries-pass : inOrder (run (entryCheck t c) 0 (length rows)) ≡ Accepted
   unfolding entryCheck

@@ -4,6 +4,7 @@
 --     inner-minimal, minimal-inner          a row is in the ring of [s, e] exactly if a minimal window of it lies inside (001, Lemma 3)
 --     windows-e, windows-i, windows-order   the windows of a range
 --     before-strict, of-row-e, of-row-i, row-order    the minimal windows of one row, and their order
+--     ends-rise                     of two entries of one row the later start has the later end: what 14 asks beyond the order
 --     list-is, list-only            `minimalWindows` holds exactly the minimal windows of the range, in order, and is the only such list
 --     recall-ring                   recall from such a list marks the ring of every window inside the range
 -- Assumes nothing.
@@ -232,15 +233,21 @@ module _ (t : Table) (q : Query) (lo hi : ℕ) where
       mem-map (entry (x .row)) (chosen (test (x .row)) (windows lo hi))
       (mem-chosen (test (x .row)) (windows lo hi) (windows-i lo hi (record { start = x .start; end = x .end }) o) (minimal-i t q (x .row) (x .start) (x .end) m))
 
-  -- of two minimal windows of one row the later start has the later end
-  both-rise : (j : ℕ) (v w : Window) → test j v ≡ true → test j w ≡ true → OfRange lo hi w → Earlier v w → (v .start < w .start) × (v .end < w .end)
-  both-rise j v w a b o e =
-      ⊎-elim (λ l. (l, lower l)) (λ r. let x = r .0 in let y = r .1 in clash (minimal-e t q j (v .start) (v .end) a .has) (minimal-e t q j (w .start) (w .end) b .none-smaller (v .start) (v .end) (omega arith) (in-order t q (v .start) (v .end) j (minimal-e t q j (v .start) (v .end) a .has)) (omega arith) (λ z. let u = z .1 in omega arith))) e
-    where
-      lower : v .start < w .start → v .end < w .end
-      lower l =
-          ⊎-elim (λ h. clash (minimal-e t q j (w .start) (w .end) b .has) (minimal-e t q j (v .start) (v .end) a .none-smaller (w .start) (w .end) (omega arith) (o .order) (leb-true (w .end) (v .end) h) (λ z. let u = z .0 in omega arith)))
-          (λ h. leb-false (w .end) (v .end) h) (look (leb (w .end) (v .end)))
+  -- two minimal windows of one row do not begin on one day: the shorter lies inside the longer
+  starts-rise : (j : ℕ) (v w : Window) → test j v ≡ true → test j w ≡ true → Earlier v w → v .start < w .start
+  starts-rise j v w a b (_⊎_.inl l) = l
+  starts-rise j v w a b (_⊎_.inr r) =
+      let has = minimal-e t q j (v .start) (v .end) a .has in
+      let longer = minimal-e t q j (w .start) (w .end) b in
+      let x = r .0 in let y = r .1 in
+      clash has (longer .none-smaller (v .start) (v .end) (omega arith) (in-order t q (v .start) (v .end) j has) (omega arith) (λ z. let u = z .1 in omega arith))
+
+  -- nor does the earlier one end with the later one or behind it: it would have that one inside. So ends rise with starts
+  pub ends-rise : (x y : Entry) → Listed t q lo hi x → Listed t q lo hi y → x .row ≡ y .row → x .start < y .start → x .end < y .end
+  ends-rise x y a b e l =
+      ⊎-elim (λ h. clash (subst (λ (j : ℕ). inRing t q (y .start) (y .end) j ≡ true) (sym e) (b .is-minimal .has))
+      (a .is-minimal .none-smaller (y .start) (y .end) (omega arith) (b .order) (leb-true (y .end) (x .end) h) (λ z. let u = z .0 in omega arith)))
+      (λ h. leb-false (y .end) (x .end) h) (look (leb (y .end) (x .end)))
 
   pub row-order : (j : ℕ) → Pairwise Before (minimalOf t q lo hi j)
   unfolding minimalOf
@@ -250,7 +257,7 @@ module _ (t : Table) (q : Query) (lo hi : ℕ) where
       (λ v w m n e.
       let a = chosen-mem (test j) (windows lo hi) m in
       let b = chosen-mem (test j) (windows lo hi) n in
-      let r = both-rise j v w (a .1) (b .1) (windows-e lo hi w (b .0)) e in _⊎_.inr (refl, r .0, r .1)))
+      _⊎_.inr (refl, starts-rise j v w (a .1) (b .1) e)))
 
   -- the computed list holds exactly the minimal windows of the range, in order
   pub list-is : IsMinimalList t q lo hi (minimalWindows t q lo hi)

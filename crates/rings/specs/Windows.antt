@@ -9,6 +9,7 @@
 --     minimalOf t q lo hi j    the minimal windows of row j inside the range, by start
 --     minimalWindows t q lo hi   all entries of the range, by row, then start
 --     Listed t q lo hi x       the entry x is a minimal window of its row inside the range
+--     Before x y         x stands before y: by row, then start
 --     IsMinimalList t q lo hi es    es holds exactly these, each once, by row, then start: `minimalWindows` is the only such list (proofs/WindowLaws.antt)
 --     entries r s e      the entries that three columns hold
 --     recalled es s e j  row j has a listed window inside [s, e]
@@ -65,9 +66,9 @@ pub record Listed (t : Table) (q : Query) (lo hi : ℕ) (x : Entry) : Type 0 whe
   pub to : x .end ≤ hi
   pub is-minimal : IsMinimal t q (x .row) (x .start) (x .end)
 
--- by row, then start: in one row both start and end rise
+-- 01: "by row, then start". That ends rise too, as 14 asks, is a fact of minimal windows and no part of the order (proofs/WindowLaws.antt: ends-rise)
 abbrev pub Before : Entry → Entry → Type 0
-Before x y = (x .row < y .row) ⊎ ((x .row ≡ y .row) × (x .start < y .start) × (x .end < y .end))
+Before x y = (x .row < y .row) ⊎ ((x .row ≡ y .row) × (x .start < y .start))
 
 pub record IsMinimalList (t : Table) (q : Query) (lo hi : ℕ) (es : List Entry) : Type 0 where
   pub each : (x : Entry) → Mem x es → Listed t q lo hi x
