@@ -2,7 +2,7 @@
 --     lost-step                     an account loses a neighbour
 --     walk-start, walk-to, walk-lost, walk-skip, walk-end     the walk over the rows of an account that fell
 -- Assumes nothing.
-use Prim.Native.Nat.{ℕ, zero, suc, _+_, _-_, _≤_, _<_, zero-le}
+use Prim.Native.Nat.{ℕ, zero, suc, _+_, _-_, _≤_, _<_}
 use native.Mathlib.Nat.{le-refl, le-trans, eq-or-lt-of-le, not-suc-le-zero, le-of-suc-le-suc}
 use native.Mathlib.Omega.{arith}
 use mathlib.Core.Path.{_≡_, refl, sym, _∙_, ap, subst}
@@ -15,7 +15,7 @@ use lib.Dec.{leb, ltb, eqb}
 use borrow.Author.Tests.{leb-true, leb-false, ltb-true, lt-ltb, eqb-true, eqb-false, eq-eqb, ne-eqb}
 use Rattle.rings.specs.Words.{_and_, _or_, no, at, count}
 use Rattle.rings.specs.Table.{Table, size, dayOf, firstOf, secondOf}
-use Rattle.rings.specs.Ring.{joins, neighbour, greatest, names, degree, touches, met, ring}
+use Rattle.rings.specs.Ring.{joins, neighbour, names, degree, touches, met, ring}
 use Rattle.rings.specs.CoreTimes.{never, accountTime}
 use Rattle.rings.specs.Inner.Links.{otherOf, fresh}
 use Rattle.rings.specs.Inner.Support.{supports, supporters}
@@ -23,6 +23,7 @@ use Rattle.rings.specs.Inner.Peeling.{Lost, Setting, Fell, Here, Rows, P
 use Rattle.rings.specs.declared.Query.{Query}
 use Rattle.rings.proofs.WordLaws.{look, clash, and-i, and-l, and-r, or-l, or-r, or-e, no-i, no-e, same-truth, count-mono, count-less, count-same, count-le, count-none, same-or}
 use Rattle.rings.proofs.RingLaws.{window-e, joins-touch, touch-cases, touch-first, touch-second, met-i, met-e, neighbour-e, ring-within, ring-degree}
+use Rattle.rings.proofs.OthersLaws.{touch-named}
 use Rattle.rings.proofs.PairLaws.{Partner, count-inject, count-drop, other-first, other-second, joins-other, joins-same, joins-swap, joins-ends, fresh-e, fresh-one, first-fresh}
 use Rattle.rings.proofs.FixpointLaws.{supports-i, supports-e, Lower, Closed, fixpoint, closed-met}
 
@@ -67,23 +68,6 @@ unfolding guess
 guess-far x u n l = List·getD-eq-default x never (omega arith)
 
 -- ---- the other account of a row
-
-at-greatest : (xs : List ℕ) (j : ℕ) → getD xs j 0 ≤ greatest xs
-unfolding greatest
-at-greatest [] j = zero-le
-at-greatest (y ∷ xs) zero = omega arith
-at-greatest (y ∷ xs) (suc j) = let l : getD xs j 0 ≤ greatest xs = at-greatest xs j in omega arith
-
-first-named : (t : Table) (j : ℕ) → firstOf t j < names t
-unfolding firstOf names at
-first-named t j = let l : getD (t .first) j 0 ≤ greatest (t .first) = at-greatest (t .first) j in omega arith
-
-second-named : (t : Table) (j : ℕ) → secondOf t j < names t
-unfolding secondOf names at
-second-named t j = let l : getD (t .second) j 0 ≤ greatest (t .second) = at-greatest (t .second) j in omega arith
-
-pub touch-named : (t : Table) (j u : ℕ) → touches t j u ≡ true → u < names t
-touch-named t j u h = ⊎-elim (λ e. subst (λ (a : ℕ). a < names t) e (first-named t j)) (λ e. subst (λ (a : ℕ). a < names t) e (second-named t j)) (touch-cases t j u h)
 
 supporters-mono : (t : Table) (x x′ : ℕ → ℕ) (s c u : ℕ) → ((w : ℕ) → x w ≤ c → x′ w ≤ c) → supporters t x s c u ≤ supporters t x′ s c u
 unfolding supporters

@@ -30,7 +30,8 @@ use Rattle.rings.proofs.WordLaws.{look, clash, and-i, and-l, and-r, cou
 use Rattle.rings.proofs.RingLaws.{joins-touch}
 use Rattle.rings.proofs.PairLaws.{count-inject, joins-other, joins-same, fresh-e, fresh-one, first-fresh}
 use Rattle.rings.proofs.FixpointLaws.{supports-e, supports-i, enough}
-use Rattle.rings.proofs.FallLaws.{touch-named, guess-at, other-small}
+use Rattle.rings.proofs.OthersLaws.{touch-named}
+use Rattle.rings.proofs.FallLaws.{guess-at, other-small}
 use Rattle.rings.proofs.ShelfLaws.{reading-out, reading-row, reading-touch, reading-from, reading-gap, reading-next, reading-fresh, reading-other}
 
 -- ---- rows and supporters

@@ -67,7 +67,7 @@ pub other-second : (t : Table) (j : ℕ) → firstOf t j < secondOf t j → othe
 unfolding otherOf pickOther
 other-second t j h = ap (λ (b : Bool). pickOther b (firstOf t j) (secondOf t j)) (ne-eqb (firstOf t j) (secondOf t j) (λ e. omega arith))
 
-joins-i : (t : Table) (j u v : ℕ) → ((firstOf t j ≡ u) × (secondOf t j ≡ v)) ⊎ ((firstOf t j ≡ v) × (secondOf t j ≡ u)) → joins t j u v ≡ true
+pub joins-i : (t : Table) (j u v : ℕ) → ((firstOf t j ≡ u) × (secondOf t j ≡ v)) ⊎ ((firstOf t j ≡ v) × (secondOf t j ≡ u)) → joins t j u v ≡ true
 unfolding joins
 joins-i t j u v (_⊎_.inl e) = or-l (eqb (firstOf t j) u and eqb (secondOf t j) v) (eqb (firstOf t j) v and eqb (secondOf t j) u) (and-i (eq-eqb (firstOf t j) u (e .0)) (eq-eqb (secondOf t j) v (e .1)))
 joins-i t j u v (_⊎_.inr e) = or-r (eqb (firstOf t j) u and eqb (secondOf t j) v) (eqb (firstOf t j) v and eqb (secondOf t j) u) (and-i (eq-eqb (firstOf t j) v (e .0)) (eq-eqb (secondOf t j) u (e .1)))

@@ -29,9 +29,9 @@ use Rattle.rings.specs.Buffers.{mark, marks}
 use Rattle.rings.specs.Sound.{RowSound, Sound}
 use Rattle.rings.specs.declared.Query.{Query}
 use Rattle.rings.proofs.WordLaws.{look, and-i, and-l, and-r, same-truth, marked-below, marked-run-e, marked-run-i}
-use Rattle.rings.proofs.RingLaws.{Inside, window-e, window-i, joins-touch, met-i, met-e, neighbour-i, neighbour-e, ring-sized, ring-within, ring-good, ring-holds}
+use Rattle.rings.proofs.RingLaws.{Inside, window-e, window-i, met-i, met-e, neighbour-i, neighbour-e, ring-sized, ring-within, ring-good, ring-holds}
 use Rattle.rings.proofs.PairLaws.{count-inject}
-use Rattle.rings.proofs.FallLaws.{touch-named}
+use Rattle.rings.proofs.OthersLaws.{neighbour-named}
 
 -- ---- row sets with the same payments
 
@@ -68,13 +68,10 @@ module _ {t t′ : Table} {m m′ : List Bool} (C : Copies t m t′ m′) where
       let y = C .each (x .row) (x .below) (x .has) in
       neighbour-i t′ m′ (y .it) u v (y .below) (y .has) (joins-alike t t′ (y .it) (x .row) u v (y .same-first) (y .same-second) ∙ x .join)
 
-  named : (u v : ℕ) → neighbour t′ m′ u v ≡ true → v < names t′
-  named u v h = let x = neighbour-e t′ m′ u v h in touch-named t′ (x .row) v (joins-touch t′ (x .row) u v (x .join) .1)
-
   pub copy-degree : (u : ℕ) → degree t m u ≤ degree t′ m′ u
   unfolding degree
   copy-degree u =
-      count-inject (neighbour t m u) (names t) (neighbour t′ m′ u) (names t′) (λ v w. v ≡ w) (λ v l h. let n = copy-neighbour u v h in record { it = v; below = named u v n; has = n; to = refl })
+      count-inject (neighbour t m u) (names t) (neighbour t′ m′ u) (names t′) (λ v w. v ≡ w) (λ v l h. let n = copy-neighbour u v h in record { it = v; below = neighbour-named t′ m′ u v n; has = n; to = refl })
       (λ i i′ j a b. a ∙ sym b)
 
 pub copy-good : (q : Query) {t t′ : Table} {m m′ : List Bool} → Copies t m t′ m′ → Copies t′ m′ t m → Good t q m → Good t′ q m′

@@ -4,7 +4,7 @@
 --     ring-grows               rings grow with the window
 --     ring-shrinks             and shrink with k
 --     met-row, met-first, met-second    accounts met in a row set
---     joins-two, touch-cases   what `joins` and `touches` say
+--     joins-cases, touch-cases     what `joins` and `touches` say
 --     ring-degree              an account met in the ring has at least k neighbours there
 --     two-met                  a row of the window between two accounts of the ring is in the ring
 --     ring-holds               a good set of the window's rows is within the ring

@@ -7,6 +7,8 @@
 --     touches t j u      u is an account of row j
 --     met t m u          u is met in m: a row of m has it
 --     query n            the query for k = n
+--     Shares t m u v     v is another account than u, and a row of m has both
+--     Others t m u ns    the list ns holds these accounts v, each once: its length is `degree` in an accepted table (proofs/OthersLaws.antt)
 --     Good t q m         every account met in m has at least k distinct others
 --     Within m m'        each row of m is a row of m'
 --     IsRing t q s e m   m is the ring of [s, e], in 01's words
@@ -16,20 +18,21 @@
 --     ring t q s e       the ring of [s, e], computed: `IsRing` holds of it and of nothing else (proofs/RingLaws.antt)
 --     inRing t q s e j   row j is in the ring of [s, e]
 --     members m          how many rows a row set has
-use Prim.Native.Nat.{ℕ, zero, suc, max, _≤_}
+use Prim.Native.Nat.{ℕ, zero, suc, max, _≤_, _<_}
 use mathlib.Core.Path.{_≡_}
+use mathlib.Core.Logic.{_⊎_}
 use mathlib.Core.Bool.{Bool, true}
-use mathlib.Core.List.{List, [], _∷_}
+use mathlib.Core.List.{List, [], _∷_, List·Memᴰ as Mem}
 use lib.ListN.{length}
 use lib.Dec.{leb, eqb}
-use Rattle.rings.specs.Words.{_and_, _or_, marked, some, count, run}
+use Rattle.rings.specs.Words.{_and_, _or_, marked, some, count, run, Pairwise}
 use Rattle.rings.specs.Table.{Table, size, firstOf, secondOf, windowRows}
 use Rattle.rings.specs.declared.Query.{Query}
 
 unfoldable pub joins : Table → ℕ → ℕ → ℕ → Bool
 joins t j u v = (eqb (firstOf t j) u and eqb (secondOf t j) v) or (eqb (firstOf t j) v and eqb (secondOf t j) u)
 
--- 01: "Two rows of one pair give one neighbour". The accounts of a row of an accepted table differ, so v is another account than u
+-- 01: "Two rows of one pair give one neighbour"
 unfoldable pub neighbour : Table → List Bool → ℕ → ℕ → Bool
 neighbour t m u v = some (λ j. marked m j and joins t j u v) (size t)
 
@@ -52,6 +55,20 @@ met t m u = some (λ j. marked m j and touches t j u) (size t)
 
 abbrev pub query : ℕ → Query
 query n = record { k = n }
+
+pub record Shares (t : Table) (m : List Bool) (u v : ℕ) : Type 0 where
+  pub other : v ≡ u → ⊥
+  pub row : ℕ
+  pub in-table : row < size t
+  pub in-set : marked m row ≡ true
+  pub has-u : (firstOf t row ≡ u) ⊎ (secondOf t row ≡ u)
+  pub has-v : (firstOf t row ≡ v) ⊎ (secondOf t row ≡ v)
+
+-- 01: "distinct other accounts"
+pub record Others (t : Table) (m : List Bool) (u : ℕ) (ns : List ℕ) : Type 0 where
+  pub each : (v : ℕ) → Mem v ns → Shares t m u v
+  pub whole : (v : ℕ) → Shares t m u v → Mem v ns
+  pub once : Pairwise (λ v w. v ≡ w → ⊥) ns
 
 -- 01: "every account met has at least k distinct other accounts"
 pub record Good (t : Table) (q : Query) (m : List Bool) : Type 0 where
