@@ -10,26 +10,27 @@ use mathlib.Core.Logic.{_⊎_, ⊎-elim, _↔_}
 use mathlib.Core.Bool.{Bool, true}
 use mathlib.Core.List.{List, map}
 use lib.ListN.{length, take}
-use lib.Dec.{leb, ltb, eqb}
-use borrow.Author.Tests.{lt-ltb, le-ltb, ltb-true, ltb-false, eq-eqb, leb-true}
+use lib.Dec.{ltb, eqb}
+use borrow.Author.Tests.{lt-ltb, le-ltb, ltb-true, ltb-false, eq-eqb}
 use Rattle.rings.specs.Words.{_and_, no}
 use Rattle.rings.specs.Table.{Table, size}
 use Rattle.rings.specs.Ring.{ring}
 use Rattle.rings.specs.CoreTimes.{never}
+use Rattle.rings.specs.Windows.{Archive}
 use Rattle.rings.specs.Checks.{_when_, _then_, queryCheck, rangeCheck, scratchCheck}
 use Rattle.rings.specs.Buffers.{marks, over}
 use Rattle.rings.specs.TableCheck.{tableCheck}
 use Rattle.rings.specs.MinimalWindowsCall.{minimalAnswer, minimalRows, minimalStarts, minimalEnds}
 use Rattle.rings.specs.RecallCall.{columnsOf, recallAnswer, recallMarks}
 use Rattle.rings.specs.declared.Query.{Query}
-use Rattle.rings.specs.declared.refusal.Refusal.{Refusal}
-use Rattle.rings.specs.declared.refusal.Refusal.the-variants.{BadWindow, BadLengths, NoRoom}
+use Rattle.rings.specs.declared.refusal.Refusal.the-variants.{BadLengths, NoRoom}
 use Rattle.rings.specs.declared.refusal.Verdict.{Verdict}
-use Rattle.rings.specs.declared.refusal.Verdict.the-variants.{Accepted, Refused}
+use Rattle.rings.specs.declared.refusal.Verdict.the-variants.{Accepted}
 use Rattle.rings.specs.declared.refusal.Counted.{Counted}
-use Rattle.rings.proofs.WordLaws.{look, clash, and-i, and-l, and-r, no-i}
-use Rattle.rings.proofs.CheckLaws.{then-accepted, when-accepted}
-use Rattle.rings.proofs.ArchiveLaws.{Archive, archive-written, archive-accepted, archive-marks}
+use Rattle.rings.proofs.WordLaws.{look, and-i}
+use Rattle.rings.proofs.CheckLaws.{then-accepted, passes}
+use Rattle.rings.proofs.AcceptedLaws.{range-e}
+use Rattle.rings.proofs.ArchiveLaws.{archive-written, archive-accepted, archive-marks}
 use Rattle.listing.specs.Tight.{nonempty}
 use Rattle.listing.specs.Listing.{ListedRing, listing, rowSum}
 use Rattle.listing.specs.Distinct.{distinctRings}
@@ -71,17 +72,6 @@ pub record Demand3 (t : Table) (q : Query) (lo hi : ℕ) : Type 0 where
       → (let answer = recallAnswer t (columnsOf rows starts ends) s e (length old) in (answer ≡ Accepted) × (recallMarks answer t (columnsOf rows starts ends) s e old ≡ marks (ring t q s e)))
 
 -- ---- the proof
-
-passes : (r : Refusal) {b : Bool} → b ≡ true → r when no b ≡ Accepted
-unfolding _when_ no
-passes r h = rw h refl
-
-range-e : (s e : ℕ) → rangeCheck s e ≡ Accepted → (1 ≤ s) × (s ≤ e) × (e ≤ 1024)
-unfolding rangeCheck
-range-e s e h = (leb-true 1 s (and-l (leb 1 s) (leb s e and leb e 1024) all), leb-true s e (and-l (leb s e) (leb e 1024) (and-r (leb 1 s) (leb s e and leb e 1024) all)), leb-true e 1024 (and-r (leb s e) (leb e 1024) (and-r (leb 1 s) (leb s e and leb e 1024) all)))
-  where
-    all : (leb 1 s and leb s e and leb e 1024) ≡ true
-    all = ⊎-elim (λ y. y) (λ y. clash (no-i y) (when-accepted BadWindow (no (leb 1 s and leb s e and leb e 1024)) h)) (look (leb 1 s and leb s e and leb e 1024))
 
 isRings : Listed → Type 0
 isRings (Listed.Rings n sum) = Unit {0}
@@ -136,8 +126,11 @@ module _ (t : Table) (q : Query) (lo hi : ℕ) (table : tableCheck t ≡ Accepte
         written = λ rowPlaces startPlaces endPlaces scratch count rows starts ends h. archive-written t q lo hi rows starts ends rowPlaces startPlaces endPlaces scratch h;
         recalls = λ rows starts ends old s e A l from order to.
             let w = range-e lo hi range in
-            let a = ap (recallAnswer t (columnsOf rows starts ends) s e) l ∙ archive-accepted t q lo hi (w .0) (w .2) rows starts ends A s e from order to table in
-            (a, ap (λ (v : Verdict). recallMarks v t (columnsOf rows starts ends) s e old) a ∙ archive-marks t q lo hi (w .0) (w .2) rows starts ends A s e from order to old);
+            let a = ap (recallAnswer t (columnsOf rows starts ends) s e) l ∙ archive-accepted t q lo hi (w .0) (w .2) rows starts ends A s e from order to table in (
+              a,
+              ap (λ (v : Verdict). recallMarks v t (columnsOf rows starts ends) s e old) a
+                  ∙ archive-marks t q lo hi rows starts ends A s e (omega (arith, w .2)) from to old,
+            );
       }
     where
       many : length (distinctRings t q lo hi) ≡ length list

@@ -3,11 +3,10 @@
 --     scratch-kept             their refusals keep the scratch
 --     then-room                a check behind them
 --     call-sound, call-k, call-window, call-lengths, call-scratch     an accepted call: each check has passed
---     window-e, start-e, lengths-e     a window, a start in its range, two pairs of lengths that passed
+--     window-e, range-e, start-e, lengths-e     a window or a range, a start in its range, two pairs of lengths that passed
 -- Assumes nothing.
 use Prim.Native.Nat.{ℕ, _+_, _*_, _≤_}
 use mathlib.Core.Path.{_≡_, refl, sym, _∙_, ap}
-use mathlib.Core.Logic.{⊎-elim}
 use mathlib.Core.Bool.{Bool, true, false}
 use mathlib.Core.List.{List}
 use lib.ListN.{length}
@@ -17,7 +16,7 @@ use Rattle.rings.specs.Words.{_and_, no}
 use Rattle.rings.specs.Table.{Table, tableOf}
 use Rattle.rings.specs.TableCheck.{tableCheck}
 use Rattle.rings.specs.Sound.{Sound}
-use Rattle.rings.specs.Checks.{_when_, _then_, queryCheck, scratchCheck}
+use Rattle.rings.specs.Checks.{_when_, _then_, queryCheck, rangeCheck, scratchCheck}
 use Rattle.rings.specs.Refusals.{behindScratch}
 use Rattle.rings.specs.Buffers.{clearedIf, scratchOn}
 use Rattle.rings.specs.declared.Query.{Query}
@@ -25,8 +24,8 @@ use Rattle.rings.specs.declared.refusal.Refusal.{Refusal}
 use Rattle.rings.specs.declared.refusal.Refusal.the-variants.{BadK, BadWindow, BadLengths, SmallScratch}
 use Rattle.rings.specs.declared.refusal.Verdict.{Verdict}
 use Rattle.rings.specs.declared.refusal.Verdict.the-variants.{Accepted, Refused}
-use Rattle.rings.proofs.WordLaws.{look, clash, and-l, and-r, no-i}
-use Rattle.rings.proofs.CheckLaws.{accepted-left, accepted-right, when-accepted, front-call}
+use Rattle.rings.proofs.WordLaws.{and-l, and-r}
+use Rattle.rings.proofs.CheckLaws.{accepted-left, accepted-right, when-accepted, passed, front-call}
 use Rattle.rings.proofs.TableLaws.{table-sound}
 
 -- the shared checks
@@ -80,13 +79,10 @@ module _ (d f s : List ℕ) (q : Query) (window lengths : Bool) (scratch : ℕ)
   e₁ : after₁ ≡ Accepted
   e₁ = accepted-right (tableCheck (tableOf d f s)) after₁ e
 
-  not-no : (b : Bool) → no b ≡ false → b ≡ true
-  not-no b h = ⊎-elim (λ y. y) (λ y. clash (no-i y) h) (look b)
-
   pub call-k : (1 ≤ q .k) × (q .k ≤ 4095)
   unfolding queryCheck rest₁
   call-k =
-      let h = not-no (leb 1 (q .k) and leb (q .k) 4095) (when-accepted BadK (no (leb 1 (q .k) and leb (q .k) 4095)) (accepted-left (queryCheck q) rest₁ e₁)) in
+      let h = passed BadK (leb 1 (q .k) and leb (q .k) 4095) (accepted-left (queryCheck q) rest₁ e₁) in
       (leb-true 1 (q .k) (and-l (leb 1 (q .k)) (leb (q .k) 4095) h), leb-true (q .k) 4095 (and-r (leb 1 (q .k)) (leb (q .k) 4095) h))
 
   e₂ : BadWindow when no window then BadLengths when no lengths then scratchCheck (length d) scratch ≡ Accepted
@@ -95,14 +91,14 @@ module _ (d f s : List ℕ) (q : Query) (window lengths : Bool) (scratch : ℕ)
 
   pub call-window : window ≡ true
   unfolding rest₂
-  call-window = not-no window (when-accepted BadWindow (no window) (accepted-left (BadWindow when no window) rest₂ e₂))
+  call-window = passed BadWindow window (accepted-left (BadWindow when no window) rest₂ e₂)
 
   e₃ : BadLengths when no lengths then scratchCheck (length d) scratch ≡ Accepted
   unfolding rest₂
   e₃ = accepted-right (BadWindow when no window) rest₂ e₂
 
   pub call-lengths : lengths ≡ true
-  call-lengths = not-no lengths (when-accepted BadLengths (no lengths) (accepted-left (BadLengths when no lengths) (scratchCheck (length d) scratch) e₃))
+  call-lengths = passed BadLengths lengths (accepted-left (BadLengths when no lengths) (scratchCheck (length d) scratch) e₃)
 
   pub call-scratch : 8192 + 4 * length d ≤ scratch
   unfolding scratchCheck
@@ -114,6 +110,10 @@ window-e s e h y =
     let g = sym h ∙ y in
     let g₂ = and-r (leb 1 s) (leb s e and leb e 1024) g in
     (leb-true 1 s (and-l (leb 1 s) (leb s e and leb e 1024) g), leb-true s e (and-l (leb s e) (leb e 1024) g₂), leb-true e 1024 (and-r (leb s e) (leb e 1024) g₂))
+
+pub range-e : (s e : ℕ) → rangeCheck s e ≡ Accepted → (1 ≤ s) × (s ≤ e) × (e ≤ 1024)
+unfolding rangeCheck
+range-e s e h = window-e s e refl (passed BadWindow (leb 1 s and leb s e and leb e 1024) h)
 
 -- a start in its range
 pub start-e : (lo s hi : ℕ) {b : Bool} → b ≡ (leb 1 lo and leb lo s and leb s hi and leb hi 1024) → b ≡ true → (s ≤ hi) × (hi ≤ 1024)

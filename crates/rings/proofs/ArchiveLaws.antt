@@ -1,9 +1,9 @@
 -- A list of minimal windows as columns: what Minimal windows writes, and what Recall makes of it.
+--     mapped             an entry of a list made by `map`
 --     front-of           a column that a list was written over begins with it
 --     entries-of         three columns made of a list hold that list
---     Archive            three columns hold exactly the query's minimal windows, each once, by row, then start
---     archive-written    the columns that Minimal windows writes, cut at its count, do
---     archive-accepted   Recall accepts such columns for every window of the range
+--     archive-written    the columns that Minimal windows writes, cut at its count, are an `Archive`
+--     archive-accepted   Recall accepts an archive for every window of the range
 --     archive-marks      and marks that window's ring
 -- Assumes nothing.
 use Prim.Native.Nat.{ℕ, zero, suc, _+_, _≤_, _<_}
@@ -19,21 +19,21 @@ use borrow.Author.Tests.{lt-ltb, le-leb, eq-eqb}
 use Rattle.rings.specs.Words.{_and_, no, at, run, Pairwise}
 use Rattle.rings.specs.Table.{Table, size, dayOf}
 use Rattle.rings.specs.Ring.{ring, inRing}
-use Rattle.rings.specs.Windows.{Entry, Listed, minimalWindows, Before, IsMinimalList, entries, recalled}
-use Rattle.rings.specs.Checks.{_when_, _then_, inOrder, counted, rangeCheck}
+use Rattle.rings.specs.CoreTimes.{never}
+use Rattle.rings.specs.Windows.{Entry, Listed, minimalWindows, Before, IsMinimalList, entries, Archive, recalled}
+use Rattle.rings.specs.Checks.{_when_, _then_, inOrder, rangeCheck}
 use Rattle.rings.specs.Buffers.{marks, over}
 use Rattle.rings.specs.TableCheck.{tableCheck}
 use Rattle.rings.specs.MinimalWindowsCall.{minimalChecks, minimalAnswer, entryColumn, minimalRows, minimalStarts, minimalEnds}
 use Rattle.rings.specs.RecallCall.{Columns, columnsOf, entryAt, comesAfter, inPlace, fits, entryCheck, recallAnswer, recallMarks}
 use Rattle.rings.specs.declared.Query.{Query}
-use Rattle.rings.specs.declared.refusal.Refusal.{Refusal}
 use Rattle.rings.specs.declared.refusal.Refusal.the-variants.{BadWindow, BadLengths, BadEntry}
 use Rattle.rings.specs.declared.refusal.Verdict.{Verdict}
-use Rattle.rings.specs.declared.refusal.Verdict.the-variants.{Accepted, Refused}
+use Rattle.rings.specs.declared.refusal.Verdict.the-variants.{Accepted}
 use Rattle.rings.specs.declared.refusal.Counted.{Counted}
 use Rattle.rings.proofs.WordLaws.{and-i, or-l, or-r, length-run, marked-run-e, marked-run-i, same-marks}
 use Rattle.rings.proofs.ListLaws.{mem-run}
-use Rattle.rings.proofs.CheckLaws.{then-accepted, order-accepted}
+use Rattle.rings.proofs.CheckLaws.{then-accepted, passes, order-accepted, counted-e}
 use Rattle.rings.proofs.RingLaws.{ring-is, in-window}
 use Rattle.rings.proofs.WindowLaws.{ends-rise, list-is, recall-ring}
 
@@ -46,7 +46,7 @@ pub front-of : {A : Type 0} (xs ys : List A) → take (length xs) (xs ++ ys) ≡
 front-of [] ys = refl
 front-of (x ∷ xs) ys = λ i. x ∷ front-of xs ys i
 
-mapped : {A : Type 0} (g : A → ℕ) (z : A) (xs : List A) (p : ℕ) → p < length xs → getD (map g xs) p 0 ≡ g (getD xs p z)
+pub mapped : {A : Type 0} (g : A → ℕ) (z : A) (xs : List A) (p : ℕ) → p < length xs → getD (map g xs) p 0 ≡ g (getD xs p z)
 mapped g z [] p h = absurd (not-suc-le-zero h)
 mapped g z (x ∷ xs) zero h = refl
 mapped g z (x ∷ xs) (suc p) h = mapped g z xs p (omega arith)
@@ -79,32 +79,12 @@ entries-of es = ap (run f 0) (length-map es (λ (x : Entry). x .row)) ∙ run-of
     same : (j : ℕ) → j < length es → f j ≡ getD es j z
     same j l = λ n. record { row = mapped (λ (x : Entry). x .row) z es j l n; start = mapped (λ (x : Entry). x .start) z es j l n; end = mapped (λ (x : Entry). x .end) z es j l n }
 
--- ---- the columns of an archive
-
-pub record Archive (t : Table) (q : Query) (lo hi : ℕ) (rows starts ends : List ℕ) : Type 0 where
-  pub as-many-starts : length starts ≡ length rows
-  pub as-many-ends : length ends ≡ length rows
-  pub holds : IsMinimalList t q lo hi (entries rows starts ends)
-
 -- ---- written by Minimal windows
-
-countOf : Counted → ℕ
-countOf (Counted.Count n) = n
-countOf (Counted.Refused r) = 0
-
-isCount : Counted → Type 0
-isCount (Counted.Count n) = Unit {0}
-isCount (Counted.Refused r) = ⊥
-
-counted-e : (v : Verdict) (n m : ℕ) → counted v n ≡ Counted.Count m → n ≡ m
-unfolding counted countOf isCount
-counted-e Accepted n m h = ap countOf h
-counted-e (Refused r) n m h = absurd (subst isCount (sym h) tt)
 
 module _ (t : Table) (q : Query) (lo hi : ℕ) (rows starts ends : List ℕ) (rowPlaces startPlaces endPlaces scratch : ℕ) {n : ℕ} (accepted : minimalAnswer t q lo hi rowPlaces startPlaces endPlaces scratch ≡ Counted.Count n) where
   counts : length (minimalWindows t q lo hi) ≡ n
   unfolding minimalAnswer
-  counts = counted-e (minimalChecks t q lo hi rowPlaces startPlaces endPlaces scratch) (length (minimalWindows t q lo hi)) n accepted
+  counts = counted-e (minimalChecks t q lo hi rowPlaces startPlaces endPlaces scratch) (length (minimalWindows t q lo hi)) n accepted .1
 
   cut : (part : Entry → ℕ) (old : List ℕ) → take n (entryColumn (Counted.Count n) part (minimalWindows t q lo hi) old) ≡ map part (minimalWindows t q lo hi)
   unfolding entryColumn over
@@ -120,10 +100,6 @@ module _ (t : Table) (q : Query) (lo hi : ℕ) (rows starts ends : List ℕ) (ro
       (record { as-many-starts = length-map es (λ (x : Entry). x .start) ∙ sym (length-map es (λ (x : Entry). x .row)); as-many-ends = length-map es (λ (x : Entry). x .end) ∙ sym (length-map es (λ (x : Entry). x .row)); holds = subst (IsMinimalList t q lo hi) (sym (entries-of es)) (list-is t q lo hi) })
 
 -- ---- read by Recall
-
-passes : (r : Refusal) {b : Bool} → b ≡ true → r when no b ≡ Accepted
-unfolding _when_ no
-passes r h = rw h refl
 
 module _ (t : Table) (q : Query) (lo hi : ℕ) (one : 1 ≤ lo) (top : hi ≤ 1024) (rows starts ends : List ℕ) (A : Archive t q lo hi rows starts ends) where
   abbrev c : Columns
@@ -178,10 +154,16 @@ module _ (t : Table) (q : Query) (lo hi : ℕ) (one : 1 ≤ lo) (top : hi ≤ 10
         range : Verdict
         range = rangeCheck s e
 
-    pub archive-marks : (old : List ℕ) → recallMarks Accepted t c s e old ≡ marks (ring t q s e)
-    unfolding recallMarks inRing
-    archive-marks old =
-        let f = recalled (entries rows starts ends) s e in
-        let is = recall-ring t q lo hi (omega arith) (entries rows starts ends) (A .holds) s e in
-        ap marks (same-marks (run f 0 (size t)) (ring t q s e) (length-run f 0 (size t) ∙ sym (ring-is t q s e .sized))
-        (λ j h. sym (is j from to) ∙ marked-run-e f (size t) j h .1) (λ j h. marked-run-i f (size t) j (in-window t q s e j h .row) (is j from to ∙ h)))
+module _ (t : Table) (q : Query) (lo hi : ℕ) (rows starts ends : List ℕ) (A : Archive t q lo hi rows starts ends) (s e : ℕ) (short : e < never) (from : lo ≤ s)
+    (to : e ≤ hi) where
+  pub archive-marks : (old : List ℕ) → recallMarks Accepted t (columnsOf rows starts ends) s e old ≡ marks (ring t q s e)
+  unfolding recallMarks inRing
+  archive-marks old =
+      ap marks (same-marks (run f 0 (size t)) (ring t q s e) (length-run f 0 (size t) ∙ sym (ring-is t q s e .sized))
+      (λ j h. sym (is j) ∙ marked-run-e f (size t) j h .1) (λ j h. marked-run-i f (size t) j (in-window t q s e j h .row) (is j ∙ h)))
+    where
+      f : ℕ → Bool
+      f = recalled (entries rows starts ends) s e
+
+      is : (j : ℕ) → recalled (entries rows starts ends) s e j ≡ inRing t q s e j
+      is j = recall-ring t q lo hi (entries rows starts ends) (A .holds) s e j short from to

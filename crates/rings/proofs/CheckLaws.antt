@@ -1,15 +1,17 @@
 -- Checks in order.
 --     then-refused, then-accepted   the first check that refuses decides
---     accepted-left, accepted-right, when-accepted      what an accepted list of checks says
+--     accepted-left, accepted-right, when-accepted, passed      what an accepted list of checks says
+--     passes                        a check that is met
 --     order-accepted, order-refused     a run of checks that all pass; one that refuses at i
 --     all-accepted                  and what an accepted run says of each
 --     Front, front-when, front-then, front-order, front-table, front-call     checks that stand before 9 or are it: their refusals keep the scratch
 --     counted-yes, counted-no       the answer of a call that counts
+--     counted-e                     what it says where it is a count
 -- Assumes nothing.
 use Prim.Native.Nat.{ℕ, zero, suc, _+_, _*_, _≤_, _<_}
 use native.Mathlib.Nat.{le-refl, eq-or-lt-of-le}
 use native.Mathlib.Omega.{arith}
-use mathlib.Core.Path.{_≡_, refl, sym, _∙_, subst}
+use mathlib.Core.Path.{_≡_, refl, sym, _∙_, ap, subst}
 use mathlib.Core.Logic.{_⊎_, ⊎-elim}
 use mathlib.Core.Bool.{Bool, true, false}
 use lib.Dec.{leb, ltb, eqb}
@@ -25,6 +27,7 @@ use Rattle.rings.specs.declared.refusal.Refusal.the-variants.{UnequalCol
 use Rattle.rings.specs.declared.refusal.Counted.{Counted}
 use Rattle.rings.specs.declared.refusal.Verdict.{Verdict}
 use Rattle.rings.specs.declared.refusal.Verdict.the-variants.{Accepted, Refused}
+use Rattle.rings.proofs.WordLaws.{look, clash, no-i}
 
 pub then-refused : {v : Verdict} (w : Verdict) {r : Refusal} → v ≡ Refused r → v then w ≡ Refused r
 unfolding _then_
@@ -48,6 +51,13 @@ pub when-accepted : (r : Refusal) (b : Bool) → r when b ≡ Accepted → b ≡
 unfolding _when_
 when-accepted r true e = cc
 when-accepted r false e = refl
+
+pub passed : (r : Refusal) (b : Bool) → r when no b ≡ Accepted → b ≡ true
+passed r b e = ⊎-elim (λ y. y) (λ y. clash (no-i y) (when-accepted r (no b) e)) (look b)
+
+pub passes : (r : Refusal) {b : Bool} → b ≡ true → r when no b ≡ Accepted
+unfolding _when_ no
+passes r h = rw h refl
 
 pub order-accepted : (f : ℕ → Verdict) (i n : ℕ) → ((j : ℕ) → i ≤ j → j < i + n → f j ≡ Accepted) → inOrder (run f i n) ≡ Accepted
 unfolding inOrder run
@@ -119,3 +129,16 @@ counted-yes n e = rw e
 pub counted-no : {v : Verdict} {r : Refusal} (n : ℕ) → v ≡ Refused r → counted v n ≡ Counted.Refused r
 unfolding counted
 counted-no n e = rw e
+
+countOf : Counted → ℕ
+countOf (Counted.Count n) = n
+countOf (Counted.Refused r) = 0
+
+isCount : Counted → Type 0
+isCount (Counted.Count n) = Unit {0}
+isCount (Counted.Refused r) = ⊥
+
+pub counted-e : (v : Verdict) (n m : ℕ) → counted v n ≡ Counted.Count m → (v ≡ Accepted) × (n ≡ m)
+unfolding counted countOf isCount
+counted-e Accepted n m h = (refl, ap countOf h)
+counted-e (Refused r) n m h = absurd (subst isCount (sym h) tt)

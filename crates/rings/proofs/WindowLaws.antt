@@ -6,7 +6,9 @@
 --     before-strict, of-row-e, of-row-i, row-order    the minimal windows of one row, and their order
 --     ends-rise                     of two entries of one row the later start has the later end: what 14 asks beyond the order
 --     list-is, list-only            `minimalWindows` holds exactly the minimal windows of the range, in order, and is the only such list
---     recall-ring                   recall from such a list marks the ring of every window inside the range
+--     recalled-e, recalled-i        the test `recalled` says what `ListedInside` says
+--     inside-ring, ring-inside      a row is in the ring of a window of the range exactly if an entry of such a list lies inside
+--     recall-ring                   so recall from such a list marks the ring of every window inside the range
 -- Assumes nothing.
 use Prim.Native.Nat.{ℕ, zero, suc, _-_, _≤_, _<_}
 use native.Mathlib.Nat.{le-refl, le-trans, eq-or-lt-of-le}
@@ -17,11 +19,11 @@ use mathlib.Core.Bool.{Bool, true, false}
 use mathlib.Core.List.{List, List·Memᴰ as Mem}
 use lib.Dec.{leb, eqb}
 use borrow.Author.Tests.{leb-true, leb-false, le-leb, eqb-true, eq-eqb}
-use Rattle.rings.specs.Words.{_and_, no, every, run, joined, chosen, oneOf, Pairwise}
+use Rattle.rings.specs.Words.{_and_, no, every, run, joined, chosen, Pairwise}
 use Rattle.rings.specs.Table.{Table, size}
 use Rattle.rings.specs.Ring.{inRing}
 use Rattle.rings.specs.CoreTimes.{never, rowTime}
-use Rattle.rings.specs.Windows.{Window, windowsFrom, windows, Entry, smaller, minimal, IsMinimal, minimalOf, minimalWindows, Listed, Before, IsMinimalList, recalled}
+use Rattle.rings.specs.Windows.{Window, windowsFrom, windows, Entry, smaller, minimal, IsMinimal, minimalOf, minimalWindows, Listed, Before, IsMinimalList, recalled, ListedInside}
 use Rattle.rings.specs.declared.Query.{Query}
 use Rattle.rings.proofs.WordLaws.{look, clash, and-i, and-l, and-r, no-i, no-e, every-i, every-e, same-truth}
 use Rattle.rings.proofs.ListLaws.{mem-run, run-mem, mem-joined, joined-mem, mem-chosen, chosen-mem, mem-map, map-mem, oneOf-i, oneOf-e, pair-run, pair-joined, pair-chosen, pair-map, pair-weaken, pair-unique}
@@ -210,6 +212,36 @@ before-strict x y (_⊎_.inl a) (_⊎_.inr b) = let c = b .0 in omega arith
 before-strict x y (_⊎_.inr a) (_⊎_.inl b) = let c = a .0 in omega arith
 before-strict x y (_⊎_.inr a) (_⊎_.inr b) = let c = a .1 in let d = b .1 in omega arith
 
+-- ---- recall: the test says what the words say
+
+abbrev inside : ℕ → ℕ → ℕ → Entry → Bool
+inside s e j x = eqb (x .row) j and leb s (x .start) and leb (x .end) e
+
+pub recalled-e : (es : List Entry) (s e j : ℕ) → recalled es s e j ≡ true → ListedInside es s e j
+unfolding recalled
+recalled-e es s e j h =
+    let w = oneOf-e (inside s e j) es h in
+    let x = w .it in
+    let a = eqb (x .row) j in
+    let b = leb s (x .start) in
+    let c = leb (x .end) e in
+    let r = and-r a (b and c) (w .has) in
+    record {
+      it = x;
+      member = w .member;
+      of-row = eqb-true (x .row) j (and-l a (b and c) (w .has));
+      from = leb-true s (x .start) (and-l b c r);
+      to = leb-true (x .end) e (and-r b c r);
+    }
+
+pub recalled-i : (es : List Entry) (s e j : ℕ) → ListedInside es s e j → recalled es s e j ≡ true
+unfolding recalled
+recalled-i es s e j w =
+    let x = w .it in
+    oneOf-i (inside s e j) es x (w .member) (and-i (eq-eqb (x .row) j (w .of-row)) (and-i (le-leb s (x .start) (w .from)) (le-leb (x .end) e (w .to))))
+
+-- ---- the list of a range
+
 module _ (t : Table) (q : Query) (lo hi : ℕ) where
   abbrev entry : ℕ → Window → Entry
   entry j w = record { row = j; start = w .start; end = w .end }
@@ -293,27 +325,28 @@ module _ (t : Table) (q : Query) (lo hi : ℕ) where
   list-only es l =
       pair-unique Before before-strict es (minimalWindows t q lo hi) (l .in-order) (list-is .in-order) (λ x m. list-is .whole x (l .each x m)) (λ x m. l .whole x (list-is .each x m))
 
-  -- recall from such a list marks the ring of every window inside the range
-  pub recall-ring : hi < never → (es : List Entry) → IsMinimalList t q lo hi es → (s e j : ℕ) → lo ≤ s → e ≤ hi → recalled es s e j ≡ inRing t q s e j
-  unfolding recalled
-  recall-ring fits es l s e j h k = same-truth (oneOf inside es) (inRing t q s e j) found kept
-    where
-      inside : Entry → Bool
-      inside x = eqb (x .row) j and leb s (x .start) and leb (x .end) e
+  -- 001, Lemma 3 by such a list: a row is in the ring of a window of the range exactly if an entry of it lies inside
+  module _ (es : List Entry) (L : IsMinimalList t q lo hi es) (s e j : ℕ) where
+    pub inside-ring : ListedInside es s e j → inRing t q s e j ≡ true
+    inside-ring w =
+        in-grows t q j (w .from) (w .to)
+        (subst (λ (i : ℕ). inRing t q (w .it .start) (w .it .end) i ≡ true) (w .of-row) (L .each (w .it) (w .member) .is-minimal .has))
 
-      found : oneOf inside es ≡ true → inRing t q s e j ≡ true
-      found y =
-          let w = oneOf-e inside es y in
-          let x = w .it in
-          let a = and-l (eqb (x .row) j) (leb s (x .start) and leb (x .end) e) (w .has) in
-          let b = and-r (eqb (x .row) j) (leb s (x .start) and leb (x .end) e) (w .has) in
-          in-grows t q j (leb-true s (x .start) (and-l (leb s (x .start)) (leb (x .end) e) b)) (leb-true (x .end) e (and-r (leb s (x .start)) (leb (x .end) e) b))
-          (subst (λ (i : ℕ). inRing t q (x .start) (x .end) i ≡ true) (eqb-true (x .row) j a) (l .each x (w .member) .is-minimal .has))
+    pub ring-inside : e < never → lo ≤ s → e ≤ hi → inRing t q s e j ≡ true → ListedInside es s e j
+    ring-inside fits h k y =
+        let w = inner-minimal t q j s e fits y in
+        let a = w .from in let b = w .to in
+        let x : Entry = record { row = j; start = w .start; end = w .end } in
+        let row = in-window t q s e j y .row in
+        record {
+          it = x;
+          member = L .whole x (record { in-table = row; from = omega arith; order = w .order; to = omega arith; is-minimal = w .is-minimal });
+          of-row = refl;
+          from = a;
+          to = b;
+        }
 
-      kept : inRing t q s e j ≡ true → oneOf inside es ≡ true
-      kept y =
-          let w = inner-minimal t q j s e (omega arith) y in
-          let a = w .from in let b = w .to in
-          oneOf-i inside es (record { row = j; start = w .start; end = w .end })
-          (l .whole (record { row = j; start = w .start; end = w .end }) (record { in-table = in-window t q s e j y .row; from = omega arith; order = w .order; to = omega arith; is-minimal = w .is-minimal }))
-          (and-i (eq-eqb j j refl) (and-i (le-leb s (w .start) a) (le-leb (w .end) e b)))
+    -- so recall from such a list marks the ring of every window inside the range
+    pub recall-ring : e < never → lo ≤ s → e ≤ hi → recalled es s e j ≡ inRing t q s e j
+    recall-ring fits h k =
+        same-truth (recalled es s e j) (inRing t q s e j) (λ y. inside-ring (recalled-e es s e j y)) (λ y. recalled-i es s e j (ring-inside fits h k y))

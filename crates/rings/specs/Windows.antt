@@ -12,7 +12,9 @@
 --     Before x y         x stands before y: by row, then start
 --     IsMinimalList t q lo hi es    es holds exactly these, each once, by row, then start: `minimalWindows` is the only such list (proofs/WindowLaws.antt)
 --     entries r s e      the entries that three columns hold
+--     Archive t q lo hi rows starts ends    these columns hold exactly the query's minimal windows, each once, by row, then start
 --     recalled es s e j  row j has a listed window inside [s, e]
+--     ListedInside es s e j    the same in words
 use Prim.Native.Nat.{ℕ, suc, _-_, _≤_, _<_}
 use mathlib.Core.Path.{_≡_}
 use mathlib.Core.Logic.{_⊎_}
@@ -78,6 +80,19 @@ pub record IsMinimalList (t : Table) (q : Query) (lo hi : ℕ) (es : List Entry)
 unfoldable pub entries : List ℕ → List ℕ → List ℕ → List Entry
 entries rows starts ends = run (λ i. record { row = at rows i; start = at starts i; end = at ends i }) 0 (length rows)
 
+-- 01: "list columns that hold exactly the query's minimal windows by the definition, each once, by row, then start"
+pub record Archive (t : Table) (q : Query) (lo hi : ℕ) (rows starts ends : List ℕ) : Type 0 where
+  pub as-many-starts : length starts ≡ length rows
+  pub as-many-ends : length ends ≡ length rows
+  pub holds : IsMinimalList t q lo hi (entries rows starts ends)
+
 -- 01: "marks 1 each row with a listed window inside [s, e]"
 unfoldable pub recalled : List Entry → ℕ → ℕ → ℕ → Bool
 recalled es s e j = oneOf (λ x. eqb (x .row) j and leb s (x .start) and leb (x .end) e) es
+
+pub record ListedInside (es : List Entry) (s e j : ℕ) : Type 0 where
+  pub it : Entry
+  pub member : Mem it es
+  pub of-row : it .row ≡ j
+  pub from : s ≤ it .start
+  pub to : it .end ≤ e
