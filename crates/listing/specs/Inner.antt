@@ -10,13 +10,11 @@
 --     Progress room goal rest  of the entries goal all but rest are counted, summed up and written
 use Prim.Native.Nat.{ℕ, zero, suc, _+_, _-_, _≤_, _<_}
 use mathlib.Core.Path.{_≡_}
-use mathlib.Core.Logic.{_⊎_}
 use mathlib.Core.List.{List, [], _++_, map}
 use lib.ListN.{length, getD, set, take}
 use lib.Dec.{leb, ltb}
 use Rattle.rings.specs.Words.{_and_, at, run, joined, kept, chosen}
-use Rattle.rings.specs.Table.{Table, dayOf}
-use Rattle.rings.specs.CoreTimes.{never, rowTime}
+use Rattle.rings.specs.Table.{Table}
 use Rattle.rings.specs.Windows.{windowsFrom}
 use Rattle.rings.specs.Buffers.{over}
 use Rattle.rings.specs.declared.Query.{Query}

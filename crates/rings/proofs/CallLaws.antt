@@ -5,16 +5,15 @@
 -- Assumes nothing.
 use Prim.Native.Nat.{ℕ, _≤_, _<_}
 use mathlib.Core.Path.{_≡_, refl, sym, _∙_, ap, subst}
-use mathlib.Core.Bool.{Bool, false}
+use mathlib.Core.Bool.{Bool}
 use mathlib.Core.List.{List, map}
 use lib.ListN.{length, replicate}
 use lib.Dec.{leb, ltb, eqb}
 use borrow.Author.Tests.{lt-ltb, le-ltb}
-use Rattle.rings.specs.Words.{_and_, no, run}
+use Rattle.rings.specs.Words.{_and_, run}
 use Rattle.rings.specs.Table.{Table}
 use Rattle.rings.specs.Ring.{ring, members}
-use Rattle.rings.specs.TableCheck.{tableCheck}
-use Rattle.rings.specs.Checks.{_when_, _then_, counted, queryCheck, rangeCheck, scratchCheck}
+use Rattle.rings.specs.Checks.{_when_, _then_, counted, rangeCheck}
 use Rattle.rings.specs.Refusals.{behindScratch}
 use Rattle.rings.specs.Buffers.{marks, over, cleared, clearedIf, scratchOn, countedScratch, verdictScratch}
 use Rattle.rings.specs.CoreTimes.{never, accountTime, rowTime}
@@ -25,7 +24,7 @@ use Rattle.rings.specs.Inner.Closing.{place}
 use Rattle.rings.specs.WindowRingCall.{ringChecks, ringAnswer, ringMarks}
 use Rattle.rings.specs.declared.Query.{Query}
 use Rattle.rings.specs.declared.refusal.Refusal.{Refusal}
-use Rattle.rings.specs.declared.refusal.Refusal.the-variants.{BadWindow, BadLengths, NoRoom}
+use Rattle.rings.specs.declared.refusal.Refusal.the-variants.{NoRoom}
 use Rattle.rings.specs.declared.refusal.Verdict.{Verdict}
 use Rattle.rings.specs.declared.refusal.Verdict.the-variants.{Accepted, Refused}
 use Rattle.rings.specs.declared.refusal.Counted.{Counted}

@@ -3,7 +3,7 @@
 --     Marking, mark-yes, mark-no, mark-end     the loop that marks rows and counts them
 --     stays-ring               who stays is in the ring of the window
 -- Assumes nothing.
-use Prim.Native.Nat.{ℕ, _+_, _*_, _≤_, _<_}
+use Prim.Native.Nat.{ℕ, _+_, _≤_, _<_}
 use native.Mathlib.Nat.{eq-or-lt-of-le, not-suc-le-zero}
 use native.Mathlib.Numerals.{add-one}
 use native.Mathlib.Omega.{arith}
@@ -13,16 +13,15 @@ use mathlib.Core.Bool.{Bool, true, false}
 use mathlib.Core.List.{List, map}
 use lib.ListN.{length, getD, set, length-set, length-map, List·getD-map}
 use lib.Seq.{ext-getD, getD-set-same, getD-set-other}
-use lib.Dec.{leb, ltb, eqb}
-use borrow.Author.Tests.{leb-true, ltb-false, eqb-true, eq-eqb, ne-eqb}
-use Rattle.rings.specs.Words.{_and_, no, at, marked, count}
+use lib.Dec.{eqb}
+use borrow.Author.Tests.{eqb-true, eq-eqb, ne-eqb}
+use Rattle.rings.specs.Words.{_and_, at, marked, count}
 use Rattle.rings.specs.Table.{Table, tableOf, dayOf, firstOf, secondOf}
 use Rattle.rings.specs.Ring.{ring, members, query}
 use Rattle.rings.specs.CoreTimes.{never}
 use Rattle.rings.specs.Buffers.{mark, marks}
-use Rattle.rings.specs.Sound.{Sound}
 use Rattle.rings.specs.Inner.Peeling.{Season, Falling, Ready, Span}
-use Rattle.rings.proofs.WordLaws.{look, clash, and-i, and-l, and-r, no-i, same-truth, tally-yes, tally-no}
+use Rattle.rings.proofs.WordLaws.{and-i, and-l, and-r, same-truth, tally-yes, tally-no}
 use Rattle.rings.proofs.RingLaws.{Inside, in-marked, marked-in, two-met, met-first, met-second}
 use Rattle.rings.proofs.FallLaws.{fell-look, stays-met, fell-not}
 
