@@ -27,7 +27,7 @@ use Rattle.rings.specs.declared.refusal.Refusal.the-variants.{UnequalCol
 use Rattle.rings.specs.declared.refusal.Counted.{Counted}
 use Rattle.rings.specs.declared.refusal.Verdict.{Verdict}
 use Rattle.rings.specs.declared.refusal.Verdict.the-variants.{Accepted, Refused}
-use Rattle.rings.proofs.WordLaws.{look, clash, no-i}
+use Rattle.rings.proofs.WordLaws.{not-no}
 
 pub then-refused : {v : Verdict} (w : Verdict) {r : Refusal} → v ≡ Refused r → v then w ≡ Refused r
 unfolding _then_
@@ -53,7 +53,7 @@ when-accepted r true e = cc
 when-accepted r false e = refl
 
 pub passed : (r : Refusal) (b : Bool) → r when no b ≡ Accepted → b ≡ true
-passed r b e = ⊎-elim (λ y. y) (λ y. clash (no-i y) (when-accepted r (no b) e)) (look b)
+passed r b e = not-no b (when-accepted r (no b) e)
 
 pub passes : (r : Refusal) {b : Bool} → b ≡ true → r when no b ≡ Accepted
 unfolding _when_ no

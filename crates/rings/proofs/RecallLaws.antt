@@ -31,12 +31,9 @@ use Rattle.rings.specs.declared.refusal.Refusal.{Refusal}
 use Rattle.rings.specs.declared.refusal.Refusal.the-variants.{BadLengths, BadEntry}
 use Rattle.rings.specs.declared.refusal.Verdict.{Verdict}
 use Rattle.rings.specs.declared.refusal.Verdict.the-variants.{Accepted, Refused}
-use Rattle.rings.proofs.WordLaws.{look, clash, and-i, and-l, and-r, or-l, no-i, same-truth, some-i, some-e, length-run, getD-run}
+use Rattle.rings.proofs.WordLaws.{look, and-i, and-l, and-r, or-l, same-truth, some-i, some-e, length-run, getD-run}
 use Rattle.rings.proofs.ListLaws.{mem-run, run-mem, oneOf-i, oneOf-e}
-use Rattle.rings.proofs.CheckLaws.{then-refused, then-accepted, accepted-left, accepted-right, when-accepted, order-accepted, order-refused, all-accepted}
-
-not-no : (x : Bool) → no x ≡ false → x ≡ true
-not-no x h = ⊎-elim (λ y. y) (λ y. clash (no-i y) h) (look x)
+use Rattle.rings.proofs.CheckLaws.{then-refused, then-accepted, accepted-left, accepted-right, passed, order-accepted, order-refused, all-accepted}
 
 and-no-l : {a : Bool} (b : Bool) → a ≡ false → a and b ≡ false
 unfolding _and_
@@ -117,7 +114,7 @@ lengths-same d r b e p h =
     let x = eqb (length b) (length r) in
     let y = eqb (length e) (length r) in
     let z = eqb p (length d) in
-    let all = not-no (x and y and z) (when-accepted BadLengths (no (x and y and z)) (sym h)) in
+    let all = passed BadLengths (x and y and z) (sym h) in
     let rest = and-r x (y and z) all in
     (eqb-true (length b) (length r) (and-l x (y and z) all), eqb-true (length e) (length r) (and-l y z rest), eqb-true p (length d) (and-r y z rest))
 
@@ -166,7 +163,7 @@ module _ (d f g r b e : List ℕ) (lo hi p : ℕ) where
   rows-inside h i l =
       let x = entryAt c′ i in
       let one = all-accepted (entryCheck t c′) 0 (length r) h i (omega arith) (omega arith) in
-      let both = not-no (fits t x and inPlace c′ i) (when-accepted (BadEntry i) (no (fits t x and inPlace c′ i)) one) in
+      let both = passed (BadEntry i) (fits t x and inPlace c′ i) one in
       ltb-true (getD r i 0) (length d) (and-l (ltb (getD r i 0) (length d)) (leb 1 (x .start) and leb (x .start) (dayOf t (x .row)) and leb (dayOf t (x .row)) (x .end) and leb (x .end) 1024) (and-l (fits t x) (inPlace c′ i) both))
 
   -- an accepted call: the columns are of one length, a mark stands for each row, and the list names rows of the table

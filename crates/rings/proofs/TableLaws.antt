@@ -9,7 +9,7 @@ use native.Mathlib.Numerals.{add-one}
 use native.Mathlib.Omega.{arith}
 use mathlib.Core.Path.{_≡_, refl, sym, ap, subst}
 use mathlib.Core.Logic.{_⊎_, ⊎-elim}
-use mathlib.Core.Bool.{Bool, true, false}
+use mathlib.Core.Bool.{Bool, false}
 use mathlib.Core.List.{List}
 use lib.ListN.{length, getD}
 use lib.Dec.{leb, ltb, eqb}
@@ -23,7 +23,7 @@ use Rattle.rings.specs.declared.refusal.Refusal.{Refusal}
 use Rattle.rings.specs.declared.refusal.Refusal.the-variants.{UnequalColumns, TooManyRows, BadDay, BadAccounts, OutOfOrder}
 use Rattle.rings.specs.declared.refusal.Verdict.{Verdict}
 use Rattle.rings.specs.declared.refusal.Verdict.the-variants.{Accepted, Refused}
-use Rattle.rings.proofs.WordLaws.{look, clash, and-l, and-r, or-l, or-r, no-i}
+use Rattle.rings.proofs.WordLaws.{look, clash, and-l, and-r, or-l, or-r, not-no}
 use Rattle.rings.proofs.CheckLaws.{accepted-left, accepted-right, when-accepted, order-accepted, order-refused, all-accepted}
 
 pub record Passed (d f s : List ℕ) (before j : ℕ) : Type 0 where
@@ -71,9 +71,6 @@ faults-none j before day a b e =
     let both = not-no (leb 1 day and leb day 1024) e₁ in
     (leb-true 1 day (and-l (leb 1 day) (leb day 1024) both), leb-true day 1024 (and-r (leb 1 day) (leb day 1024) both), ltb-true a b (not-no (ltb a b) (right-false (ltb 4095 b) (no (ltb a b)) e₂)), ltb-false 4095 b (left-false (ltb 4095 b) (no (ltb a b)) e₂), ltb-false day before e₃)
   where
-    not-no : (x : Bool) → no x ≡ false → x ≡ true
-    not-no x h = ⊎-elim (λ y. y) (λ y. clash (no-i y) h) (look x)
-
     left-false : (x y : Bool) → x or y ≡ false → x ≡ false
     left-false x y h = ⊎-elim (λ z. clash (or-l x y z) h) (λ z. z) (look x)
 
@@ -103,8 +100,5 @@ table-sound d f s e =
       rising = λ j l. row e₃ (suc j) l .4;
     }
   where
-    not-no : (x : Bool) → no x ≡ false → x ≡ true
-    not-no x h = ⊎-elim (λ y. y) (λ y. clash (no-i y) h) (look x)
-
     row : inOrder (run (rowCheck (tableOf d f s)) 0 (length d)) ≡ Accepted → (j : ℕ) → j < length d → (1 ≤ getD d j 0) × (getD d j 0 ≤ 1024) × (getD f j 0 < getD s j 0) × (getD s j 0 ≤ 4095) × (dayBefore (tableOf d f s) j ≤ getD d j 0)
     row h j l = row-sound d f s j (all-accepted (rowCheck (tableOf d f s)) 0 (length d) h j (omega arith) (omega arith))

@@ -57,6 +57,11 @@ pub no-i : {b : Bool} → b ≡ false → no b ≡ true
 unfolding no
 no-i h = rw h
 
+pub not-no : (b : Bool) → no b ≡ false → b ≡ true
+unfolding no
+not-no true h = refl
+not-no false h = sym h
+
 pub no-e : (b : Bool) → no b ≡ true → b ≡ false
 unfolding no
 no-e true h = sym h
