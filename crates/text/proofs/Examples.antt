@@ -1,10 +1,9 @@
--- The definitions computed at 01's own texts and at the edges of its rules.
+-- The definitions computed at 01's own texts and at the edges of its rules. What refuses, with its number and place: specs/TextNumbers.antt.
 --
 --   zero-field largest-field large-field needless-zero two-zeros all-blank empty-field blank-behind two-numbers million     fields
 --   lone-end final-end            lines
---   example example-reads example-room example-days     01's example table
---   broken-first large-line       12 before 13, and both before 10
---   example-query empty-query     01's query line, and none
+--   example example-reads example-days     01's example table
+--   example-query                 01's query line
 --   example-line example-refused  01's printed lines
 -- Assumes nothing.
 use mathlib.Core.Path.{_≡_, refl}
@@ -15,8 +14,8 @@ use Rattle.text.specs.Line.{linesOf, prepend, isWhole, judged, lineAs, s
 use Rattle.text.specs.Table.{judgedFrom, tableReadOf, daysOf}
 use Rattle.text.specs.Print.{printed, columnOf, listingLine, refusedLine}
 use Rattle.text.specs.declared.decimal.Field.the-variants.{Number, Large, Broken}
-use Rattle.text.specs.declared.lines.QueryRead.the-variants.{Query, BadLength}
-use Rattle.text.specs.declared.table.TableRead.the-variants.{Rows, BrokenField, LargeNumber, Room}
+use Rattle.text.specs.declared.lines.QueryRead.the-variants.{Query}
+use Rattle.text.specs.declared.table.TableRead.the-variants.{Rows}
 
 -- ---- fields
 
@@ -86,30 +85,13 @@ example-reads : tableReadOf example 6 7 6 ≡ Rows 6
 unfolding example tableReadOf judgedFrom rowOf lineAs judged isWhole linesOf prepend fieldOf fieldUpTo numeralUpTo unblank isNumeral leadsWell allDigits isDigit value
 example-reads = refl
 
-example-room : tableReadOf example 6 5 6 ≡ Room
-unfolding example tableReadOf judgedFrom rowOf lineAs judged isWhole linesOf prepend fieldOf fieldUpTo numeralUpTo unblank isNumeral leadsWell allDigits isDigit value
-example-room = refl
-
 example-days : daysOf example ≡ 1 ∷ 2 ∷ 2 ∷ 4 ∷ 5 ∷ 6 ∷ []
 unfolding example daysOf rowOf lineAs judged isWhole linesOf prepend fieldOf fieldUpTo numeralUpTo unblank isNumeral leadsWell allDigits isDigit value
 example-days = refl
 
--- a broken field of line 1 comes before a large one of it
-broken-first : tableReadOf (32 ∷ 32 ∷ 32 ∷ 32 ∷ 120 ∷ 32 ∷ 54 ∷ 53 ∷ 53 ∷ 51 ∷ 54 ∷ 32 ∷ 32 ∷ 32 ∷ 32 ∷ 32 ∷ 49 ∷ 10 ∷ []) 1 1 1 ≡ BrokenField 1
-unfolding tableReadOf judgedFrom rowOf lineAs judged isWhole linesOf prepend fieldOf fieldUpTo numeralUpTo unblank isNumeral leadsWell allDigits isDigit value
-broken-first = refl
-
-large-line : tableReadOf (32 ∷ 32 ∷ 32 ∷ 32 ∷ 49 ∷ 32 ∷ 54 ∷ 53 ∷ 53 ∷ 51 ∷ 54 ∷ 32 ∷ 32 ∷ 32 ∷ 32 ∷ 32 ∷ 49 ∷ 10 ∷ []) 0 0 0 ≡ LargeNumber 1
-unfolding tableReadOf judgedFrom rowOf lineAs judged isWhole linesOf prepend fieldOf fieldUpTo numeralUpTo unblank isNumeral leadsWell allDigits isDigit value
-large-line = refl
-
 example-query : queryOf (32 ∷ 32 ∷ 32 ∷ 32 ∷ 50 ∷ 32 ∷ 32 ∷ 32 ∷ 32 ∷ 49 ∷ 32 ∷ 32 ∷ 32 ∷ 32 ∷ 54 ∷ 10 ∷ []) ≡ Query 2 1 6
 unfolding queryOf stepAs lineAs judged isWhole linesOf prepend fieldOf fieldUpTo numeralUpTo unblank isNumeral leadsWell allDigits isDigit value
 example-query = refl
-
-empty-query : queryOf [] ≡ BadLength
-unfolding queryOf stepAs lineAs judged isWhole linesOf prepend fieldOf fieldUpTo numeralUpTo unblank isNumeral leadsWell allDigits isDigit value
-empty-query = refl
 
 example-line : listingLine 1 4 3 4 ≡ 32 ∷ 32 ∷ 32 ∷ 32 ∷ 49 ∷ 32 ∷ 32 ∷ 32 ∷ 32 ∷ 52 ∷ 32 ∷ 32 ∷ 32 ∷ 32 ∷ 51 ∷ 32 ∷ 32 ∷ 32 ∷ 32 ∷ 32 ∷ 52 ∷ 10 ∷ []
 unfolding listingLine printed columnOf

@@ -11,7 +11,7 @@
 -- Assumes nothing.
 use Prim.Native.Nat.{ℕ, zero, suc, _+_, _*_, _≤_, _<_, min}
 use mathlib.Core.Path.{_≡_, refl, sym, ap, _∙_}
-use mathlib.Core.Bool.{Bool, true, false, cond, _||_}
+use mathlib.Core.Bool.{Bool, true, false, cond}
 use mathlib.Core.Logic.{⊎-elim}
 use mathlib.Core.List.{List, [], _∷_, map}
 use native.Mathlib.Nat.{not-suc-le-zero, le-of-suc-le-suc}
@@ -19,8 +19,8 @@ use native.Mathlib.Omega.{arith}
 use lib.ListN.{length, getD, take, drop, length-drop, length-map, List·getD-map}
 use borrow.Author.Tests.{lt-leb, le-leb}
 use lib.Seq.{drop-cons}
-use Rattle.text.specs.Decimal.{fieldOf, isBroken, isLarge, numberOf}
-use Rattle.text.specs.Line.{linesOf, firstLine, isWhole, judged, lineAs, stepAs, rowOf, stepAt}
+use Rattle.text.specs.Decimal.{fieldOf, fieldValue}
+use Rattle.text.specs.Line.{linesOf, firstLine, isWhole, lineNumber, oneRefuses, judged, lineAs, stepAs, rowOf, stepAt}
 use Rattle.text.specs.Table.{faultOr, judgedFrom, roomFor, tableReadOf}
 use Rattle.text.specs.declared.decimal.Field.{Field}
 use Rattle.text.specs.declared.lines.Line.{Line}
@@ -51,7 +51,7 @@ line-is false r e = refl
 
 fields-are : (x y z : Field) → is-end (judged x y z) ≡ 0
 unfolding judged
-fields-are x y z = judged-is (isBroken x || isBroken y || isBroken z) (isLarge x || isLarge y || isLarge z) (numberOf x) (numberOf y) (numberOf z)
+fields-are x y z = judged-is (oneRefuses (lineNumber line.BadField) x y z) (oneRefuses (lineNumber line.LargeNumber) x y z) (fieldValue x) (fieldValue y) (fieldValue z)
 
 pub never-end : (l : List ℕ) → is-end (rowOf l) ≡ 0
 unfolding rowOf lineAs

@@ -9,9 +9,9 @@
 --   numeralUpTo  what a field without its blanks holds, where numbers end at a limit
 --   fieldUpTo    what a field holds, where numbers end at a limit
 --   fieldOf      what a field of this crate holds: numbers end at 65,535
---   isBroken     a field is broken (12)
---   isLarge      a field's number is above the limit (13)
---   numberOf     a field's number, 0 where it has none
+--   fieldNumber  01's refusal number of what a field holds
+--   refuses      a field has this refusal number
+--   fieldValue   the number that a field holds, 0 where it has none
 -- Assumes nothing.
 use Prim.Native.Nat.{ℕ, _+_, _-_, _*_, _^_}
 use mathlib.Core.Bool.{Bool, true, false, not, cond, _&&_}
@@ -59,20 +59,17 @@ fieldUpTo limit f = numeralUpTo limit (unblank f)
 unfoldable pub fieldOf : List ℕ → Field
 fieldOf f = fieldUpTo 65535 f
 
--- "12: a broken field"
-abbrev pub isBroken : Field → Bool
-isBroken (Number n) = false
-isBroken Large = false
-isBroken Broken = true
+-- "12: a broken field, an all-blank one included; 13: a number above 65,535"; 0 for none
+abbrev pub fieldNumber : Field → ℕ
+fieldNumber (Number n) = 0
+fieldNumber Large = 13
+fieldNumber Broken = 12
 
--- "13: a number above 65,535"
-abbrev pub isLarge : Field → Bool
-isLarge (Number n) = false
-isLarge Large = true
-isLarge Broken = false
+abbrev pub refuses : ℕ → Field → Bool
+refuses number f = eqb (fieldNumber f) number
 
 -- the number of a field that has one
-abbrev pub numberOf : Field → ℕ
-numberOf (Number n) = n
-numberOf Large = 0
-numberOf Broken = 0
+abbrev pub fieldValue : Field → ℕ
+fieldValue (Number n) = n
+fieldValue Large = 0
+fieldValue Broken = 0

@@ -2,3 +2,4 @@ pub mod Decimal
 pub mod Line
 pub mod Table
 pub mod Print
+pub mod TextNumbers

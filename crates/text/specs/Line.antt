@@ -4,6 +4,8 @@
 --   linesOf      the lines of a text, each with its byte 10
 --   firstLine    the first line of a text; empty where the text is
 --   isWhole      a line is so many bytes, the last of them byte 10
+--   lineNumber   01's refusal number of what a line holds
+--   oneRefuses   one of three fields has this refusal number
 --   judged       a line's answer from its three fields
 --   lineAs       what a line holds, with three fields of given widths
 --   stepAs       what the first of some lines holds, or that there is none
@@ -11,7 +13,6 @@
 --   stepAt       what the line reader finds at a line
 --   queryFrom    the answer for a query line
 --   queryOf      what the query line of a text holds
---   lineNumber   01's refusal number of what a line holds
 --   queryNumber queryPlace   01's refusal number and place of a query line
 -- Assumes nothing.
 use Prim.Native.Nat.{ℕ, _+_, _-_, _*_}
@@ -19,8 +20,9 @@ use mathlib.Core.Bool.{Bool, cond, _&&_, _||_}
 use mathlib.Core.List.{List, [], _∷_}
 use lib.Dec.{eqb}
 use lib.ListN.{length, getD, take, drop}
-use Rattle.text.specs.Decimal.{fieldOf, isBroken, isLarge, numberOf}
+use Rattle.text.specs.Decimal.{fieldOf, fieldNumber, refuses, fieldValue}
 use Rattle.text.specs.declared.decimal.Field.{Field}
+use Rattle.text.specs.declared.decimal.Field.the-variants.{Large, Broken}
 use Rattle.text.specs.declared.lines.Line.{Line}
 use Rattle.text.specs.declared.lines.Line.the-variants.{Row, End, BadLength, BadField, LargeNumber}
 use Rattle.text.specs.declared.lines.QueryRead.{QueryRead}
@@ -45,12 +47,23 @@ firstLine text = getD (linesOf text) 0 []
 unfoldable pub isWhole : ℕ → List ℕ → Bool
 isWhole size l = eqb (length l) size && eqb (getD l (size - 1) 0) 10
 
+-- "11: not 18 bytes with its end; 12: a broken field ..; 13: a number above 65,535"; 0 for none
+abbrev pub lineNumber : Line → ℕ
+lineNumber (Row day first second) = 0
+lineNumber End = 0
+lineNumber BadLength = 11
+lineNumber BadField = fieldNumber Broken
+lineNumber LargeNumber = fieldNumber Large
+
+abbrev pub oneRefuses : ℕ → Field → Field → Field → Bool
+oneRefuses number x y z = refuses number x || refuses number y || refuses number z
+
 -- "12: a broken field, an all-blank one included; 13: a number above 65,535 (12 before 13)", over the fields of one line
 unfoldable pub judged : Field → Field → Field → Line
 judged x y z =
-    cond (isBroken x || isBroken y || isBroken z) BadField
-    (cond (isLarge x || isLarge y || isLarge z) LargeNumber
-    (Row (numberOf x) (numberOf y) (numberOf z)))
+    cond (oneRefuses (lineNumber BadField) x y z) BadField
+    (cond (oneRefuses (lineNumber LargeNumber) x y z) LargeNumber
+    (Row (fieldValue x) (fieldValue y) (fieldValue z)))
 
 -- "11: not 18 bytes with its end" comes first; the three fields have a, b and c columns
 unfoldable pub lineAs : ℕ → ℕ → ℕ → List ℕ → Line
@@ -84,20 +97,12 @@ queryFrom LargeNumber = query.LargeNumber
 unfoldable pub queryOf : List ℕ → QueryRead
 queryOf text = queryFrom (stepAs 5 5 5 (linesOf text))
 
--- "11: not 18 bytes with its end; 12: a broken field ..; 13: a number above 65,535"; 0 for none
-abbrev pub lineNumber : Line → ℕ
-lineNumber (Row day first second) = 0
-lineNumber End = 0
-lineNumber BadLength = 11
-lineNumber BadField = 12
-lineNumber LargeNumber = 13
-
 -- "It reads the query line first (11, 12, 13 at line 1; 11 when input is empty)"
 abbrev pub queryNumber : QueryRead → ℕ
 queryNumber (query.Query k from to) = 0
-queryNumber query.BadLength = 11
-queryNumber query.BadField = 12
-queryNumber query.LargeNumber = 13
+queryNumber query.BadLength = lineNumber BadLength
+queryNumber query.BadField = lineNumber BadField
+queryNumber query.LargeNumber = lineNumber LargeNumber
 
 -- "at line 1"
 abbrev pub queryPlace : QueryRead → ℕ

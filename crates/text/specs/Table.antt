@@ -14,9 +14,11 @@ use mathlib.Core.Bool.{cond}
 use mathlib.Core.List.{List, [], _∷_, _++_, map}
 use lib.Dec.{leb}
 use lib.ListN.{drop}
-use Rattle.text.specs.Line.{linesOf, rowOf}
+use Rattle.text.specs.Line.{linesOf, rowOf, lineNumber}
+use Rattle.text.specs.Print.{putNumber}
 use Rattle.text.specs.declared.lines.Line.{Line}
 use Rattle.text.specs.declared.lines.Line.the-variants as line
+use Rattle.text.specs.declared.print.Put.{Put}
 use Rattle.text.specs.declared.table.TableRead.{TableRead}
 use Rattle.text.specs.declared.table.TableRead.the-variants.{Rows, LineLength, BrokenField, LargeNumber, Room}
 
@@ -85,13 +87,13 @@ filled (BrokenField n) values column = column
 filled (LargeNumber n) values column = column
 filled Room values column = column
 
--- "A refusal is a number and a place"; 0 for none
+-- "A refusal is a number and a place"; 0 for none. A faulty line's is the line's own; "10: fewer places than lines" is, as for a text, no room
 abbrev pub number : TableRead → ℕ
 number (Rows n) = 0
-number (LineLength n) = 11
-number (BrokenField n) = 12
-number (LargeNumber n) = 13
-number Room = 10
+number (LineLength n) = lineNumber line.BadLength
+number (BrokenField n) = lineNumber line.BadField
+number (LargeNumber n) = lineNumber line.LargeNumber
+number Room = putNumber Put.NoRoom
 
 -- "a line counted from 1 for 11, 12, 13; else 0"
 abbrev pub place : TableRead → ℕ

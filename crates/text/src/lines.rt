@@ -1,7 +1,7 @@
 // Lines: the judgement of one line, and the line reader, which keeps the text and the line reached.
 ghost use mathlib.Core.Path.{_≡_};
 ghost use Prim.Native.Nat.{_+_, _<_, _^_};
-ghost use Rattle.text.specs.Decimal.{isBroken, isLarge, numberOf};
+ghost use Rattle.text.specs.Decimal.{fieldNumber, refuses, fieldValue};
 ghost use Rattle.text.specs.Line.{linesOf, firstLine, isWhole, judged, stepAs, stepAt, queryOf};
 use crate::decimal::Field;
 use crate::decimal::read_field;
@@ -24,7 +24,7 @@ pub enum QueryRead {
 }
 
 fn is_broken(f: Field) -> bool
-    ensures { λ r. ⌜ r ≡ isBroken f ⌝ }
+    ensures { λ r. ⌜ r ≡ refuses (fieldNumber Field.Broken) f ⌝ }
 {
     match f {
         Field::Broken => true,
@@ -34,7 +34,7 @@ fn is_broken(f: Field) -> bool
 }
 
 fn is_large(f: Field) -> bool
-    ensures { λ r. ⌜ r ≡ isLarge f ⌝ }
+    ensures { λ r. ⌜ r ≡ refuses (fieldNumber Field.Large) f ⌝ }
 {
     match f {
         Field::Broken => false,
@@ -44,7 +44,7 @@ fn is_large(f: Field) -> bool
 }
 
 fn number_of(f: Field) -> u16
-    ensures { λ r. ⌜ r ≡ numberOf f ⌝ }
+    ensures { λ r. ⌜ r ≡ fieldValue f ⌝ }
 {
     match f {
         Field::Broken => 0,
