@@ -6,11 +6,13 @@
 --     entry, listed      an entry of a minimal-window list, an entry of a listing
 --     eightEntries       the season's minimal windows for k = 2, as lent columns
 --     StarredRows        the table: a field for each row
+--     from-start-1, from-start-3, column, accepted    the account columns, 4,096 long
 --     starred-rows-hold  the theorem
-use Prim.Native.Nat.{ℕ}
-use mathlib.Core.Path.{_≡_, refl}
+use Prim.Native.Nat.{ℕ, suc}
+use mathlib.Core.Path.{_≡_, refl, ap, _∙_}
 use mathlib.Core.Bool.{true, false}
 use mathlib.Core.List.{List, [], _∷_, map}
+use native.Mathlib.Nat.{le-refl}
 use lib.ListN.{length, replicate}
 use Rattle.rings.specs.Words.{run}
 use Rattle.rings.specs.Table.{Table}
@@ -20,7 +22,7 @@ use Rattle.rings.specs.Windows.{Entry, minimalWindows}
 use Rattle.rings.specs.Refusals.{Report, countedReport}
 use Rattle.rings.specs.Buffers.{countedScratch}
 use Rattle.rings.specs.WindowRingCall.{ringAnswer, ringMarks}
-use Rattle.rings.specs.CoreTimesCall.{timesAnswer, rowColumn}
+use Rattle.rings.specs.CoreTimesCall.{timesAnswer, accountColumn, rowColumn}
 use Rattle.rings.specs.MinimalWindowsCall.{minimalAnswer, minimalRows, minimalStarts, minimalEnds}
 use Rattle.rings.specs.RecallCall.{Columns, recallAnswer, recallMarks}
 use Rattle.rings.specs.Compute.{compute}
@@ -33,6 +35,7 @@ use Rattle.listing.specs.Listing.{ListedRing, entryOf, listing, rowSum}
 use Rattle.listing.specs.Distinct.{sameMark, sameRows, distinct, ringsOf, distinctRings}
 use Rattle.listing.specs.ListingCall.{listingChecks, summed, listingAnswer, ringColumn, listingStarts, listingEnds, listingRows, listingScratch, listingReport, listingSum}
 use Rattle.listing.specs.LongestList.{longest, daysOf, longestAnswer}
+use Rattle.listing.specs.Absent.{past-names}
 use Rattle.listing.specs.declared.Listed.{Listed}
 
 abbrev pub season : Table
@@ -71,13 +74,13 @@ abbrev pub eightEntries : Columns
 eightEntries = record { rows = 0 ∷ 1 ∷ 1 ∷ 2 ∷ 2 ∷ 3 ∷ 4 ∷ 5 ∷ []; starts = 1 ∷ 1 ∷ 2 ∷ 1 ∷ 2 ∷ 2 ∷ 2 ∷ 2 ∷ []; ends = 2 ∷ 2 ∷ 4 ∷ 2 ∷ 4 ∷ 4 ∷ 6 ∷ 6 ∷ [] }
 
 pub record StarredRows : Type 0 where
-  -- "Start 1: accounts 1, 2, 3 have 2, account 4 has 6. Rows 0 to 5: 2, 2, 2, 4, 6, 6": accounts 0 and 5 have no row
-  pub start-1-accounts : run (accountTime season two 6 1) 0 6 ≡ never ∷ 2 ∷ 2 ∷ 2 ∷ 6 ∷ never ∷ []
+  -- "Start 1: accounts 1, 2, 3 have 2, account 4 has 6. Rows 0 to 5: 2, 2, 2, 4, 6, 6": every other account has no row
+  pub start-1-accounts : accountColumn (timesAnswer season two 1 6 1 4096 6 8216) season two 6 1 (replicate 4096 9) ≡ never ∷ 2 ∷ 2 ∷ 2 ∷ 6 ∷ replicate 4091 never
   pub start-1-rows : rowColumn (timesAnswer season two 1 6 1 4096 6 8216) season two 6 1 (replicate 6 9) ≡ 2 ∷ 2 ∷ 2 ∷ 4 ∷ 6 ∷ 6 ∷ []
   -- "Start 2: row 0 never; rows 1 to 5: 4, 4, 4, 6, 6"
   pub start-2-rows : rowColumn (timesAnswer season two 1 6 2 4096 6 8216) season two 6 2 (replicate 6 9) ≡ never ∷ 4 ∷ 4 ∷ 4 ∷ 6 ∷ 6 ∷ []
   -- "Start 3: never for all"
-  pub start-3-accounts : run (accountTime season two 6 3) 0 6 ≡ replicate 6 never
+  pub start-3-accounts : accountColumn (timesAnswer season two 1 6 3 4096 6 8216) season two 6 3 (replicate 4096 9) ≡ replicate 4096 never
   pub start-3-rows : rowColumn (timesAnswer season two 1 6 3 4096 6 8216) season two 6 3 (replicate 6 9) ≡ replicate 6 never
   -- "Minimal windows: row 0 [1,2]; rows 1 and 2 [1,2], [2,4]; row 3 [2,4]; rows 4 and 5 [2,6]. Eight entries"
   pub minimal : minimalWindows season two 1 6 ≡ entry 0 1 2 ∷ entry 1 1 2 ∷ entry 1 2 4 ∷ entry 2 1 2 ∷ entry 2 2 4 ∷ entry 3 2 4 ∷ entry 4 2 6 ∷ entry 5 2 6 ∷ []
@@ -102,18 +105,19 @@ pub record StarredRows : Type 0 where
   -- four places give 10 too: columns kept, scratch 0
   pub four-column : listingRows (listingAnswer season two 1 6 4 4 4 8216) season two 1 6 (replicate 4 9) ≡ replicate 4 9
   pub four-scratch : listingScratch (listingAnswer season two 1 6 4 4 4 8216) (replicate 8216 9) ≡ replicate 8216 0
-  pub four-places : listingReport (listingAnswer season two 1 6 4 4 4 8216) ≡ record { number = 10; place = 0; count = 0 }
+  pub four-places : listingAnswer season two 1 6 4 4 4 8216 ≡ Listed.Refused Refusal.NoRoom
   -- the same five, found without tightest windows
   pub five-distinct : distinctRings season two 1 6 ≡ map (λ (x : ListedRing). ring season two (x .start) (x .end)) (listing season two 1 6)
   -- "k = 3: none"
   pub k-3 : listingAnswer season three 1 6 2048 2048 2048 8216 ≡ Listed.Rings 0 0
   -- "k = 1: 15 rings"
-  pub k-1 : length (listing season one 1 6) ≡ 15
+  pub k-1 : listingAnswer season one 1 6 2048 2048 2048 8216 ≡ Listed.Rings 15 43
   pub k-1-distinct : length (distinctRings season one 1 6) ≡ 15
   -- "No rows: no ring"
   pub no-rows : listingAnswer empty one 1 6 2048 2048 2048 8192 ≡ Listed.Rings 0 0
   -- "Rows 1 1 2 and 2 1 2, k = 2: none; k = 1: [1,1], [1,2], [2,2]"
-  pub pair-k-2 : listing pair two 1 2 ≡ []
+  pub pair-k-2 : listingAnswer pair two 1 2 2048 2048 2048 8200 ≡ Listed.Rings 0 0
+  pub pair-k-1-answer : listingAnswer pair one 1 2 2048 2048 2048 8200 ≡ Listed.Rings 3 4
   pub pair-k-1 : listing pair one 1 2 ≡ listed 1 1 1 ∷ listed 1 2 2 ∷ listed 2 2 1 ∷ []
   -- Window ring and Recall: the ring of [1, 4], and the same from the eight entries
   pub ring-count : ringAnswer season two 1 4 6 8216 ≡ Counted.Count 4
@@ -140,16 +144,34 @@ pub record StarredRows : Type 0 where
   -- and none without a row on its last day: [1,3] has the ring of [1,2]
   pub last-day : tight season two 1 3 ≡ false
 
+-- The account column is 4,096 long: accounts 0 to 4 are computed, and the season names no other
+from-start-1 : (n : ℕ) → run (accountTime season two 6 1) 0 (suc (suc (suc (suc (suc n))))) ≡ never ∷ 2 ∷ 2 ∷ 2 ∷ 6 ∷ replicate n never
+unfolding compute
+from-start-1 n = ap (λ (l : List ℕ). never ∷ 2 ∷ 2 ∷ 2 ∷ 6 ∷ l) (past-names season two 6 1 5 n (le-refl 5))
+
+from-start-3 : (n : ℕ) → run (accountTime season two 6 3) 0 (suc (suc (suc (suc (suc n))))) ≡ replicate (suc (suc (suc (suc (suc n))))) never
+unfolding compute
+from-start-3 n = ap (λ (l : List ℕ). never ∷ never ∷ never ∷ never ∷ never ∷ l) (past-names season two 6 3 5 n (le-refl 5))
+
+column : (s : ℕ) (ls : List ℕ) → timesAnswer season two 1 6 s 4096 6 8216 ≡ Verdict.Accepted → run (accountTime season two 6 s) 0 4096 ≡ ls
+    → accountColumn (timesAnswer season two 1 6 s 4096 6 8216) season two 6 s (replicate 4096 9) ≡ ls
+unfolding accountColumn
+column s ls a e = ap (λ (v : Verdict). accountColumn v season two 6 s (replicate 4096 9)) a ∙ e
+
+accepted : (timesAnswer season two 1 6 1 4096 6 8216 ≡ Verdict.Accepted) × (timesAnswer season two 1 6 3 4096 6 8216 ≡ Verdict.Accepted)
+unfolding compute
+accepted = (refl, refl)
+
 pub starred-rows-hold : StarredRows
 unfolding
     compute memberDays lowest firstDay lastDay nonempty tightest tight entryOf listing rowSum sameMark sameRows distinct ringsOf distinctRings
     listingChecks summed listingAnswer ringColumn listingStarts listingEnds listingRows listingScratch listingReport listingSum
     longest daysOf longestAnswer
 starred-rows-hold = record {
-  start-1-accounts = refl;
+  start-1-accounts = column 1 _ (accepted .0) (from-start-1 4091);
   start-1-rows = refl;
   start-2-rows = refl;
-  start-3-accounts = refl;
+  start-3-accounts = column 3 _ (accepted .1) (from-start-3 4091);
   start-3-rows = refl;
   minimal = refl;
   eight-places = refl;
@@ -175,6 +197,7 @@ starred-rows-hold = record {
   k-1-distinct = refl;
   no-rows = refl;
   pair-k-2 = refl;
+  pair-k-1-answer = refl;
   pair-k-1 = refl;
   ring-count = refl;
   ring-marks = refl;
