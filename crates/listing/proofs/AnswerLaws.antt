@@ -15,7 +15,7 @@ use lib.Dec.{leb, ltb, eqb}
 use borrow.Author.Tests.{ltb-false}
 use Rattle.rings.specs.Words.{_and_, _or_, no, run}
 use Rattle.rings.specs.Table.{Table, size, dayOf, firstOf, secondOf}
-use Rattle.rings.specs.Refusals.{numberOf, placeOf}
+use Rattle.rings.specs.Refusals.{placeOf}
 use Rattle.rings.specs.Checks.{_when_, _then_, inOrder, queryCheck, rangeCheck, scratchCheck}
 use Rattle.rings.specs.TableCheck.{dayBefore, rowFaults, rowCheck, tableCheck}
 use Rattle.rings.specs.Buffers.{over}
@@ -27,9 +27,9 @@ use Rattle.rings.specs.declared.refusal.Verdict.the-variants.{Accepted, Refused
 use Rattle.rings.proofs.CheckLaws.{accepted-right, when-accepted}
 use Rattle.listing.specs.Listing.{ListedRing, listing}
 use Rattle.listing.specs.ListingCall.{listingChecks, summed, listingAnswer, ringColumn, listingStarts, listingEnds, listingRows}
-use Rattle.listing.specs.Program.{Outcome, found, stopped, inputLine, fromList}
-use Rattle.listing.specs.ProgramText.{listAnswer, listOutput}
-use Rattle.listing.specs.ProgramSteps.{listed, refusedOf, entriesAt, Rising}
+use Rattle.listing.specs.Program.{Outcome, found, stopped, stoppedBy, fromList, listed}
+use Rattle.listing.specs.ProgramText.{refusedOf, listAnswer, listOutput}
+use Rattle.listing.specs.ProgramSteps.{entriesAt, Rising}
 use Rattle.listing.specs.declared.Listed.{Listed}
 use Rattle.listing.specs.declared.Printed.{Printed}
 use Rattle.listing.proofs.CountLaws.{listing-is}
@@ -148,7 +148,7 @@ module _ (t : Table) (q : Query) (lo hi : ℕ) {r : Listed} (is : r ≡ listingA
   unfolding listed fromList
   listed-rings e = ap (λ (x : Listed). fromList x (listing t q lo hi)) (sym is ∙ e)
 
-  pub listed-none : {f : Refusal} → r ≡ Listed.Refused f → listed t q lo hi ≡ stopped (numberOf f) (inputLine f)
+  pub listed-none : {f : Refusal} → r ≡ Listed.Refused f → listed t q lo hi ≡ stoppedBy f
   unfolding listed fromList
   listed-none e = ap (λ (x : Listed). fromList x (listing t q lo hi)) (sym is ∙ e)
 
@@ -192,8 +192,8 @@ pub answer-none : (o : Outcome) (output : List ℕ) {n line : ℕ} → o ≡ sto
 unfolding listAnswer listOutput
 answer-none o output e = (rw e, refl)
 
-pub answer-refused : (o : Outcome) (output : List ℕ) (f : Refusal) {a : Printed} → o ≡ stopped (numberOf f) (inputLine f) → a ≡ refusedOf f → (a ≡ listAnswer o (length output)) × (output ≡ listOutput a o output)
-unfolding refusedOf listAnswer listOutput
+pub answer-refused : (o : Outcome) (output : List ℕ) (f : Refusal) {a : Printed} → o ≡ stoppedBy f → a ≡ refusedOf f → (a ≡ listAnswer o (length output)) × (output ≡ listOutput a o output)
+unfolding stoppedBy refusedOf listAnswer listOutput
 answer-refused o output f e h = rw (h, e) (refl, refl)
 
 pub answer-as : {o o′ : Outcome} (output : List ℕ) {a : Printed} {now : List ℕ} → o ≡ o′ → (a ≡ listAnswer o′ (length output)) × (now ≡ listOutput a o′ output) → (a ≡ listAnswer o (length output)) × (now ≡ listOutput a o output)

@@ -26,11 +26,11 @@ use Rattle.rings.specs.declared.refusal.Refusal.{Refusal}
 use Rattle.rings.specs.declared.refusal.Refusal.the-variants.{UnequalColumns, TooManyRows, BadDay, BadAccounts, OutOfOrder, BadK, BadWindow, BadLengths, SmallScratch, NoRoom, BadEntry}
 use Rattle.listing.specs.Listing.{ListedRing, listing}
 use Rattle.listing.specs.ListingCall.{listingAnswer}
-use Rattle.listing.specs.Program.{Outcome, found, stopped, inputLine, tableOf, fromList, fromRows, fromQuery, unlessLong, outcome}
+use Rattle.listing.specs.Program.{Outcome, found, stopped, readerLine, inputLine, stoppedBy, unlessRefused, tableOf, fromList, listed, fromRows, badQuery, fromQuery, unlessLong, outcome}
 use Rattle.listing.specs.ProgramText.{lineOf, listText, outcomeText, fitted, listAnswer, listOutput}
 use Rattle.listing.specs.declared.Listed.{Listed}
 use Rattle.listing.specs.declared.Printed.{Printed}
-use Rattle.listing.proofs.ReadingLaws.{lines-most, place-lines}
+use Rattle.listing.proofs.ReadingLaws.{lines-most, place-lines, reader-most}
 use Rattle.listing.proofs.AnswerLaws.{refused-place, rings-count, rings-most}
 
 unfoldable pub ringsIn : Outcome → ℕ
@@ -83,7 +83,7 @@ line-most NoRoom = omega arith
 line-most (BadEntry i) = omega arith
 
 by-list : (t : Table) (q : Query) (lo hi : ℕ) (a : Listed) → listingAnswer t q lo hi 2048 2048 2048 12288 ≡ a → size t ≤ 18448 → Bounded (fromList a (listing t q lo hi))
-unfolding fromList ringsIn numberIn lineIn
+unfolding fromList stoppedBy ringsIn numberIn lineIn
 by-list t q lo hi (Listed.Rings n sum) e h =
     record { rings = omega (arith, rings-count t q lo hi (sym e) refl, rings-most t q lo hi (sym e) refl); number = omega arith; line = omega arith }
 by-list t q lo hi (Listed.Refused r) e h =
@@ -94,23 +94,23 @@ unfolding tableOf daysOf
 rows-most text = omega (arith, lines-most text, length-map (linesOf text) (λ (l : List ℕ). dayOf (rowOf l)))
 
 by-rows : (text : List ℕ) (q : Query) (lo hi : ℕ) (r : TableRead) → r ≡ tableReadOf text 1024 1024 1024 → length text ≤ 18448 → Bounded (fromRows r (tableOf text) q lo hi)
-unfolding fromRows
+unfolding fromRows unlessRefused listed
 by-rows text q lo hi (TableRead.Rows n) e h =
     by-list (tableOf text) q lo hi (listingAnswer (tableOf text) q lo hi 2048 2048 2048 12288) refl (omega (arith, rows-most text))
-by-rows text q lo hi (TableRead.LineLength n) e h = stops 11 (n + 1) (omega arith) (omega (arith, place-lines text 1024 1024 1024 e))
-by-rows text q lo hi (TableRead.BrokenField n) e h = stops 12 (n + 1) (omega arith) (omega (arith, place-lines text 1024 1024 1024 e))
-by-rows text q lo hi (TableRead.LargeNumber n) e h = stops 13 (n + 1) (omega arith) (omega (arith, place-lines text 1024 1024 1024 e))
-by-rows text q lo hi TableRead.Room e h = stops 10 0 (omega arith) (omega arith)
+by-rows text q lo hi (TableRead.LineLength n) e h = stops 11 (readerLine n) (omega arith) (omega (arith, reader-most n, place-lines text 1024 1024 1024 e))
+by-rows text q lo hi (TableRead.BrokenField n) e h = stops 12 (readerLine n) (omega arith) (omega (arith, reader-most n, place-lines text 1024 1024 1024 e))
+by-rows text q lo hi (TableRead.LargeNumber n) e h = stops 13 (readerLine n) (omega arith) (omega (arith, reader-most n, place-lines text 1024 1024 1024 e))
+by-rows text q lo hi TableRead.Room e h = stops 10 (readerLine 0) (omega arith) (omega (arith, reader-most 0))
 
 by-query : (q : QueryRead) (text : List ℕ) → length text ≤ 18448 → Bounded (fromQuery q text)
-unfolding fromQuery
+unfolding fromQuery badQuery
 by-query (QueryRead.Query k lo hi) text h = by-rows text (record { k = k }) lo hi (tableReadOf text 1024 1024 1024) refl h
 by-query QueryRead.BadLength text h = stops 11 1 (omega arith) (omega arith)
 by-query QueryRead.BadField text h = stops 12 1 (omega arith) (omega arith)
 by-query QueryRead.LargeNumber text h = stops 13 1 (omega arith) (omega arith)
 
 by-length : (input : List ℕ) (b : Bool) → ltb 18448 (length input) ≡ b → Bounded (unlessLong b (fromQuery (queryOf input) (drop 16 input)))
-unfolding unlessLong
+unfolding unlessLong stoppedBy numberOf inputLine
 by-length input true e = stops 2 0 (omega arith) (omega arith)
 by-length input false e = by-query (queryOf input) (drop 16 input) (omega (arith, ltb-false 18448 (length input) e, length-drop 16 input))
 

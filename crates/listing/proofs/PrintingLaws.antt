@@ -20,10 +20,11 @@ use Rattle.text.proofs.PrintLaws.{line-length}
 use Rattle.text.proofs.ListingLaws.{listing-length}
 use Rattle.rings.specs.Words.{run}
 use Rattle.rings.specs.Buffers.{over}
+use Rattle.rings.specs.Refusals.{numberOf}
 use Rattle.rings.proofs.WordLaws.{length-run}
 use Rattle.listing.specs.Listing.{ListedRing, span}
-use Rattle.listing.specs.Program.{found}
-use Rattle.listing.specs.ProgramText.{lineOf, listText, outcomeText, fitted, listAnswer, listOutput}
+use Rattle.listing.specs.Program.{found, inputLine}
+use Rattle.listing.specs.ProgramText.{lineOf, listText, outcomeText, refusedOf, fitted, listAnswer, listOutput}
 use Rattle.listing.specs.ProgramSteps.{entryAt, entriesAt, ringLines}
 use Rattle.listing.specs.declared.Printed.{Printed}
 
@@ -107,7 +108,7 @@ module _ (starts ends rows : List ℕ) where
 
   pub text-none : (output : List ℕ) (n : ℕ) → length output < 22 * (n + 1)
       → (Printed.Refused 10 0 ≡ listAnswer (found (entriesAt starts ends rows n)) (length output)) × (output ≡ listOutput (Printed.Refused 10 0) (found (entriesAt starts ends rows n)) output)
-  unfolding listAnswer listOutput fitted
+  unfolding listAnswer listOutput fitted refusedOf numberOf inputLine
   text-none output n h = (rw (text-size n, lt-leb (22 * (n + 1)) (length output) h), refl)
 
   pub text-done : (output : List ℕ) (n : ℕ) {r : Put} {o₁ o₂ : List ℕ} → 22 * (n + 1) ≤ length output

@@ -1,12 +1,13 @@
 -- Laws of reading the program's input, over plain lists.
 --     lines-most, place-lines    no more lines than bytes; the reader's place is within the text
+--     reader-none, reader-more, reader-most    the input line of the reader's place
 --     rows-asked         the columns after the reader, and its answer, are what the rows ask for
 --     query-fits         a query line is 16 bytes
 --     asks-query, asks-none    what an input asks for, by its query line
 --     too-long           an input that is too long
 --     asked-none, asked-most, part-most, asked-rows   the outcome, by what is asked
 -- Assumes nothing.
-use Prim.Native.Nat.{ℕ, suc, _+_, _-_, _≤_, _<_, min}
+use Prim.Native.Nat.{ℕ, zero, suc, _+_, _-_, _≤_, _<_, min}
 use mathlib.Core.Path.{_≡_, refl, sym, ap, _∙_}
 use mathlib.Core.Bool.{Bool, true, false, cond}
 use mathlib.Core.Logic.{⊎-elim}
@@ -26,8 +27,9 @@ use Rattle.text.proofs.Tests.{look}
 use Rattle.text.proofs.LineLaws.{step-none, step-short, whole-fits}
 use Rattle.text.proofs.TableLaws.{column-length}
 use Rattle.rings.specs.Table.{tableOf as columns}
-use Rattle.listing.specs.Program.{Outcome, stopped, tableOf, fromRows, fromQuery, unlessLong, outcome}
-use Rattle.listing.specs.ProgramSteps.{query, listed, askedBy, rowsOf, asked, Asks}
+use Rattle.rings.specs.Refusals.{numberOf}
+use Rattle.listing.specs.Program.{Outcome, stopped, readerLine, inputLine, stoppedBy, unlessRefused, tableOf, listed, fromRows, fromQuery, unlessLong, outcome}
+use Rattle.listing.specs.ProgramSteps.{query, askedBy, rowsOf, asked, Asks}
 use Rattle.listing.specs.declared.program.Asked.{Asked}
 
 absurd-eq {ℓ} : {A : Type ℓ} → _≡_ {A = ℕ} 0 1 → A
@@ -81,6 +83,22 @@ place-lines text d f s {r} e =
     let q : place r ≡ place (roomFor (min d (min f s)) j) = ap place e in
     omega (arith, lines-most text)
 
+-- ---- its input line
+
+pub reader-none : (n : ℕ) → n ≡ 0 → 0 ≡ readerLine n
+unfolding readerLine
+reader-none n e = sym (ap readerLine e)
+
+pub reader-more : (n : ℕ) → (n ≡ 0 → ⊥) → n + 1 ≡ readerLine n
+unfolding readerLine
+reader-more zero h = absurd (h refl)
+reader-more (suc n) h = refl
+
+pub reader-most : (n : ℕ) → readerLine n ≤ n + 1
+unfolding readerLine
+reader-most zero = omega arith
+reader-most (suc n) = omega arith
+
 -- ---- rows
 
 record Fitting (room n : ℕ) (r : TableRead) : Type 0 where
@@ -105,7 +123,7 @@ front values column n e q = ap (take n) q ∙ take-at values (drop n column) n e
 module _ (text : List ℕ) (k lo hi : ℕ) (days first second : List ℕ) {days′ first′ second′ : List ℕ} where
   by-answer : (r : TableRead) → tableReadOf text 1024 1024 1024 ≡ r → days′ ≡ filled r (daysOf text) days → first′ ≡ filled r (firstsOf text) first → second′ ≡ filled r (secondsOf text) second
       → Asks (fromRows r (tableOf text) (query k) lo hi) (askedBy r k lo hi) days′ first′ second′
-  unfolding rowsOf asked askedBy fromRows listed tableReadOf tableOf daysOf firstsOf secondsOf
+  unfolding rowsOf asked askedBy unlessRefused fromRows listed tableReadOf tableOf daysOf firstsOf secondsOf
   by-answer (TableRead.Rows n) e d f s =
       let r = room-rows 1024 n (judgedFrom 0 (linesOf text)) e in
       let a : take n days′ ≡ daysOf text = front (daysOf text) days n (column-length text n (r .is) dayOf) d in
@@ -161,7 +179,7 @@ module _ (input : List ℕ) (short : length input ≤ 18448) where
   asks-none q e t h = record { most = omega arith; is = by-query (sym t ∙ e) ∙ h }
 
 pub too-long : (input : List ℕ) → 18448 < length input → outcome input ≡ stopped 2 0
-unfolding outcome unlessLong
+unfolding outcome unlessLong stoppedBy numberOf inputLine
 too-long input h = rw (lt-ltb 18448 (length input) h)
 
 module _ {o : Outcome} {a : Asked} {d f s : List ℕ} (h : Asks o a d f s) where

@@ -10,5 +10,6 @@ pub mod Program
 pub mod ProgramText
 pub mod ProgramInput
 pub mod ProgramRows
+pub mod NumberRows
 pub mod ProgramSteps
 pub mod Inner

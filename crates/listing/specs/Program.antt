@@ -1,19 +1,26 @@
--- The listing program: what an input text asks for. The C interface's list call is the same.
+-- The listing program: what an input text asks for. The C interface's list call is the same. Numbers and places are those of the answers
+-- of text and rings, each by the definition that stands with its enum.
 --     Outcome            a listing, or a refusal's number and input line
---     inputLine r        the input line of Listing's refusals
+--     rowLine j          the input line of row j
+--     readerLine n       the input line of the reader's line n
+--     inputLine r        the input line of a refusal of rings, or 0
+--     stoppedBy r        the outcome for it
+--     unlessRefused      an answer for a refusal's number and input line, or another where the number is 0
 --     tableOf rows       the table that the text of the rows holds
 --     fromList           the outcome by Listing's answer
+--     listed t q lo hi   the outcome of Listing, for a table that was read
 --     fromRows           the outcome by what the reader says of the rows
+--     badQuery a         the outcome for a query line that is refused
 --     fromQuery          the outcome by what the query line holds
 --     unlessLong b o     the outcome o, or 2 where the input is too long
 --     outcome input      the outcome of an input
-use Prim.Native.Nat.{ℕ, _+_}
+use Prim.Native.Nat.{ℕ, zero, suc, _+_}
 use mathlib.Core.Bool.{Bool, true, false}
 use mathlib.Core.List.{List}
 use lib.ListN.{length, drop}
 use lib.Dec.{ltb}
-use Rattle.text.specs.Line.{queryOf}
-use Rattle.text.specs.Table.{daysOf, firstsOf, secondsOf, tableReadOf}
+use Rattle.text.specs.Line.{queryOf, queryNumber, queryPlace}
+use Rattle.text.specs.Table.{daysOf, firstsOf, secondsOf, tableReadOf, number, place}
 use Rattle.text.specs.declared.lines.QueryRead.{QueryRead}
 use Rattle.text.specs.declared.table.TableRead.{TableRead}
 use Rattle.rings.specs.Table.{Table}
@@ -29,13 +36,21 @@ pub data Outcome : Type 0 where
   found : List ListedRing → Outcome
   stopped : ℕ → ℕ → Outcome
 
--- 01: "the input line (row + 2 for rows, reader's line + 1), or 0"
+-- 01: "the input line (row + 2 for rows, reader's line + 1), or 0". The query line is line 1. Rows count from 0
+abbrev pub rowLine : ℕ → ℕ
+rowLine row = row + 2
+
+-- the reader's lines count from 1: its place 0 is no line
+unfoldable pub readerLine : ℕ → ℕ
+readerLine zero = 0
+readerLine (suc n) = suc n + 1
+
 unfoldable pub inputLine : Refusal → ℕ
 inputLine UnequalColumns = 0
 inputLine TooManyRows = 0
-inputLine (BadDay j) = j + 2
-inputLine (BadAccounts j) = j + 2
-inputLine (OutOfOrder j) = j + 2
+inputLine (BadDay j) = rowLine j
+inputLine (BadAccounts j) = rowLine j
+inputLine (OutOfOrder j) = rowLine j
 inputLine BadK = 0
 inputLine BadWindow = 0
 inputLine BadLengths = 0
@@ -43,32 +58,44 @@ inputLine SmallScratch = 0
 inputLine NoRoom = 0
 inputLine (BadEntry i) = 0
 
+unfoldable pub stoppedBy : Refusal → Outcome
+stoppedBy r = stopped (numberOf r) (inputLine r)
+
+-- 01: "the refusal number (0 for none)"
+unfoldable pub unlessRefused : {A : Type 0} → (ℕ → ℕ → A) → ℕ → ℕ → A → A
+unlessRefused refused zero line other = other
+unlessRefused refused (suc n) line other = refused (suc n) line
+
 unfoldable pub tableOf : List ℕ → Table
 tableOf rows = record { days = daysOf rows; first = firstsOf rows; second = secondsOf rows }
 
 unfoldable pub fromList : Listed → List ListedRing → Outcome
 fromList (Listed.Rings n sum) ls = found ls
-fromList (Listed.Refused r) ls = stopped (numberOf r) (inputLine r)
+fromList (Listed.Refused r) ls = stoppedBy r
 
 -- 01: "then lists into columns of 2,048". 12,288 numbers of scratch are enough for 1,024 rows
-unfoldable pub fromRows : TableRead → Table → Query → ℕ → ℕ → Outcome
-fromRows (TableRead.Rows n) t q lo hi = fromList (listingAnswer t q lo hi 2048 2048 2048 12288) (listing t q lo hi)
-fromRows (TableRead.LineLength n) t q lo hi = stopped 11 (n + 1)
-fromRows (TableRead.BrokenField n) t q lo hi = stopped 12 (n + 1)
-fromRows (TableRead.LargeNumber n) t q lo hi = stopped 13 (n + 1)
-fromRows TableRead.Room t q lo hi = stopped 10 0
+unfoldable pub listed : Table → Query → ℕ → ℕ → Outcome
+listed t q lo hi = fromList (listingAnswer t q lo hi 2048 2048 2048 12288) (listing t q lo hi)
 
--- 01: "It reads the query line first (11, 12, 13 at line 1; 11 when input is empty), then the rows". 18,448 bytes hold a query and 1,024 rows: there is room for them
+unfoldable pub fromRows : TableRead → Table → Query → ℕ → ℕ → Outcome
+fromRows a t q lo hi = unlessRefused stopped (number a) (readerLine (place a)) (listed t q lo hi)
+
+unfoldable pub badQuery : QueryRead → Outcome
+badQuery a = stopped (queryNumber a) (queryPlace a)
+
+-- 01: "It reads the query line first (11, 12, 13 at line 1; 11 when input is empty), then the rows". 18,448 bytes hold a query and 1,024 rows:
+-- there is room for them
 unfoldable pub fromQuery : QueryRead → List ℕ → Outcome
 fromQuery (QueryRead.Query k lo hi) rows = fromRows (tableReadOf rows 1024 1024 1024) (tableOf rows) (record { k = k }) lo hi
-fromQuery QueryRead.BadLength rows = stopped 11 1
-fromQuery QueryRead.BadField rows = stopped 12 1
-fromQuery QueryRead.LargeNumber rows = stopped 13 1
+fromQuery QueryRead.BadLength rows = badQuery QueryRead.BadLength
+fromQuery QueryRead.BadField rows = badQuery QueryRead.BadField
+fromQuery QueryRead.LargeNumber rows = badQuery QueryRead.LargeNumber
 
+-- 01: "Over 18,448 bytes: refusal 2, place 0, before any line is read"
 unfoldable pub unlessLong : Bool → Outcome → Outcome
-unlessLong true o = stopped 2 0
+unlessLong true o = stoppedBy TooManyRows
 unlessLong false o = o
 
--- 01: "a query line of 16 bytes .., then rows. Over 18,448 bytes: refusal 2, place 0, before any line is read"
+-- 01: "a query line of 16 bytes .., then rows"
 unfoldable pub outcome : List ℕ → Outcome
 outcome input = unlessLong (ltb 18448 (length input)) (fromQuery (queryOf input) (drop 16 input))

@@ -1,7 +1,5 @@
 -- The listing program step by step: what its functions hand to each other.
 --     query k            the query of a k
---     listed t q lo hi   the outcome of Listing, for a table that was read
---     refusedOf r        the answer for a refusal of Listing
 --     askedBy t k lo hi  what an input asks for, by what the reader says of its rows
 --     rowsOf a           how many rows an input has
 --     asked a d f s      the outcome of what is asked, the rows standing in front of the columns d, f, s
@@ -9,39 +7,26 @@
 --     entryAt, entriesAt    the entry at a place of three columns, and the first n
 --     ringLines ls       the lines of a listing, without the header
 --     Rising             the columns have n entries, and each starts by its end
-use Prim.Native.Nat.{ℕ, _+_, _≤_, _<_}
+use Prim.Native.Nat.{ℕ, _≤_, _<_}
 use mathlib.Core.Path.{_≡_}
 use mathlib.Core.List.{List, map}
 use lib.ListN.{length, getD, take}
 use Rattle.text.specs.Print.{entryLines}
+use Rattle.text.specs.Table.{number, place, count}
 use Rattle.text.specs.declared.table.TableRead.{TableRead}
 use Rattle.rings.specs.Words.{run}
-use Rattle.rings.specs.Table.{Table, tableOf}
-use Rattle.rings.specs.Refusals.{numberOf}
+use Rattle.rings.specs.Table.{tableOf}
 use Rattle.rings.specs.declared.Query.{Query}
-use Rattle.rings.specs.declared.refusal.Refusal.{Refusal}
-use Rattle.listing.specs.Listing.{ListedRing, listing}
-use Rattle.listing.specs.ListingCall.{listingAnswer}
-use Rattle.listing.specs.Program.{Outcome, stopped, inputLine, fromList}
+use Rattle.listing.specs.Listing.{ListedRing}
+use Rattle.listing.specs.Program.{Outcome, stopped, readerLine, unlessRefused, listed}
 use Rattle.listing.specs.ProgramText.{lineOf}
-use Rattle.listing.specs.declared.Printed.{Printed}
 use Rattle.listing.specs.declared.program.Asked.{Asked}
 
 abbrev pub query : ℕ → Query
 query k = record { k = k }
 
-unfoldable pub listed : Table → Query → ℕ → ℕ → Outcome
-listed t q lo hi = fromList (listingAnswer t q lo hi 2048 2048 2048 12288) (listing t q lo hi)
-
-unfoldable pub refusedOf : Refusal → Printed
-refusedOf r = Printed.Refused (numberOf r) (inputLine r)
-
 unfoldable pub askedBy : TableRead → ℕ → ℕ → ℕ → Asked
-askedBy (TableRead.Rows n) k lo hi = Asked.Rows k lo hi n
-askedBy (TableRead.LineLength n) k lo hi = Asked.Refused 11 (n + 1)
-askedBy (TableRead.BrokenField n) k lo hi = Asked.Refused 12 (n + 1)
-askedBy (TableRead.LargeNumber n) k lo hi = Asked.Refused 13 (n + 1)
-askedBy TableRead.Room k lo hi = Asked.Refused 10 0
+askedBy a k lo hi = unlessRefused Asked.Refused (number a) (readerLine (place a)) (Asked.Rows k lo hi (count a))
 
 unfoldable pub rowsOf : Asked → ℕ
 rowsOf (Asked.Rows k lo hi n) = n

@@ -3,6 +3,7 @@
 --     listText ls        the text of a listing
 --     outcomeText o      the text of an outcome: a listing's, or the refused line
 --     programText input  what the program prints for an input
+--     refusedOf r        the answer for a refusal of rings
 --     fitted b n         the answer for a text of n bytes: 10 where it does not fit
 --     listAnswer o n     the list call's answer, for an output of n bytes
 --     listOutput a o x   its output x at exit
@@ -13,10 +14,12 @@ use mathlib.Core.List.{List, map}
 use lib.ListN.{length}
 use lib.Dec.{leb}
 use Rattle.text.specs.Print.{Entry, listingText, refusedLine}
-use Rattle.rings.specs.Refusals.{Report, done}
+use Rattle.rings.specs.Refusals.{numberOf, Report, done}
 use Rattle.rings.specs.Buffers.{over}
+use Rattle.rings.specs.declared.refusal.Refusal.{Refusal}
+use Rattle.rings.specs.declared.refusal.Refusal.the-variants.{NoRoom}
 use Rattle.listing.specs.Listing.{ListedRing, span}
-use Rattle.listing.specs.Program.{Outcome, found, stopped, outcome}
+use Rattle.listing.specs.Program.{Outcome, found, stopped, inputLine, outcome}
 use Rattle.listing.specs.declared.Printed.{Printed}
 
 -- 01: "Columns: start 5, end 5, span 5, rows 6"
@@ -35,9 +38,12 @@ outcomeText (stopped n line) = refusedLine n line
 unfoldable pub programText : List ℕ → List ℕ
 programText input = outcomeText (outcome input)
 
+unfoldable pub refusedOf : Refusal → Printed
+refusedOf r = Printed.Refused (numberOf r) (inputLine r)
+
 unfoldable pub fitted : Bool → ℕ → Printed
 fitted true n = Printed.Text n
-fitted false n = Printed.Refused 10 0
+fitted false n = refusedOf NoRoom
 
 -- 01: "output too short is 10"
 unfoldable pub listAnswer : Outcome → ℕ → Printed

@@ -6,9 +6,9 @@ ghost use Rattle.rings.specs.Refusals.{placeOf};
 ghost use Rattle.rings.specs.Table.{tableOf as columns};
 ghost use Rattle.text.specs.Table.{place, tableReadOf};
 ghost use Rattle.text.specs.Print.{pasted};
-ghost use Rattle.listing.specs.Program.{found, tableOf, fromRows, outcome};
-ghost use Rattle.listing.specs.ProgramText.{listAnswer, listOutput};
-ghost use Rattle.listing.specs.ProgramSteps.{query, listed, refusedOf, askedBy, Asks, Rising, entriesAt, ringLines};
+ghost use Rattle.listing.specs.Program.{found, rowLine, readerLine, tableOf, listed, fromRows, outcome};
+ghost use Rattle.listing.specs.ProgramText.{refusedOf, listAnswer, listOutput};
+ghost use Rattle.listing.specs.ProgramSteps.{query, askedBy, Asks, Rising, entriesAt, ringLines};
 use crate::Listed;
 use crate::Printed;
 use crate::list::list_rings;
@@ -38,7 +38,7 @@ pub enum Asked {
 // A refusal at a row of the table: row 0 stands in input line 2.
 fn at_row(number: u32, row: usize) -> Printed
     requires { ⌜ row ≤ 1024 ⌝ }
-    ensures { λ r. ⌜ r ≡ Printed.Refused number (row + 2) ⌝ }
+    ensures { λ r. ⌜ r ≡ Printed.Refused number (rowLine row) ⌝ }
 {
     Printed::Refused {
         number,
@@ -72,11 +72,14 @@ fn refused(r: Refusal) -> Printed
     }
 }
 
-// A refusal at a line of the rows: the reader's line 1 is input line 2.
+// A refusal of the reader: its line 1 is input line 2, and its place 0 is no line.
 fn at_line(number: u32, line: usize) -> Asked
     requires { ⌜ line ≤ 18448 ⌝ }
-    ensures { λ r. ⌜ r ≡ Asked.Refused number (line + 1) ⌝ }
+    ensures { λ r. ⌜ r ≡ Asked.Refused number (readerLine line) ⌝ }
 {
+    if line == 0 {
+        return Asked::Refused { number, line: 0 };
+    }
     Asked::Refused {
         number,
         line: line + 1,
@@ -93,10 +96,7 @@ fn asked_by(read: TableRead, k: u16, ts: u16, te: u16) -> Asked
         TableRead::LineLength(n) => at_line(11, n),
         TableRead::BrokenField(n) => at_line(12, n),
         TableRead::LargeNumber(n) => at_line(13, n),
-        TableRead::Room => Asked::Refused {
-            number: 10,
-            line: 0,
-        },
+        TableRead::Room => at_line(10, 0),
     }
 }
 

@@ -3,8 +3,9 @@
 --     season             01's example
 --     ask n              the query k = n
 --     entry, two-entries minimal-window lists of one and of two entries, as lent columns
---     CheckRows          the table: a field for each row
---     check-rows-hold    the theorem
+--     CheckRows, check-rows-hold        the table, a field for each row, and the theorem
+--     says n p           the report of a refusal: number n, place p
+--     CallNumbers, call-numbers-hold    01's numbers 1 to 10 and 14 as the calls give them: a table of a row each, and the theorem
 use Prim.Native.Nat.{ℕ}
 use mathlib.Core.Path.{_≡_, refl}
 use mathlib.Core.Bool.{true}
@@ -50,17 +51,15 @@ pub record CheckRows : Type 0 where
   pub account-4096 : tableCheck (row 1 0 4096) ≡ Refused (BadAccounts 0)
   pub own-account : tableCheck (row 1 7 7) ≡ Refused (BadAccounts 0)
   pub no-rows : tableCheck (record { days = []; first = []; second = [] }) ≡ Accepted
-  -- equal rows may stand twice; a falling day is 5 at its row
+  -- equal rows may stand twice
   pub twice : tableCheck (record { days = 3 ∷ 3 ∷ []; first = 1 ∷ 1 ∷ []; second = 2 ∷ 2 ∷ [] }) ≡ Accepted
-  pub falling : verdictReport (tableCheck (record { days = 1 ∷ 3 ∷ 2 ∷ []; first = 1 ∷ 1 ∷ 1 ∷ []; second = 2 ∷ 2 ∷ 2 ∷ [] })) ≡ record { number = 5; place = 2; count = 0 }
   -- 1, then 2, before a row's fault; the lowest faulty row, by its first fault
   pub too-many-rows : (t : Table) → eqb (length (t .first)) (length (t .days)) ≡ true → eqb (length (t .second)) (length (t .days)) ≡ true → ltb 16384 (length (t .days)) ≡ true → tableCheck t ≡ Refused TooManyRows
   pub lengths-first : tableCheck (record { days = 0 ∷ []; first = 1 ∷ []; second = [] }) ≡ Refused UnequalColumns
   pub lowest-row : tableCheck (record { days = 1 ∷ 2 ∷ 0 ∷ []; first = 1 ∷ 2 ∷ 1 ∷ []; second = 2 ∷ 1 ∷ 2 ∷ [] }) ≡ Refused (BadAccounts 1)
   pub day-before-accounts : tableCheck (record { days = 1 ∷ 0 ∷ []; first = 1 ∷ 2 ∷ []; second = 2 ∷ 2 ∷ [] }) ≡ Refused (BadDay 1)
   pub accounts-before-order : tableCheck (record { days = 2 ∷ 1 ∷ []; first = 1 ∷ 2 ∷ []; second = 2 ∷ 2 ∷ [] }) ≡ Refused (BadAccounts 1)
-  -- Window ring: "k = 0 gives 6"; 6, 7, 8, 9 one after the other
-  pub k-0 : countedReport (ringAnswer season (ask 0) 1 6 6 8216) ≡ record { number = 6; place = 0; count = 0 }
+  -- Window ring: 6, 7, 8, 9 one after the other
   pub table-first : ringAnswer (row 0 0 1) (ask 0) 2 1 0 0 ≡ Counted.Refused (BadDay 0)
   pub ring-6 : ringAnswer season (ask 4096) 2 1 0 0 ≡ Counted.Refused BadK
   pub ring-7 : ringAnswer season (ask 2) 2 1 0 0 ≡ Counted.Refused BadWindow
@@ -95,7 +94,6 @@ pub record CheckRows : Type 0 where
   pub recall-14-falling : recallAnswer season (two-entries 1 1 2 0 1 2) 1 6 6 ≡ Refused (BadEntry 1)
   pub recall-14-same-start : recallAnswer season (two-entries 1 1 2 1 1 4) 1 6 6 ≡ Refused (BadEntry 1)
   pub recall-14-same-end : recallAnswer season (two-entries 1 1 4 1 2 4) 1 6 6 ≡ Refused (BadEntry 1)
-  pub recall-14-place : verdictReport (recallAnswer season (two-entries 1 1 2 0 1 2) 1 6 6) ≡ record { number = 14; place = 1; count = 0 }
   pub recall-7 : recallAnswer season (two-entries 1 1 2 1 2 4) 2 1 6 ≡ Refused BadWindow
   pub recall-empty-list : recallMarks (recallAnswer season (record { rows = []; starts = []; ends = [] }) 1 6 6) season (record { rows = []; starts = []; ends = [] }) 1 6 (replicate 6 9) ≡ replicate 6 0
   -- Mistake: "counting rows as neighbours". Two rows of one pair, k = 2
@@ -113,13 +111,11 @@ check-rows-hold = record {
   own-account = refl;
   no-rows = refl;
   twice = refl;
-  falling = refl;
   too-many-rows = λ t a b c. simp (a, b, c);
   lengths-first = refl;
   lowest-row = refl;
   day-before-accounts = refl;
   accounts-before-order = refl;
-  k-0 = refl;
   table-first = refl;
   ring-6 = refl;
   ring-7 = refl;
@@ -149,9 +145,44 @@ check-rows-hold = record {
   recall-14-falling = refl;
   recall-14-same-start = refl;
   recall-14-same-end = refl;
-  recall-14-place = refl;
   recall-7 = refl;
   recall-empty-list = refl;
   one-neighbour = refl;
   own-day = refl;
+}
+
+abbrev pub says : ℕ → ℕ → Report
+says n p = record { number = n; place = p; count = 0 }
+
+-- 01: "A refusal is a number and a place: a row for 3, 4, 5; a list entry from 0 for 14; .. else 0". 0 is none, with the count
+pub record CallNumbers : Type 0 where
+  pub number-0 : countedReport (ringAnswer season (ask 2) 1 2 6 8216) ≡ record { number = 0; place = 0; count = 3 }
+  pub number-1 : verdictReport (tableCheck (record { days = 1 ∷ []; first = 1 ∷ []; second = [] })) ≡ says 1 0
+  pub number-2 : verdictReport (tableCheck (record { days = replicate 16385 1; first = replicate 16385 1; second = replicate 16385 2 })) ≡ says 2 0
+  pub number-3 : verdictReport (tableCheck (record { days = 1 ∷ 1025 ∷ []; first = 1 ∷ 1 ∷ []; second = 2 ∷ 2 ∷ [] })) ≡ says 3 1
+  pub number-4 : verdictReport (tableCheck (record { days = 1 ∷ 1 ∷ 1 ∷ []; first = 1 ∷ 1 ∷ 2 ∷ []; second = 2 ∷ 2 ∷ 2 ∷ [] })) ≡ says 4 2
+  pub number-5 : verdictReport (tableCheck (record { days = 1 ∷ 3 ∷ 2 ∷ []; first = 1 ∷ 1 ∷ 1 ∷ []; second = 2 ∷ 2 ∷ 2 ∷ [] })) ≡ says 5 2
+  -- "k = 0 gives 6"
+  pub number-6 : countedReport (ringAnswer season (ask 0) 1 6 6 8216) ≡ says 6 0
+  pub number-7 : verdictReport (timesAnswer season (ask 2) 2 6 1 4096 6 8216) ≡ says 7 0
+  pub number-8 : countedReport (ringAnswer season (ask 2) 1 2 5 8216) ≡ says 8 0
+  pub number-9 : verdictReport (timesAnswer season (ask 2) 1 6 1 4096 6 8215) ≡ says 9 0
+  pub number-10 : countedReport (minimalAnswer season (ask 2) 1 6 0 0 0 8216) ≡ says 10 0
+  pub number-14 : verdictReport (recallAnswer season (two-entries 1 1 2 0 1 2) 1 6 6) ≡ says 14 1
+
+pub call-numbers-hold : CallNumbers
+unfolding compute
+call-numbers-hold = record {
+  number-0 = refl;
+  number-1 = refl;
+  number-2 = refl;
+  number-3 = refl;
+  number-4 = refl;
+  number-5 = refl;
+  number-6 = refl;
+  number-7 = refl;
+  number-8 = refl;
+  number-9 = refl;
+  number-10 = refl;
+  number-14 = refl;
 }

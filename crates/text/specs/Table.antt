@@ -87,7 +87,7 @@ filled (BrokenField n) values column = column
 filled (LargeNumber n) values column = column
 filled Room values column = column
 
--- "A refusal is a number and a place"; 0 for none. A faulty line's is the line's own; "10: fewer places than lines" is, as for a text, no room
+-- "A refusal is a number and a place"; 0 for none. 11, 12 and 13 are the faulty line's own; 10 is that of every call with too little room
 abbrev pub number : TableRead → ℕ
 number (Rows n) = 0
 number (LineLength n) = lineNumber line.BadLength

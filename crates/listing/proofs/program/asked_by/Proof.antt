@@ -5,6 +5,7 @@ use native.Mathlib.Omega.{arith}
 use borrow.Author.Needs.{needs}
 use Rattle.text.specs.declared.table.TableRead.{TableRead}
 use Rattle.text.specs.Table.{place}
+use Rattle.listing.specs.Program.{unlessRefused}
 use Rattle.listing.specs.ProgramSteps.{askedBy}
 use Rattle.listing.proofs.program.asked_by.Statement.{statement}
 use Rattle.listing.proofs.program.asked_by.Tie as tie
@@ -33,35 +34,38 @@ at-line-requires-3 c κs = omega (arith, c .before .before .before .pre, ap plac
 enum-told : tie.Need-enum-told
 enum-told c = search needs
 
+at-line-requires-4 : tie.Need-at-line-requires-4
+at-line-requires-4 c κs = omega arith
+
 returns : tie.Need-returns
-unfolding askedBy
+unfolding askedBy unlessRefused
 returns c =
     let a = c .before .before .before .args in
     ap (λ (x : TableRead). askedBy x (a .k) (a .ts) (a .te)) (sym (c .before .read .given .1))
 
 returns-2 : tie.Need-returns-2
-unfolding askedBy
+unfolding askedBy unlessRefused
 returns-2 c =
     let a = c .before .before .before .before .args in
     c .at-line .ensures ∙ ap (λ (x : TableRead). askedBy x (a .k) (a .ts) (a .te)) (sym (c .before .before .read2 .given .1))
 
 returns-3 : tie.Need-returns-3
-unfolding askedBy
+unfolding askedBy unlessRefused
 returns-3 c =
     let a = c .before .before .before .before .args in
     c .at-line2 .ensures ∙ ap (λ (x : TableRead). askedBy x (a .k) (a .ts) (a .te)) (sym (c .before .before .read3 .given .1))
 
 returns-4 : tie.Need-returns-4
-unfolding askedBy
+unfolding askedBy unlessRefused
 returns-4 c =
     let a = c .before .before .before .before .args in
     c .at-line3 .ensures ∙ ap (λ (x : TableRead). askedBy x (a .k) (a .ts) (a .te)) (sym (c .before .before .read4 .given .1))
 
 returns-5 : tie.Need-returns-5
-unfolding askedBy
+unfolding askedBy unlessRefused
 returns-5 c =
-    let a = c .before .before .args in
-    ap (λ (x : TableRead). askedBy x (a .k) (a .ts) (a .te)) (sym (c .enum-told .given .1))
+    let a = c .before .before .before .args in
+    c .at-line4 .ensures ∙ ap (λ (x : TableRead). askedBy x (a .k) (a .ts) (a .te)) (sym (c .before .enum-told .given .1))
 
 pub asked-by-spec : {M : Type 1} → statement M
 asked-by-spec =
@@ -75,6 +79,7 @@ asked-by-spec =
     enum-known-read-4
     at-line-requires-3
     enum-told
+    at-line-requires-4
     returns
     returns-2
     returns-3

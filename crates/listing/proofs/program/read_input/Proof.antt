@@ -4,7 +4,7 @@ use mathlib.Core.Path.{refl, sym, _∙_}
 use native.Mathlib.Omega.{arith}
 use borrow.Author.Needs.{needs}
 use Rattle.text.specs.declared.lines.QueryRead.{QueryRead}
-use Rattle.listing.specs.Program.{fromQuery}
+use Rattle.listing.specs.Program.{badQuery, fromQuery}
 use Rattle.listing.proofs.ReadingLaws.{query-fits, asks-query, asks-none}
 use Rattle.listing.proofs.program.read_input.Statement.{statement}
 use Rattle.listing.proofs.program.read_input.Tie as tie
@@ -53,7 +53,7 @@ enum-told : tie.Need-enum-told
 enum-told c = search needs
 
 returns-2 : tie.Need-returns-2
-unfolding fromQuery
+unfolding fromQuery badQuery
 returns-2 c =
     let a = c .before .before .before .before .before .before .before .args in
     let pre = c .before .before .before .before .before .before .before .pre in
@@ -63,7 +63,7 @@ enum-told-2 : tie.Need-enum-told-2
 enum-told-2 c = search needs
 
 returns-3 : tie.Need-returns-3
-unfolding fromQuery
+unfolding fromQuery badQuery
 returns-3 c =
     let a = c .before .before .before .before .before .before .before .args in
     let pre = c .before .before .before .before .before .before .before .pre in
@@ -73,7 +73,7 @@ enum-told-3 : tie.Need-enum-told-3
 enum-told-3 c = search needs
 
 returns-4 : tie.Need-returns-4
-unfolding fromQuery
+unfolding fromQuery badQuery
 returns-4 c =
     let a = c .before .before .before .before .before .before .before .args in
     let pre = c .before .before .before .before .before .before .before .pre in

@@ -4,8 +4,8 @@ use mathlib.Core.Path.{sym, ap, _∙_}
 use native.Mathlib.Omega.{arith}
 use borrow.Author.Needs.{needs}
 use Rattle.rings.specs.Refusals.{numberOf, placeOf}
-use Rattle.listing.specs.ProgramSteps.{refusedOf}
 use Rattle.listing.specs.Program.{inputLine}
+use Rattle.listing.specs.ProgramText.{refusedOf}
 use Rattle.listing.proofs.program.refused.Statement.{statement}
 use Rattle.listing.proofs.program.refused.Tie as tie
 
