@@ -26,7 +26,7 @@ use Rattle.rings.specs.declared.refusal.Refusal.{Refusal}
 use Rattle.rings.specs.declared.refusal.Refusal.the-variants.{UnequalColumns, TooManyRows, BadDay, BadAccounts, OutOfOrder, BadK, BadWindow, BadLengths, SmallScratch, NoRoom, BadEntry}
 use Rattle.listing.specs.Listing.{ListedRing, listing}
 use Rattle.listing.specs.ListingCall.{listingAnswer}
-use Rattle.listing.specs.Program.{Outcome, found, stopped, readerLine, inputLine, stoppedBy, unlessRefused, tableOf, fromList, listed, fromRows, badQuery, fromQuery, unlessLong, outcome}
+use Rattle.listing.specs.Program.{Outcome, found, stopped, inputLine, stoppedBy, unlessRefused, tableOf, fromList, listed, fromRows, badQuery, fromQuery, unlessLong, outcome}
 use Rattle.listing.specs.ProgramText.{lineOf, listText, outcomeText, fitted, listAnswer, listOutput}
 use Rattle.listing.specs.declared.Listed.{Listed}
 use Rattle.listing.specs.declared.Printed.{Printed}
@@ -97,21 +97,21 @@ by-rows : (text : List ℕ) (q : Query) (lo hi : ℕ) (r : TableRead) → r ≡ 
 unfolding fromRows unlessRefused listed
 by-rows text q lo hi (TableRead.Rows n) e h =
     by-list (tableOf text) q lo hi (listingAnswer (tableOf text) q lo hi 2048 2048 2048 12288) refl (omega (arith, rows-most text))
-by-rows text q lo hi (TableRead.LineLength n) e h = stops 11 (readerLine n) (omega arith) (omega (arith, reader-most n, place-lines text 1024 1024 1024 e))
-by-rows text q lo hi (TableRead.BrokenField n) e h = stops 12 (readerLine n) (omega arith) (omega (arith, reader-most n, place-lines text 1024 1024 1024 e))
-by-rows text q lo hi (TableRead.LargeNumber n) e h = stops 13 (readerLine n) (omega arith) (omega (arith, reader-most n, place-lines text 1024 1024 1024 e))
-by-rows text q lo hi TableRead.Room e h = stops 10 (readerLine 0) (omega arith) (omega (arith, reader-most 0))
+by-rows text q lo hi (TableRead.LineLength n) e h = stops _ _ (omega arith) (omega (arith, reader-most n, place-lines text 1024 1024 1024 e))
+by-rows text q lo hi (TableRead.BrokenField n) e h = stops _ _ (omega arith) (omega (arith, reader-most n, place-lines text 1024 1024 1024 e))
+by-rows text q lo hi (TableRead.LargeNumber n) e h = stops _ _ (omega arith) (omega (arith, reader-most n, place-lines text 1024 1024 1024 e))
+by-rows text q lo hi TableRead.Room e h = stops _ _ (omega arith) (omega (arith, reader-most 0))
 
 by-query : (q : QueryRead) (text : List ℕ) → length text ≤ 18448 → Bounded (fromQuery q text)
 unfolding fromQuery badQuery
 by-query (QueryRead.Query k lo hi) text h = by-rows text (record { k = k }) lo hi (tableReadOf text 1024 1024 1024) refl h
-by-query QueryRead.BadLength text h = stops 11 1 (omega arith) (omega arith)
-by-query QueryRead.BadField text h = stops 12 1 (omega arith) (omega arith)
-by-query QueryRead.LargeNumber text h = stops 13 1 (omega arith) (omega arith)
+by-query QueryRead.BadLength text h = stops _ _ (omega arith) (omega arith)
+by-query QueryRead.BadField text h = stops _ _ (omega arith) (omega arith)
+by-query QueryRead.LargeNumber text h = stops _ _ (omega arith) (omega arith)
 
 by-length : (input : List ℕ) (b : Bool) → ltb 18448 (length input) ≡ b → Bounded (unlessLong b (fromQuery (queryOf input) (drop 16 input)))
 unfolding unlessLong stoppedBy numberOf inputLine
-by-length input true e = stops 2 0 (omega arith) (omega arith)
+by-length input true e = stops _ _ (omega arith) (omega arith)
 by-length input false e = by-query (queryOf input) (drop 16 input) (omega (arith, ltb-false 18448 (length input) e, length-drop 16 input))
 
 pub bounded : (input : List ℕ) → Bounded (outcome input)
