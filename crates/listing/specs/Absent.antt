@@ -5,14 +5,14 @@
 --     absent             such an account's core time is never
 --     past-names         so is every core time of a column, from one more than the greatest account on
 -- Assumes nothing.
-use Prim.Native.Nat.{ℕ, zero, suc, max, _-_, _≤_, _<_}
+use Prim.Native.Nat.{ℕ, zero, suc, _-_, _≤_, _<_}
 use mathlib.Core.Path.{_≡_, refl, ap, _∙_}
 use mathlib.Core.Bool.{Bool, true, false}
 use mathlib.Core.List.{List, [], _∷_}
 use native.Mathlib.Nat.{le-refl}
 use native.Mathlib.Omega.{arith}
 use lib.Dec.{eqb}
-use lib.ListN.{getD, replicate}
+use lib.ListN.{replicate}
 use borrow.Author.Tests.{ne-eqb}
 use Rattle.rings.specs.Words.{_and_, _or_, at, marked, some, run}
 use Rattle.rings.specs.Table.{Table, size, firstOf, secondOf}
