@@ -14,10 +14,10 @@ use lib.ListN.{length, getD, take, replicate}
 use lib.Seq.{length-take-le, take-all}
 use Rattle.text.specs.Print.{columnOf, printed, refusedLine}
 use Rattle.text.proofs.Tests.{lt-or-le}
-use Rattle.listing.specs.Program.{outcome}
+use Rattle.listing.specs.Program.{stopped, outcome}
 use Rattle.listing.specs.ProgramText.{outcomeText, programText}
 use Rattle.listing.specs.ProgramInput.{ByFirst, Brought}
-use Rattle.listing.specs.ProgramRows.{program-rows-hold}
+use Rattle.listing.specs.ProgramRows.{compute-program, program-rows-hold}
 use Rattle.listing.proofs.ReadingLaws.{too-long}
 
 seen-long : (input : List ℕ) (n : ℕ) → n < length input → 18449 ≤ n → outcome (take n input) ≡ outcome input
@@ -55,10 +55,14 @@ unfolding refusedLine printed columnOf
 eleven = refl
 
 -- 18,449 blanks are too many, and 18,448 are a query line that is too long
+blanks : outcome (replicate 18449 32) ≡ stopped 2 0
+unfolding compute-program
+blanks = refl
+
 pub not-fewer : ByFirst 18448 → ⊥
 unfolding programText outcomeText
 not-fewer h =
-    let long : outcomeText (outcome (replicate 18449 32)) ≡ refusedLine 2 0 = ap outcomeText (program-rows-hold .too-long) in
+    let long : outcomeText (outcome (replicate 18449 32)) ≡ refusedLine 2 0 = ap outcomeText blanks in
     let cut : outcomeText (outcome (take 18448 (replicate 18449 32))) ≡ refusedLine 11 1 = ap outcomeText (program-rows-hold .just-fits) in
     let same : refusedLine 2 0 ≡ refusedLine 11 1 = sym long ∙ h (replicate 18449 32) ∙ cut in
     omega (arith, two, eleven, ap (λ (l : List ℕ). getD l 11 0) same)

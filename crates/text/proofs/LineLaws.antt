@@ -10,6 +10,10 @@
 --   step-none step-first step-short step-whole step-judged   what the first line holds, by the code's cases
 --   step-past step-within     past the text there is no line; within it, the part that the code takes
 --   next-start lines-from step-from     where each line before line n is 18 bytes, the reader finds line n
+--   found-line                the same where line n is reached, past the last line too
+--   reached-first reached-next     line 0 is reached, and from a line that is reached a step goes to one that is
+--   passed-fits step-fits     a row is 18 bytes, so a step stays within the numbers
+--   step-is step-found step-line     a step by its two parts
 -- Assumes nothing.
 use Prim.Native.Nat.{ℕ, zero, suc, _+_, _-_, _*_, _/_, _≤_, _<_, suc-le-suc}
 use mathlib.Core.Path.{_≡_, refl, sym, ap, _∙_}
@@ -21,15 +25,16 @@ use native.Mathlib.Numerals.{add-one}
 use native.Mathlib.Omega.{arith}
 use lib.Dec.{eqb}
 use lib.ListN.{length, getD, take, drop, length-drop}
-use lib.Seq.{take-take, length-take-le, getD-take, drop-drop, drop-cons}
+use lib.Seq.{take-take, length-take-le, getD-take, drop-drop, drop-cons, drop-length}
 use borrow.Author.Tests.{eq-eqb, ne-eqb, eqb-true, eqb-false}
 use Rattle.text.specs.Decimal.{fieldOf}
-use Rattle.text.specs.Line.{prepend, linesOf, firstLine, isWhole, judged, lineAs, stepAs, stepAt}
+use Rattle.text.specs.Line.{prepend, linesOf, firstLine, isWhole, judged, lineAs, stepAs, stepAt, passed, stepFrom, lineAt, Reached}
 use Rattle.text.specs.declared.lines.Line.{Line}
-use Rattle.text.specs.declared.lines.Line.the-variants.{End, BadLength}
+use Rattle.text.specs.declared.lines.Line.the-variants.{Row, End, BadLength, BadField, LargeNumber}
+use Rattle.text.specs.declared.lines.Step.{Step}
 use Rattle.text.specs.declared.decimal.Field.{Field}
 use Rattle.text.proofs.FieldLaws.{tail, tail-is}
-use Rattle.text.proofs.Tests.{look, and-left, both-true, pick-true, pick-false}
+use Rattle.text.proofs.Tests.{look, lt-or-le, and-left, both-true, pick-true, pick-false}
 
 -- ---- the first line
 
@@ -234,3 +239,83 @@ lines-from text (suc n) h w = go (lines-from text n (omega arith) (λ i l. w i (
 pub step-from : (text : List ℕ) (n : ℕ) → n ≤ length (linesOf text) → ((i : ℕ) → i < n → isWhole 18 (getD (linesOf text) i []) ≡ true) → stepAt text n ≡ stepAs 5 6 6 (drop n (linesOf text))
 unfolding stepAt
 step-from text n h w = ap (stepAs 5 6 6) (lines-from text n h w)
+
+-- ---- a step of the line reader
+
+no-lines : (s : List ℕ) → linesOf s ≡ [] → length s ≡ 0
+no-lines [] e = refl
+no-lines (x ∷ xs) e = let z : ⊥ = omega (arith, ap length (sym (lines-first (x ∷ xs) (omega arith)) ∙ e)) in absurd z
+
+none-left : (ls : List (List ℕ)) → length ls ≡ 0 → stepAs 5 6 6 ls ≡ End
+unfolding stepAs
+none-left [] e = refl
+none-left (l ∷ ls) e = let z : ⊥ = omega arith in absurd z
+
+-- behind the last line the text is at its end too
+past-line : (text : List ℕ) (n : ℕ) → length (linesOf text) < n → Reached text n → stepAt text n ≡ lineAt text n
+unfolding stepAt lineAt
+past-line text n past h =
+    let m : ℕ = length (linesOf text) in
+    let rest : linesOf (drop (18 * m) text) ≡ [] = lines-from text m (le-refl m) (λ i l. h .each i (omega arith) l) ∙ drop-length (linesOf text) in
+    let size : length (drop (18 * m) text) ≡ 0 = no-lines (drop (18 * m) text) rest in
+    step-none 5 6 6 (drop (18 * n) text) (omega (arith, length-drop (18 * n) text, length-drop (18 * m) text))
+    ∙ sym (none-left (drop n (linesOf text)) (omega (arith, length-drop n (linesOf text))))
+
+pub found-line : (text : List ℕ) (n : ℕ) → Reached text n → stepAt text n ≡ lineAt text n
+unfolding lineAt
+found-line text n h =
+    ⊎-elim (λ past. past-line text n past h) (λ (l : n ≤ length (linesOf text)). step-from text n l (λ i k. h .each i k (omega arith)))
+    (lt-or-le (length (linesOf text)) n)
+
+passed-most : (l : Line) → passed l ≤ 1
+passed-most (Row d a b) = omega arith
+passed-most End = omega arith
+passed-most BadLength = omega arith
+passed-most BadField = omega arith
+passed-most LargeNumber = omega arith
+
+passed-whole : (l : List ℕ) → 0 < passed (lineAs 5 6 6 l) → isWhole 18 l ≡ true
+unfolding lineAs
+passed-whole l h =
+    ⊎-elim (λ t. t) (λ t. let e : lineAs 5 6 6 l ≡ BadLength = pick-false _ _ _ t in let z : ⊥ = omega (arith, ap passed e) in absurd z)
+    (look (isWhole 18 l))
+
+pub reached-first : (text : List ℕ) → Reached text 0
+reached-first text = record { each = λ i h. absurd (not-suc-le-zero h) }
+
+pub reached-next : (text : List ℕ) (n : ℕ) → Reached text n → Reached text (n + passed (stepAt text n))
+unfolding lineAt stepAs
+reached-next text n h = record {
+  each = λ i l k. ⊎-elim (λ before. h .each i before k) (λ (here : n ≤ i). at-line i here l k) (lt-or-le i n);
+}
+  where
+    at-line : (i : ℕ) → n ≤ i → i < n + passed (stepAt text n) → i < length (linesOf text) → isWhole 18 (getD (linesOf text) i []) ≡ true
+    at-line i here l k =
+        let same : n ≡ i = omega (arith, passed-most (stepAt text n)) in
+        let is : stepAt text n ≡ lineAs 5 6 6 (getD (linesOf text) n []) =
+        found-line text n h ∙ ap (stepAs 5 6 6) (drop-cons (linesOf text) n [] (omega arith)) in
+        ap (λ (j : ℕ). isWhole 18 (getD (linesOf text) j [])) (sym same) ∙ passed-whole (getD (linesOf text) n []) (omega (arith, ap passed is))
+
+pub passed-fits : (s : List ℕ) → 18 * passed (stepAs 5 6 6 (linesOf s)) ≤ length s
+passed-fits [] = omega (arith, ap passed (step-none 5 6 6 [] refl))
+passed-fits (x ∷ xs) =
+    ⊎-elim (λ t. omega (arith, whole-fits (x ∷ xs) 18 t, passed-most (stepAs 5 6 6 (linesOf (x ∷ xs)))))
+    (λ t. omega (arith, ap passed (step-short 5 6 6 (x ∷ xs) (omega arith) t))) (look (isWhole 18 (firstLine (x ∷ xs))))
+
+pub step-fits : (text : List ℕ) (n m : ℕ) → n < m → length text < m → n + passed (stepAt text n) < m
+unfolding stepAt
+step-fits text n m h l = omega (arith, passed-fits (drop (18 * n) text), length-drop (18 * n) text)
+
+pub step-is : (text : List ℕ) (n : ℕ) {l : Line} {m : ℕ} → l ≡ stepAt text n → m ≡ n + passed l
+    → _≡_ {A = Step} (record { found = l; line = m }) (stepFrom text n)
+unfolding stepFrom
+step-is text n e q = rw (q, e)
+
+module _ (text : List ℕ) (n : ℕ) {s : Step} (is : s ≡ stepFrom text n) where
+  pub step-found : s .found ≡ stepAt text n
+  unfolding stepFrom
+  step-found = ap (λ (x : Step). x .found) is
+
+  pub step-line : s .line ≡ n + passed (s .found)
+  unfolding stepFrom
+  step-line = ap (λ (x : Step). x .line) is ∙ ap (λ (l : Line). n + passed l) (sym step-found)

@@ -1,13 +1,13 @@
 -- A list written over another from a position on, element by element and piece by piece.
 --
---   Pasting pasting-none pasting-more pasting-all     through a loop that writes one element a turn
+--   Pasting pasting-none pasting-more pasting-on pasting-all     through a loop that writes one element a turn
 --   pasted-length     the buffer keeps its length
 --   pasted-start      written from the start
 --   pasted-pasted     two pieces, one behind the other, are their join
 --   Pieces piece-first piece-more     through calls that write one piece behind the other
 -- Assumes nothing.
 use Prim.Native.Nat.{ℕ, _+_, _≤_, _<_}
-use mathlib.Core.Path.{_≡_, refl, sym, ap, _∙_}
+use mathlib.Core.Path.{_≡_, refl, sym, ap, subst, _∙_}
 use mathlib.Core.List.{List, _++_, append-assoc}
 use native.Mathlib.Nat.{zero-add, add-assoc}
 use native.Mathlib.Numerals.{add-one}
@@ -39,6 +39,11 @@ pasting-more {s} {d} {now} {at} {c} {j} k x p h e q =
       long = length-set now k x ∙ p .long;
       is = rw (p .is, e, q, add-one) (paste-suc d at s j 0 (omega arith) (omega arith));
     }
+
+-- the same where the loop goes on at a number that is told to be the next
+pub pasting-on : {s d now : List ℕ} {at c j i : ℕ} (k x : ℕ) → i ≡ j + 1 → Pasting s d now at c j → j < c → k ≡ at + j → x ≡ getD s j 0
+    → Pasting s d (set now k x) at c i
+pasting-on {s} {d} {now} {at} {c} k x on p h e q = subst (Pasting s d (set now k x) at c) (sym on) (pasting-more k x p h e q)
 
 pub pasting-all : {s d now : List ℕ} {at c j : ℕ} → Pasting s d now at c j → c ≤ j → now ≡ pasted d at s
 unfolding pasted

@@ -1,9 +1,9 @@
 -- Laws of the table reader, over plain lists.
 --
 --   is-end never-end   no line of a text is its end
---   Step           a first line of 18 bytes, and the other lines behind it
---   at-end at-fault at-row    the lowest fault from line n on, by what the reader finds at line n
---   rows-count     a text of rows alone has as many lines as rows
+--   FirstWhole     a first line of 18 bytes, and the other lines behind it
+--   at-end at-fault row-line at-row    the lowest fault from line n on, by what the reader finds at line n
+--   rows-count line-on     a text of rows alone has as many lines as rows, and a step passes one line
 --   found-at       in a text of rows alone the reader finds each line in its place
 --   column-at column-length     a column's number at a row is that of the line found there; a column has as many as rows
 --   cell           the number that the loop writes
@@ -20,15 +20,16 @@ use lib.ListN.{length, getD, take, drop, length-drop, length-map, List·getD-map
 use borrow.Author.Tests.{lt-leb, le-leb}
 use lib.Seq.{drop-cons}
 use Rattle.text.specs.Decimal.{fieldOf, fieldValue}
-use Rattle.text.specs.Line.{linesOf, firstLine, isWhole, lineNumber, oneRefuses, judged, lineAs, stepAs, rowOf, stepAt}
+use Rattle.text.specs.Line.{linesOf, firstLine, isWhole, lineNumber, oneRefuses, judged, lineAs, stepAs, rowOf, stepAt, passed, stepFrom}
 use Rattle.text.specs.Table.{faultOr, judgedFrom, roomFor, tableReadOf}
 use Rattle.text.specs.declared.decimal.Field.{Field}
 use Rattle.text.specs.declared.lines.Line.{Line}
 use Rattle.text.specs.declared.lines.Line.the-variants as line
+use Rattle.text.specs.declared.lines.Step.{Step}
 use Rattle.text.specs.declared.table.TableRead.{TableRead}
 use Rattle.text.specs.declared.table.TableRead.the-variants.{Rows, LineLength, Room}
 use Rattle.text.proofs.Tests.{look, pick-true, pick-false, zero-one}
-use Rattle.text.proofs.LineLaws.{lines-first, next-start, step-none, step-short, step-from, whole-size, whole-fits}
+use Rattle.text.proofs.LineLaws.{lines-first, next-start, step-none, step-short, step-from, whole-size, whole-fits, step-found, step-line}
 
 -- ---- no line is the text's end
 
@@ -70,11 +71,11 @@ fault-none n [] e = refl
 fault-none n (l ∷ ls) e = zero-one (sym (never-end l) ∙ ap is-end e)
 
 -- the first line is 18 bytes, and the other lines start behind it
-pub record Step (s : List ℕ) : Type 0 where
+pub record FirstWhole (s : List ℕ) : Type 0 where
   pub fits : 18 ≤ length s
   pub split : linesOf s ≡ firstLine s ∷ linesOf (drop 18 s)
 
-whole-step : (s : List ℕ) → isWhole 18 (firstLine s) ≡ true → Step s
+whole-step : (s : List ℕ) → isWhole 18 (firstLine s) ≡ true → FirstWhole s
 whole-step s e =
     let f : 18 ≤ length s = whole-fits s 18 e in
     record {
@@ -88,29 +89,36 @@ no-row d a b e = zero-one (cc)
 no-end-row : {A : Type 0} (d a b : ℕ) → line.End ≡ line.Row d a b → A
 no-end-row d a b e = zero-one (cc)
 
-row-step : (s : List ℕ) (d a b : ℕ) → stepAs 5 6 6 (linesOf s) ≡ line.Row d a b → Step s
+row-step : (s : List ℕ) (d a b : ℕ) → stepAs 5 6 6 (linesOf s) ≡ line.Row d a b → FirstWhole s
 row-step [] d a b e = no-end-row d a b (sym (step-none 5 6 6 [] refl) ∙ e)
 row-step (x ∷ xs) d a b e =
     ⊎-elim (λ t. whole-step (x ∷ xs) t) (λ t. no-row d a b (sym (step-short 5 6 6 (x ∷ xs) (omega arith) t) ∙ e))
     (look (isWhole 18 (firstLine (x ∷ xs))))
 
-module _ (text : List ℕ) (n : ℕ) {r : Line} {found : TableRead} (so : judgedFrom n (linesOf (drop (18 * n) text)) ≡ found) (is : r ≡ stepAt text n) where
-  pub at-end : r ≡ line.End → Rows n ≡ found
+module _ (text : List ℕ) (n : ℕ) {s : Step} {found : TableRead} (so : judgedFrom n (linesOf (drop (18 * n) text)) ≡ found) (is : s ≡ stepFrom text n) where
+  pub at-end : s .found ≡ line.End → Rows n ≡ found
   unfolding stepAt
-  at-end e = sym (fault-none n _ (sym is ∙ e)) ∙ so
+  at-end e = sym (fault-none n _ (sym (step-found text n is) ∙ e)) ∙ so
 
-  pub at-fault : (f : Line) → r ≡ f → is-end f ≡ 0 → faultOr (n + 1) f (judgedFrom (n + 1) (drop 1 (linesOf (drop (18 * n) text)))) ≡ found
+  pub at-fault : (f : Line) → s .found ≡ f → is-end f ≡ 0 → faultOr (n + 1) f (judgedFrom (n + 1) (drop 1 (linesOf (drop (18 * n) text)))) ≡ found
   unfolding stepAt
-  at-fault f e z = sym (fault-at n _ f (sym is ∙ e) z) ∙ so
+  at-fault f e z = sym (fault-at n _ f (sym (step-found text n is) ∙ e) z) ∙ so
 
-  pub at-row : (d a b : ℕ) → r ≡ line.Row d a b → (18 * (n + 1) ≤ length text) × (judgedFrom (n + 1) (linesOf (drop (18 * (n + 1)) text)) ≡ found)
+  next-row : (d a b : ℕ) → s .found ≡ line.Row d a b → (18 * (n + 1) ≤ length text) × (judgedFrom (n + 1) (linesOf (drop (18 * (n + 1)) text)) ≡ found)
   unfolding stepAt
-  at-row d a b e =
-      let st : Step (drop (18 * n) text) = row-step (drop (18 * n) text) d a b (sym is ∙ e) in (
+  next-row d a b e =
+      let st : FirstWhole (drop (18 * n) text) = row-step (drop (18 * n) text) d a b (sym (step-found text n is) ∙ e) in (
         omega (arith, length-drop (18 * n) text),
         ap (λ (s : List ℕ). judgedFrom (n + 1) (linesOf s)) (sym (next-start text n))
             ∙ ap (λ (ls : List (List ℕ)). judgedFrom (n + 1) (drop 1 ls)) (sym (st .split)) ∙ at-fault (line.Row d a b) e refl,
       )
+
+  -- behind a row the line reached is the next one
+  pub row-line : (d a b : ℕ) → s .found ≡ line.Row d a b → s .line ≡ n + 1
+  row-line d a b e = step-line text n is ∙ ap (λ (l : Line). n + passed l) e
+
+  pub at-row : (d a b : ℕ) → s .found ≡ line.Row d a b → (18 * s .line ≤ length text) × (judgedFrom (s .line) (linesOf (drop (18 * s .line) text)) ≡ found)
+  at-row d a b e = rw (row-line d a b e) (next-row d a b e)
 
 -- ---- a text of rows alone
 
@@ -142,6 +150,20 @@ rows-whole n c (l ∷ ls) e zero h = row-whole (n + 1) c l (judgedFrom (n + 1) l
 rows-whole n c (l ∷ ls) e (suc i) h =
     rows-whole (n + 1) c ls (passes (n + 1) c (rowOf l) (judgedFrom (n + 1) ls) e) i (le-of-suc-le-suc h)
 
+row-passed : (n c : ℕ) (r : Line) (later : TableRead) → is-end r ≡ 0 → faultOr n r later ≡ Rows c → passed r ≡ 1
+row-passed n c (line.Row d a b) later z e = refl
+row-passed n c line.End later z e = sym z
+row-passed n c line.BadLength later z e = no-rows n c e
+row-passed n c line.BadField later z e = zero-one (cc)
+row-passed n c line.LargeNumber later z e = zero-one (cc)
+
+rows-passed : (n c : ℕ) (ls : List (List ℕ)) → judgedFrom n ls ≡ Rows c → (i : ℕ) → i < length ls → passed (rowOf (getD ls i [])) ≡ 1
+unfolding judgedFrom
+rows-passed n c [] e i h = absurd (not-suc-le-zero h)
+rows-passed n c (l ∷ ls) e zero h = row-passed (n + 1) c (rowOf l) (judgedFrom (n + 1) ls) (never-end l) e
+rows-passed n c (l ∷ ls) e (suc i) h =
+    rows-passed (n + 1) c ls (passes (n + 1) c (rowOf l) (judgedFrom (n + 1) ls) e) i (le-of-suc-le-suc h)
+
 no-bytes : rowOf [] ≡ line.BadLength
 unfolding rowOf lineAs isWhole
 no-bytes = refl
@@ -153,6 +175,12 @@ module _ (text : List ℕ) (c : ℕ) (so : judgedFrom 0 (linesOf text) ≡ Rows 
       let k : i < length (linesOf text) = omega (arith, rows-count 0 c (linesOf text) so) in
       step-from text i (omega arith) (λ j q. rows-whole 0 c (linesOf text) so j (omega arith))
       ∙ ap (stepAs 5 6 6) (drop-cons (linesOf text) i [] k)
+
+  -- the line reached behind row i is that of row i + 1
+  pub line-on : (i : ℕ) → i < c → {s : Step} → s ≡ stepFrom text i → s .line ≡ i + 1
+  line-on i h {s} is =
+      let one : passed (rowOf (getD (linesOf text) i [])) ≡ 1 = rows-passed 0 c (linesOf text) so i (omega (arith, rows-count 0 c (linesOf text) so)) in
+      step-line text i is ∙ ap (λ (k : ℕ). i + k) (ap passed (step-found text i is ∙ found-at i h) ∙ one)
 
   -- a column of the text's rows, as the lines found give it
   pub column-at : (f : Line → ℕ) → f line.BadLength ≡ 0 → (i : ℕ) → i < c → getD (map (λ (l : List ℕ). f (rowOf l)) (linesOf text)) i 0 ≡ f (stepAt text i)

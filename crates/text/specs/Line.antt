@@ -11,12 +11,17 @@
 --   stepAs       what the first of some lines holds, or that there is none
 --   rowOf        what a line of a table holds
 --   stepAt       what the line reader finds at a line
+--   passed       how many lines a step passes
+--   stepFrom     a step of the line reader: what it finds, and the line reached then
+--   lineAt       what line n of a text holds, or that there is none
+--   Reached      each line of a text before line n is 18 bytes
 --   queryFrom    the answer for a query line
 --   queryOf      what the query line of a text holds
 --   queryNumber queryPlace   01's refusal number and place of a query line
 -- Assumes nothing.
-use Prim.Native.Nat.{ℕ, _+_, _-_, _*_}
-use mathlib.Core.Bool.{Bool, cond, _&&_, _||_}
+use Prim.Native.Nat.{ℕ, _+_, _-_, _*_, _<_}
+use mathlib.Core.Path.{_≡_}
+use mathlib.Core.Bool.{Bool, true, cond, _&&_, _||_}
 use mathlib.Core.List.{List, [], _∷_}
 use lib.Dec.{eqb}
 use lib.ListN.{length, getD, take, drop}
@@ -25,6 +30,7 @@ use Rattle.text.specs.declared.decimal.Field.{Field}
 use Rattle.text.specs.declared.decimal.Field.the-variants.{Large, Broken}
 use Rattle.text.specs.declared.lines.Line.{Line}
 use Rattle.text.specs.declared.lines.Line.the-variants.{Row, End, BadLength, BadField, LargeNumber}
+use Rattle.text.specs.declared.lines.Step.{Step}
 use Rattle.text.specs.declared.lines.QueryRead.{QueryRead}
 use Rattle.text.specs.declared.lines.QueryRead.the-variants as query
 
@@ -81,9 +87,29 @@ stepAs a b c (l ∷ ls) = lineAs a b c l
 unfoldable pub rowOf : List ℕ → Line
 rowOf l = lineAs 5 6 6 l
 
--- "The line reader keeps the text and the line reached": where each line before line n, counted from 0, is 18 bytes, line n starts at byte 18 n
+-- "The line reader keeps the text and the line reached": where each line before line n, counted from 0, is 18 bytes, line n starts at byte 18 n.
+-- 01 leaves free what is found behind a line that is not: here it is what stands from byte 18 n on
 unfoldable pub stepAt : List ℕ → ℕ → Line
 stepAt text n = stepAs 5 6 6 (linesOf (drop (18 * n) text))
+
+-- "steps line by line": a row is passed; at the text's end and at a faulty line a reader stays
+abbrev pub passed : Line → ℕ
+passed (Row day first second) = 1
+passed End = 0
+passed BadLength = 0
+passed BadField = 0
+passed LargeNumber = 0
+
+unfoldable pub stepFrom : List ℕ → ℕ → Step
+stepFrom text n = record { found = stepAt text n; line = n + passed (stepAt text n) }
+
+-- a line of the text as it is split, counted from 0. Where line n is reached the line reader finds this (proofs/LineLaws.antt: found-line); line 0 is
+-- reached, and from a line that is reached a step goes to one that is (reached-first, reached-next): so a reader finds line after line
+unfoldable pub lineAt : List ℕ → ℕ → Line
+lineAt text n = stepAs 5 6 6 (drop n (linesOf text))
+
+pub record Reached (text : List ℕ) (n : ℕ) : Type 0 where
+  pub each : (i : ℕ) → i < n → i < length (linesOf text) → isWhole 18 (getD (linesOf text) i []) ≡ true
 
 -- a query line is judged as a line is; "11 when input is empty"
 abbrev pub queryFrom : Line → QueryRead

@@ -2,7 +2,7 @@
 ghost use mathlib.Core.Path.{_≡_};
 ghost use Prim.Native.Nat.{_+_, _<_, _^_};
 ghost use Rattle.text.specs.Decimal.{fieldNumber, refuses, fieldValue};
-ghost use Rattle.text.specs.Line.{linesOf, firstLine, isWhole, judged, stepAs, stepAt, queryOf};
+ghost use Rattle.text.specs.Line.{linesOf, firstLine, isWhole, judged, stepAs, stepAt, passed, stepFrom, queryOf};
 use crate::decimal::Field;
 use crate::decimal::read_field;
 
@@ -13,6 +13,12 @@ pub enum Line {
     BadLength,
     BadField,
     LargeNumber,
+}
+
+// What a step of the line reader finds at a line, and the line that is reached then.
+pub struct Step {
+    pub found: Line,
+    pub line: usize,
 }
 
 // What a query line holds.
@@ -117,6 +123,19 @@ fn first_as(s: &[u8], a: usize, b: usize, c: usize) -> Line
     )
 }
 
+// How many lines a step passes: a row is passed, and a reader stays at the text's end and at a faulty line.
+fn passed(l: Line) -> usize
+    ensures { λ r. ⌜ r ≡ passed l ⌝ }
+{
+    match l {
+        Line::Row(_, _, _) => 1,
+        Line::End => 0,
+        Line::BadLength => 0,
+        Line::BadField => 0,
+        Line::LargeNumber => 0,
+    }
+}
+
 // Line `line` of a table's text, counted from 0, where each line before it is 18 bytes.
 pub fn step_at(text: &[u8], line: usize) -> Line
     ensures { λ r. ⌜ r ≡ stepAt (now (text .entry)) line ⌝ }
@@ -126,6 +145,17 @@ pub fn step_at(text: &[u8], line: usize) -> Line
     }
     let at = 18 * line;
     first_as(&text[at..], 5, 6, 6)
+}
+
+// A step from a line of a table's text: what stands there, judged once, and the line reached then.
+pub fn step_from(text: &[u8], line: usize) -> Step
+    ensures { λ r. ⌜ r ≡ stepFrom (now (text .entry)) line ⌝ }
+{
+    let found = step_at(text, line);
+    Step {
+        found,
+        line: line + passed(found),
+    }
 }
 
 // The query line: the first line of the program's input.

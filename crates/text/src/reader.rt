@@ -1,39 +1,46 @@
-// The line reader: a thin struct that keeps the text and the line reached. The borrow checker covers no function over such a struct, so
-// these are proved by hand. They leave the work to `step_at`, and `line_at`, whose parameters are plain, serves every other caller.
+// The line reader: a thin struct that keeps the text and the line reached, and steps line by line. The borrow checker covers no function over such a
+// struct, so these are proved by hand. They leave the work to `step_from`, and `read_line`, whose parameters are plain, serves every loop.
 ghost use mathlib.Core.Path.{_≡_};
-ghost use Rattle.text.specs.Line.{stepAt};
+ghost use Prim.Native.Nat.{_+_};
+ghost use Rattle.text.specs.Line.{stepAt, passed, stepFrom};
 use crate::lines::Line;
-use crate::lines::step_at;
+use crate::lines::Step;
+use crate::lines::step_from;
 
 pub struct LineReader<'a> {
     pub text: &'a [u8],
     pub line: usize,
 }
 
-// A reader at the text's first line, line 0.
-pub fn new<'a>(text: &'a [u8]) -> LineReader<'a>
-    ensures { λ r. ⌜ (r .text ≡ text .entry) × (r .line ≡ 0) ⌝ }
+// A reader at a line of a text; the first is line 0.
+pub fn at<'a>(text: &'a [u8], line: usize) -> LineReader<'a>
+    ensures { λ r. ⌜ (r .text ≡ text .entry) × (r .line ≡ line) ⌝ }
 {
-    LineReader { text, line: 0 }
+    LineReader { text, line }
 }
 
-// What stands at the line reached.
-pub fn next<'a>(r: LineReader<'a>) -> Line
-    ensures { λ s. ⌜ s ≡ stepAt (now (r .entry .text)) (r .entry .line) ⌝ }
+// One step: it gives what stands at the line reached, and the reader goes on to the next one where that is a row. At the text's end and at a faulty
+// line it stays.
+pub fn step<'s, 'a>(r: &'s mut LineReader<'a>) -> Line
+    ensures { λ l. ⌜
+        (l ≡ stepAt (now (now (r .entry) .text)) (now (r .entry) .line))
+        × (now (r .exit) .text ≡ now (r .entry) .text)
+        × (now (r .exit) .line ≡ now (r .entry) .line + passed l) ⌝ }
 {
-    step_at(r.text, r.line)
+    let s = step_from(r.text, r.line);
+    r.line = s.line;
+    s.found
 }
 
-// The same text, at another line.
-pub fn moved<'a>(r: LineReader<'a>, line: usize) -> LineReader<'a>
-    ensures { λ q. ⌜ (q .text ≡ r .entry .text) × (q .line ≡ line) ⌝ }
+// A step from a line of a text, by a reader that is made here: what stands there, and the line reached then, from which the next step goes on. Its
+// parameters are plain, so its callers need no proof by hand.
+pub fn read_line(text: &[u8], line: usize) -> Step
+    ensures { λ r. ⌜ r ≡ stepFrom (now (text .entry)) line ⌝ }
 {
-    LineReader { text: r.text, line }
-}
-
-// Line `line` of a text, by a reader that is made here and stepped once. Its parameters are plain, so its callers need no proof by hand.
-pub fn line_at(text: &[u8], line: usize) -> Line
-    ensures { λ r. ⌜ r ≡ stepAt (now (text .entry)) line ⌝ }
-{
-    next(moved(new(text), line))
+    let mut r = at(text, line);
+    let found = step(&mut r);
+    Step {
+        found,
+        line: r.line,
+    }
 }

@@ -6,7 +6,7 @@ ghost use mathlib.Core.List.{_++_};
 ghost use Rattle.text.specs.Line.{linesOf};
 ghost use Rattle.text.specs.Table.{dayOf, firstOf, secondOf, daysOf, firstsOf, secondsOf, judgedFrom, tableReadOf, filled};
 use crate::lines::Line;
-use crate::reader::line_at;
+use crate::reader::read_line;
 
 // The rows read, or the refusal. A line is counted from 1.
 pub enum TableRead {
@@ -59,10 +59,11 @@ fn check_lines(text: &[u8]) -> TableRead
 {
     let mut n: usize = 0;
     loop {
-        let l = line_at(text, n);
+        let step = read_line(text, n);
+        let l = step.found;
         match l {
             Line::Row(_, _, _) => {
-                n += 1;
+                n = step.line;
             }
             Line::End => {
                 return TableRead::Rows(n);
@@ -90,11 +91,12 @@ fn write_rows(text: &[u8], days: &mut [u16], first: &mut [u16], second: &mut [u1
 {
     let mut i: usize = 0;
     while i < count {
-        let l = line_at(text, i);
+        let step = read_line(text, i);
+        let l = step.found;
         days[i] = day_of(l);
         first[i] = first_of(l);
         second[i] = second_of(l);
-        i += 1;
+        i = step.line;
     }
 }
 

@@ -4,8 +4,9 @@ use Prim.Native.Nat.{_-_}
 use mathlib.Core.Path.{refl, _∙_}
 use native.Mathlib.Omega.{arith}
 use Rattle.text.specs.Table.{dayOf, firstOf, secondOf, daysOf, firstsOf, secondsOf}
-use Rattle.text.proofs.PasteLaws.{Pasting, pasting-none, pasting-more, pasting-all, pasted-start}
-use Rattle.text.proofs.TableLaws.{cell, column-length}
+use Rattle.text.proofs.LineLaws.{step-found}
+use Rattle.text.proofs.PasteLaws.{Pasting, pasting-none, pasting-on, pasting-all, pasted-start}
+use Rattle.text.proofs.TableLaws.{cell, column-length, line-on}
 use Rattle.text.proofs.table.write_rows.Statement.{statement}
 use Rattle.text.proofs.table.write_rows.Tie as tie
 
@@ -26,8 +27,8 @@ loop-holds c =
       pasting-none _ _ _ _ (column-length (a .text .now) (a .count) (pre .0) secondOf) (omega arith),
     )
 
-line-at-requires : tie.Need-line-at-requires Inv-loop μ-loop
-line-at-requires c κs = tt
+read-line-requires : tie.Need-read-line-requires Inv-loop μ-loop
+read-line-requires c κs = tt
 
 day-of-requires : tie.Need-day-of-requires Inv-loop μ-loop
 day-of-requires c κs = tt
@@ -56,11 +57,14 @@ mul-second c = omega arith
 slice-write-second : tie.Need-slice-write-second Inv-loop μ-loop
 slice-write-second c = omega arith
 
-add-i : tie.Need-add-i Inv-loop μ-loop
-add-i c = omega arith
-
 loop-less : tie.Need-loop-less Inv-loop μ-loop
-loop-less c = omega arith
+loop-less c =
+    let a = c .before .before .before .before .before .before .before .before .before .before .args in
+    let pre = c .before .before .before .before .before .before .before .before .before .before .pre in
+    let l = c .before .before .before .before .before .loop in
+    let test = c .before .before .before .before .loop-test in
+    let step = c .before .before .before .read-line in
+    omega (arith, line-on (a .text .now) (a .count) (pre .0) (l .i) (test .taken) (step .ensures))
 
 loop-again : tie.Need-loop-again Inv-loop μ-loop
 unfolding daysOf firstsOf secondsOf
@@ -69,11 +73,16 @@ loop-again c =
     let pre = c .before .before .before .before .before .before .before .before .before .before .pre in
     let l = c .before .before .before .before .before .loop in
     let test = c .before .before .before .before .loop-test in
-    let line-at = c .before .before .before .line-at in
-    let day-of = c .before .before .day-of in (
-      pasting-more _ _ (l .inv .0) (test .taken) (omega arith) (cell (a .text .now) (a .count) (pre .0) dayOf refl (l .i) (test .taken) (line-at .ensures) (day-of .ensures)),
-      pasting-more _ _ (l .inv .1) (test .taken) (omega arith) (cell (a .text .now) (a .count) (pre .0) firstOf refl (l .i) (test .taken) (line-at .ensures) (c .before .first-of .ensures)),
-      pasting-more _ _ (l .inv .2) (test .taken) (omega arith) (cell (a .text .now) (a .count) (pre .0) secondOf refl (l .i) (test .taken) (line-at .ensures) (c .second-of .ensures)),
+    let step = c .before .before .before .read-line in
+    let day-of = c .before .before .day-of in
+    let is = step-found (a .text .now) (l .i) (step .ensures) in
+    let on = line-on (a .text .now) (a .count) (pre .0) (l .i) (test .taken) (step .ensures) in (
+      pasting-on _ _ on (l .inv .0) (test .taken) (omega arith)
+          (cell (a .text .now) (a .count) (pre .0) dayOf refl (l .i) (test .taken) is (day-of .ensures)),
+      pasting-on _ _ on (l .inv .1) (test .taken) (omega arith)
+          (cell (a .text .now) (a .count) (pre .0) firstOf refl (l .i) (test .taken) is (c .before .first-of .ensures)),
+      pasting-on _ _ on (l .inv .2) (test .taken) (omega arith)
+          (cell (a .text .now) (a .count) (pre .0) secondOf refl (l .i) (test .taken) is (c .second-of .ensures)),
     )
 
 same-length : tie.Need-same-length Inv-loop μ-loop
@@ -103,7 +112,7 @@ write-rows-spec =
     Inv-loop
     μ-loop
     loop-holds
-    line-at-requires
+    read-line-requires
     day-of-requires
     mul-days
     slice-write-days
@@ -113,7 +122,6 @@ write-rows-spec =
     second-of-requires
     mul-second
     slice-write-second
-    add-i
     loop-less
     loop-again
     same-length
