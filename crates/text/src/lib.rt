@@ -11,7 +11,6 @@ pub use lines::Line;
 pub use lines::QueryRead;
 pub use lines::Step;
 pub use lines::read_query;
-pub use lines::step_at;
 pub use print::Put;
 pub use print::put_field;
 pub use print::put_header;

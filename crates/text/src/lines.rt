@@ -137,7 +137,7 @@ fn passed(l: Line) -> usize
 }
 
 // Line `line` of a table's text, counted from 0, where each line before it is 18 bytes.
-pub fn step_at(text: &[u8], line: usize) -> Line
+fn step_at(text: &[u8], line: usize) -> Line
     ensures { λ r. ⌜ r ≡ stepAt (now (text .entry)) line ⌝ }
 {
     if text.len() / 18 < line {
@@ -148,7 +148,7 @@ pub fn step_at(text: &[u8], line: usize) -> Line
 }
 
 // A step from a line of a table's text: what stands there, judged once, and the line reached then.
-pub fn step_from(text: &[u8], line: usize) -> Step
+pub(crate) fn step_from(text: &[u8], line: usize) -> Step
     ensures { λ r. ⌜ r ≡ stepFrom (now (text .entry)) line ⌝ }
 {
     let found = step_at(text, line);
