@@ -1,16 +1,10 @@
 -- The words of the exports' contracts. What the numbers are for each answer is defined with the answers, in text, rings and listing.
---     asked k            the query that a host's number k makes
 --     readReport a       the report of the table reader
 --     numbers a          the report a as the engine's own struct
-use Prim.Native.Nat.{ℕ}
 use Rattle.rings.specs.Refusals.{Report}
-use Rattle.rings.specs.declared.Query.{Query}
 use Rattle.text.specs.Table.{number, place, count}
 use Rattle.text.specs.declared.table.TableRead.{TableRead}
 use Rattle.engine.specs.declared.numbers.Numbers.{Numbers}
-
-abbrev pub asked : ℕ → Query
-asked k = record { k = k }
 
 abbrev pub readReport : TableRead → Report
 readReport a = record { number = number a; place = place a; count = count a }

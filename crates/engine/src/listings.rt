@@ -3,7 +3,8 @@ ghost use mathlib.Core.Path.{_≡_};
 ghost use lib.ListN.{length};
 ghost use Rattle.rings.specs.Table.{tableOf};
 ghost use Rattle.listing.specs.ListingCall.{listingAnswer, listingStarts, listingEnds, listingRows, listingScratch, listingReport, listingSum};
-ghost use Rattle.engine.specs.Numbers.{asked, numbers};
+ghost use Rattle.rings.specs.Ring.{query};
+ghost use Rattle.engine.specs.Numbers.{numbers};
 use crate::numbers::Numbers;
 use crate::numbers::of_refusal;
 use listing::Listed;
@@ -50,14 +51,14 @@ pub extern "C" fn rumbleog_listing(
 ) -> u32
     ensures { λ r. ⌜ (
         let t = tableOf (now (days .entry)) (now (first .entry)) (now (second .entry)) in
-        let a = listingAnswer t (asked k) ts te (length (now (start .entry))) (length (now (end .entry))) (length (now (rows .entry))) (length (now (scratch .entry))) in
+        let a = listingAnswer t (query k) ts te (length (now (start .entry))) (length (now (end .entry))) (length (now (rows .entry))) (length (now (scratch .entry))) in
         (r ≡ listingReport a .number)
         × (now (place .exit) ≡ listingReport a .place)
         × (now (count .exit) ≡ listingReport a .count)
         × (now (sum .exit) ≡ listingSum a)
-        × (now (start .exit) ≡ listingStarts a t (asked k) ts te (now (start .entry)))
-        × (now (end .exit) ≡ listingEnds a t (asked k) ts te (now (end .entry)))
-        × (now (rows .exit) ≡ listingRows a t (asked k) ts te (now (rows .entry)))
+        × (now (start .exit) ≡ listingStarts a t (query k) ts te (now (start .entry)))
+        × (now (end .exit) ≡ listingEnds a t (query k) ts te (now (end .entry)))
+        × (now (rows .exit) ≡ listingRows a t (query k) ts te (now (rows .entry)))
         × (now (scratch .exit) ≡ listingScratch a (now (scratch .entry)))) ⌝ }
 {
     let answer = list_rings(

@@ -5,7 +5,7 @@ ghost use Rattle.rings.specs.Table.{tableOf};
 ghost use Rattle.rings.specs.Refusals.{countedReport};
 ghost use Rattle.rings.specs.Buffers.{countedScratch};
 ghost use Rattle.rings.specs.WindowRingCall.{ringAnswer, ringMarks};
-ghost use Rattle.engine.specs.Numbers.{asked};
+ghost use Rattle.rings.specs.Ring.{query};
 use crate::numbers::of_counted;
 use rings::Query;
 use rings::window_ring;
@@ -25,11 +25,11 @@ pub extern "C" fn rumbleog_window_ring(
 ) -> u32
     ensures { λ r. ⌜ (
         let t = tableOf (now (days .entry)) (now (first .entry)) (now (second .entry)) in
-        let a = ringAnswer t (asked k) s e (length (now (marks .entry))) (length (now (scratch .entry))) in
+        let a = ringAnswer t (query k) s e (length (now (marks .entry))) (length (now (scratch .entry))) in
         (r ≡ countedReport a .number)
         × (now (place .exit) ≡ countedReport a .place)
         × (now (count .exit) ≡ countedReport a .count)
-        × (now (marks .exit) ≡ ringMarks a t (asked k) s e (now (marks .entry)))
+        × (now (marks .exit) ≡ ringMarks a t (query k) s e (now (marks .entry)))
         × (now (scratch .exit) ≡ countedScratch a (now (scratch .entry)))) ⌝ }
 {
     let answer = window_ring(days, first, second, Query { k: k }, s, e, marks, scratch);

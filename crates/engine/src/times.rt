@@ -5,7 +5,7 @@ ghost use Rattle.rings.specs.Table.{tableOf};
 ghost use Rattle.rings.specs.Refusals.{verdictReport};
 ghost use Rattle.rings.specs.Buffers.{verdictScratch};
 ghost use Rattle.rings.specs.CoreTimesCall.{timesAnswer, accountColumn, rowColumn};
-ghost use Rattle.engine.specs.Numbers.{asked};
+ghost use Rattle.rings.specs.Ring.{query};
 use crate::numbers::of_verdict;
 use rings::Query;
 use rings::core_times;
@@ -26,11 +26,11 @@ pub extern "C" fn rumbleog_core_times(
 ) -> u32
     ensures { λ r. ⌜ (
         let t = tableOf (now (days .entry)) (now (first .entry)) (now (second .entry)) in
-        let a = timesAnswer t (asked k) ts te s (length (now (accounts .entry))) (length (now (rows .entry))) (length (now (scratch .entry))) in
+        let a = timesAnswer t (query k) ts te s (length (now (accounts .entry))) (length (now (rows .entry))) (length (now (scratch .entry))) in
         (r ≡ verdictReport a .number)
         × (now (place .exit) ≡ verdictReport a .place)
-        × (now (accounts .exit) ≡ accountColumn a t (asked k) te s (now (accounts .entry)))
-        × (now (rows .exit) ≡ rowColumn a t (asked k) te s (now (rows .entry)))
+        × (now (accounts .exit) ≡ accountColumn a t (query k) te s (now (accounts .entry)))
+        × (now (rows .exit) ≡ rowColumn a t (query k) te s (now (rows .entry)))
         × (now (scratch .exit) ≡ verdictScratch a (now (scratch .entry)))) ⌝ }
 {
     let answer = core_times(

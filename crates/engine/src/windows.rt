@@ -5,7 +5,7 @@ ghost use Rattle.rings.specs.Table.{tableOf};
 ghost use Rattle.rings.specs.Refusals.{countedReport};
 ghost use Rattle.rings.specs.Buffers.{countedScratch};
 ghost use Rattle.rings.specs.MinimalWindowsCall.{minimalAnswer, minimalRows, minimalStarts, minimalEnds};
-ghost use Rattle.engine.specs.Numbers.{asked};
+ghost use Rattle.rings.specs.Ring.{query};
 use crate::numbers::of_counted;
 use rings::Query;
 use rings::minimal_windows;
@@ -27,13 +27,13 @@ pub extern "C" fn rumbleog_minimal_windows(
 ) -> u32
     ensures { λ r. ⌜ (
         let t = tableOf (now (days .entry)) (now (first .entry)) (now (second .entry)) in
-        let a = minimalAnswer t (asked k) ts te (length (now (row .entry))) (length (now (start .entry))) (length (now (end .entry))) (length (now (scratch .entry))) in
+        let a = minimalAnswer t (query k) ts te (length (now (row .entry))) (length (now (start .entry))) (length (now (end .entry))) (length (now (scratch .entry))) in
         (r ≡ countedReport a .number)
         × (now (place .exit) ≡ countedReport a .place)
         × (now (count .exit) ≡ countedReport a .count)
-        × (now (row .exit) ≡ minimalRows a t (asked k) ts te (now (row .entry)))
-        × (now (start .exit) ≡ minimalStarts a t (asked k) ts te (now (start .entry)))
-        × (now (end .exit) ≡ minimalEnds a t (asked k) ts te (now (end .entry)))
+        × (now (row .exit) ≡ minimalRows a t (query k) ts te (now (row .entry)))
+        × (now (start .exit) ≡ minimalStarts a t (query k) ts te (now (start .entry)))
+        × (now (end .exit) ≡ minimalEnds a t (query k) ts te (now (end .entry)))
         × (now (scratch .exit) ≡ countedScratch a (now (scratch .entry)))) ⌝ }
 {
     let answer = minimal_windows(

@@ -29,7 +29,8 @@ use Rattle.text.proofs.TableLaws.{column-length}
 use Rattle.rings.specs.Table.{tableOf as columns}
 use Rattle.rings.specs.Refusals.{numberOf}
 use Rattle.listing.specs.Program.{Outcome, stopped, readerLine, inputLine, stoppedBy, unlessRefused, tableOf, listed, fromRows, fromQuery, unlessLong, outcome}
-use Rattle.listing.specs.ProgramSteps.{query, askedBy, rowsOf, asked, Asks}
+use Rattle.rings.specs.Ring.{query}
+use Rattle.listing.specs.ProgramSteps.{askedBy, rowsOf, asked, Asks}
 use Rattle.listing.specs.declared.program.Asked.{Asked}
 
 absurd-eq {ℓ} : {A : Type ℓ} → _≡_ {A = ℕ} 0 1 → A

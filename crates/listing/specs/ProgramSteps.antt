@@ -1,5 +1,4 @@
 -- The listing program step by step: what its functions hand to each other.
---     query k            the query of a k
 --     askedBy t k lo hi  what an input asks for, by what the reader says of its rows
 --     rowsOf a           how many rows an input has
 --     asked a d f s      the outcome of what is asked, the rows standing in front of the columns d, f, s
@@ -16,14 +15,11 @@ use Rattle.text.specs.Table.{number, place, count}
 use Rattle.text.specs.declared.table.TableRead.{TableRead}
 use Rattle.rings.specs.Words.{run}
 use Rattle.rings.specs.Table.{tableOf}
-use Rattle.rings.specs.declared.Query.{Query}
+use Rattle.rings.specs.Ring.{query}
 use Rattle.listing.specs.Listing.{ListedRing}
 use Rattle.listing.specs.Program.{Outcome, stopped, readerLine, unlessRefused, listed}
 use Rattle.listing.specs.ProgramText.{lineOf}
 use Rattle.listing.specs.declared.program.Asked.{Asked}
-
-abbrev pub query : ℕ → Query
-query k = record { k = k }
 
 unfoldable pub askedBy : TableRead → ℕ → ℕ → ℕ → Asked
 askedBy a k lo hi = unlessRefused Asked.Refused (number a) (readerLine (place a)) (Asked.Rows k lo hi (count a))

@@ -6,7 +6,7 @@ use lib.ListN.{replicate}
 use borrow.Author.Needs.{needs}
 use Rattle.rings.specs.Table.{tableOf}
 use Rattle.listing.specs.Program.{listed}
-use Rattle.listing.specs.ProgramSteps.{query}
+use Rattle.rings.specs.Ring.{query}
 use Rattle.listing.specs.Program.{found}
 use Rattle.listing.proofs.AnswerLaws.{refused-place, listed-rings, listed-none, rings-are, rings-rise, answer-refused, answer-as}
 use Rattle.listing.proofs.program.print_rings.Statement.{statement}
