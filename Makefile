@@ -2,7 +2,7 @@
 # make list IN=FILE     the same for another file
 # make test             everything: the kit, the layout, every proof and must-fail edit, the hosts
 # make bench            the benchmark; writes docs/BENCHMARK.md
-# make refusals         the must-fail edits that rt ci leaves to a quicker check
+# make refusals         every must-fail edit: the fact that the prover finds to fail
 # make mutants          faults planted in the C engine of host/peer, each found by the tests of host/
 # make mutants-rattle   the same in the Rattle sources, built without proofs
 # make clean            remove what was built
@@ -59,9 +59,9 @@ proofs:
 	@$(RT) ci 2>&1 | tee $(LOG)
 	@tail -n 1 $(LOG) | grep -qE '^[0-9]+ passed, 0 failed$$' || { echo "proofs: rt ci did not end with its verdict"; exit 1; }
 
-# Needs what rt ci proved.
+# Starts from what rt ci proved.
 refusals:
-	@echo "refusals: the edits of crates/*/must-fail/quick (minutes)"
+	@echo "refusals: every must-fail edit, and the fact that fails (minutes)"
 	@python3 tools/refusals.py
 
 engine:

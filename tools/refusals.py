@@ -16,12 +16,13 @@ What does not count:
 An edit that the front end rejects does not reach the prover, and fails too.
 
 How it is quick. `rt dev` checks again only what changed, and starts here from the modules that `rt ci` checked (they lie in
-target/rlib). An edit of a function's body leaves its contract, and so touches no other function's proof: edits of different
-functions are tried together, each judged by the proofs of its own functions. The other functions' proofs are blanked, so that
-no caller is checked again. An edit of anything else is tried alone: first with the proofs of all other functions blanked, and
-then, where nothing that counts is found, with all of them, as is every edit that found nothing in company.
+target/rlib). An edit of a function's body leaves its contract, and so touches no other function's proof; one of a contract
+touches those of the callers. So edits of different functions are tried together, each judged by the proofs of its own functions.
+The other functions' proofs are blanked, so that no caller is checked again. An edit of anything else is tried alone. Where
+nothing that counts is found, the edit is tried alone, and then with no proof blanked.
 RT_JOBS checks (2) run side by side, in copies under target/refusals/. It proves nothing. It ends with 1 where an edit fails.
 """
+import collections
 import os
 import re
 import shutil
@@ -35,8 +36,9 @@ WORK = os.path.join(ROOT, "target", "refusals")
 TOGETHER = 32  # edits in one check: enough to share its cost, few enough to keep all processors busy to the end
 BLANK = "-- not looked at in this check\n"
 FACTS = re.compile(
-    r"the two (types|sides) |^expected type `|` does not hold \(|does not follow from what it read|`search`: no proof of"
-    r"|give a proof of that as the last argument|`simp`: no equation of the list has an instance in the goal"
+    r"(as printed|computed as far as they go), the two (types|sides) |expected type `|`.*`\n  ≟ `(.|\n)*`\n  does not hold "
+    r"|`omega`: .*does not follow from what it read|`search`: no proof of `|give a proof of that as the last argument"
+    r"|`simp`: no equation of the list has an instance in the goal"
 )
 
 
@@ -58,27 +60,34 @@ def crates():
 
 
 class Edit:
-    def __init__(self, crate, path):
-        self.crate, self.label, self.path = crate, os.path.basename(path)[:-5], path
-        self.name = "%s/%s" % (crate, self.label)
-        self.functions, self.alone, self.bad = set(), False, None
-        self.pairs = replacements(path)
-        if not self.pairs:
-            self.bad = "it has no 'old:' and 'new:' pair"
-        for file, old, _ in self.pairs:
-            self.place(file, old)
+    """functions: those that it changes, by whose proofs it is judged. touches: those whose proofs may fail by it, beside them the
+    callers of a function whose contract it changes; None where that cannot be told, as of a definition."""
 
-    def place(self, file, old):
-        """Finds the functions that a replacement changes. Outside of a body it may change other functions' proofs: alone."""
-        path = os.path.join(ROOT, "crates", self.crate, file)
-        text = read(path) if os.path.isfile(path) else ""
-        if not old or text.count(old) != 1:
-            self.bad = "'old:' stands %d times in %s" % (text.count(old) if old else 0, file)
-            return
-        touched, in_body = touched_at(text, text.index(old)) if file.startswith("src/") else ([], False)
-        module = file[len("src/") : -len(".rt")]
-        self.functions |= {f if module in ("lib", "main") else "%s/%s" % (module, f) for f in touched}
-        self.alone = self.alone or not in_body
+    def __init__(self, crate, path):
+        self.crate, self.name, self.pairs = crate, "%s/%s" % (crate, os.path.basename(path)[:-5]), replacements(path)
+        self.functions, self.touches, texts = set(), set(), {}
+        self.bad = None if self.pairs else "it has no 'old:' and 'new:' pair"
+        for file, old, new in self.pairs:
+            path = os.path.join(ROOT, "crates", crate, file)
+            text = texts.get(file) or (read(path) if os.path.isfile(path) else "")
+            if not old or text.count(old) != 1:
+                self.bad = "'old:' stands %d times in %s" % (text.count(old) if old else 0, file)
+                return
+            self.place(file, text, old)
+            texts[file] = text.replace(old, new)
+
+    def place(self, file, text, old):
+        changed, part = changed_at(file, text, text.index(old)) if file.startswith("src/") else ([], None)
+        self.functions |= {f.name for f in changed}
+        if part is None or self.touches is None:
+            self.touches = None
+        else:
+            self.touches |= self.functions | (callers(self.crate, changed) if part == "contract" else set())
+
+    def clashes(self, other):
+        """Whether the two would be judged by the same proof, or one would be looked for in what the other puts in."""
+        texts = any(a[1] in b[2] or b[1] in a[2] for a in self.pairs for b in other.pairs)
+        return texts or self.touches & other.functions or other.touches & self.functions
 
 
 def replacements(path):
@@ -94,27 +103,45 @@ def replacements(path):
     return found
 
 
-def touched_at(text, place):
-    """The functions that a change at this place of a source file changes, and whether it changes bodies alone. A constant
-    changes the functions of its file that name it."""
-    functions = functions_of(text)
-    for name, start, body, end in functions:
-        if start <= place < end:
-            return [name], place > body
-    for found in re.finditer(r"^const (\w+)(?:.|\n)*?;$", text, re.M):
-        if found.start() <= place < found.end():
-            used = [m.start() for m in re.finditer(r"\b%s\b" % found.group(1), text) if m.start() > found.end()]
-            users = {at: name for at in used for name, _, body, end in functions if body < at < end}
-            return sorted(set(users.values())), len(users) == len(used)
-    return [], False
+Function = collections.namedtuple("Function", "name short start body end text")
 
 
-def functions_of(text):
-    """Name, start, start of the body and end of each function. rt fmt has the layout: a function begins and ends in the first
-    column, and so does the line that opens its body."""
-    found = re.finditer(r'^(?:pub(?:\([a-z]+\))? )?(?:extern "C" )?fn (\w+)(?:.|\n)*?\n}$', text, re.M)
+def functions_of(file, text):
+    """rt fmt has the layout: a function begins and ends in the first column, and so does the line that opens its body. The name
+    is that of the folder of its proof."""
+    found, module = [], file[len("src/") : -len(".rt")]
     opens = re.compile(r"^(?:\S.*)?\{$", re.M)
-    return [(f.group(1), f.start(), opens.search(text, f.start()).start(), f.end()) for f in found]
+    for f in re.finditer(r'^(?:pub(?:\([a-z]+\))? )?(?:extern "C" )?fn (\w+)(?:.|\n)*?\n}$', text, re.M):
+        name = f.group(1) if module in ("lib", "main") else "%s/%s" % (module, f.group(1))
+        found.append(Function(name, f.group(1), f.start(), opens.search(text, f.start()).start(), f.end(), f.group()))
+    return found
+
+
+def changed_at(file, text, place):
+    """The functions that a change at this place changes, and in which part: body or contract. A constant changes the bodies
+    that name it."""
+    functions = functions_of(file, text)
+    for f in functions:
+        if f.start <= place < f.end:
+            return [f], "body" if place > f.body else "contract"
+    for constant in re.finditer(r"^const (\w+)(?:.|\n)*?;$", text, re.M):
+        if constant.start() <= place < constant.end():
+            uses = [m.start() for m in re.finditer(r"\b%s\b" % constant.group(1), text) if m.start() > constant.end()]
+            users = [f for at in uses for f in functions if f.body < at < f.end]
+            return users, "body" if len(users) == len(uses) else None
+    return [], None
+
+
+def callers(crate, called):
+    """The functions of the crate that name one of these in a call. One of another module with the same name counts too."""
+    found, source = set(), os.path.join(ROOT, "crates", crate, "src")
+    for at, _, names in os.walk(source):
+        for name in names:
+            path = os.path.join(at, name)
+            for f in functions_of(os.path.relpath(path, os.path.dirname(source)), read(path)):
+                if any(re.search(r"\b%s\(" % g.short, f.text[f.body - f.start :]) for g in called):
+                    found.add(f.name)
+    return found
 
 
 def edits(crate):
@@ -128,13 +155,13 @@ def edits(crate):
 
 
 def batches(found):
-    """Edits that can be tried in one check: no two of one function, and those that stand alone by themselves."""
+    """Edits that can be tried in one check, and each whose touch cannot be told by itself."""
     together, alone = [], []
     for edit in found:
-        if edit.alone:
+        if edit.touches is None:
             alone.append([edit])
             continue
-        fits = [b for b in together if len(b) < TOGETHER and not any(edit.functions & other.functions for other in b)]
+        fits = [b for b in together if len(b) < TOGETHER and not any(edit.clashes(other) for other in b)]
         if fits:
             fits[0].append(edit)
         else:
@@ -145,43 +172,42 @@ def batches(found):
 # ---- what the prover said
 
 
+Error = collections.namedtuple("Error", "file place name message")
+
+
 class Said:
-    """What `rt dev` printed: of each file the errors that count (facts) and those that show a misfit, as (line, name)."""
+    """What `rt dev` printed: the errors that count (facts), and those that do not and follow from none (misfits)."""
 
     def __init__(self, text, status, base):
+        self.text, self.proved = text, status == 0
         self.reached = status == 1 and re.search(r"^logic=not-proved", text, re.M)
-        self.proved, self.text = status == 0, text
         self.facts, self.misfits = [], []
         for block in re.split(r"\n(?=\S)", text):
-            error = re.match(r"(\S+?):(\d+):\d+: error: `([^`]*)`: ((?:.|\n)*)", block)
-            if error and "was not admitted (" not in error.group(4).split("\n")[0]:
-                file, line, name, message = os.path.relpath(error.group(1), base), error.group(2), error.group(3), error.group(4)
-                counts = FACTS.search(message) and not is_spec(file, name)
-                (self.facts if counts else self.misfits).append((file, "%s:%s" % (file, line), name, message))
+            found = re.match(r"(\S+?):(\d+):\d+: error: `([^`]*)`: ((?:.|\n)*)", block)
+            if found and "was not admitted (" not in found.group(4).split("\n")[0]:
+                file = os.path.relpath(found.group(1), base)
+                error = Error(file, "%s:%s" % (file, found.group(2)), found.group(3), found.group(4))
+                hands_over = file.endswith("/Proof.antt") and error.name.endswith("-spec")
+                (self.facts if FACTS.match(error.message) and not hands_over else self.misfits).append(error)
         for function, needs in re.findall(r"^fn \w+::(\S+): no proof: .*`search` does not close ((?:`[^`]*`(?:, )?)+)", text, re.M):
-            file = proof_of(function.replace("::", "/"))
             for need in re.findall(r"`([^`]*)`", needs):
-                self.facts.append((file, "%s, which has no proof file" % function, need, ""))
+                self.facts.append(Error(proof_of(function.replace("::", "/")), function + " (no proof file)", need, ""))
 
 
 def proof_of(function):
     return "proofs/%s/Proof.antt" % function
 
 
-def is_spec(file, name):
-    return file == proof_of(os.path.dirname(file)[len("proofs/") :]) and name == os.path.basename(os.path.dirname(file)).replace("_", "-") + "-spec"
-
-
 def judge(edit, said, company):
     """True and the facts that fail; False and what is wrong; None where another check is needed to tell."""
     own = {proof_of(f) for f in edit.functions}
-    mine = (lambda found: [e for e in found if e[0] in own]) if company else (lambda found: found)
-    facts, misfits = mine(said.facts), [e for e in said.misfits if e[0] in own]
+    facts = [e for e in said.facts if e.file in own or not company]
+    misfits = [e for e in said.misfits if e.file in own]
     if said.reached and misfits:
-        return False, "MISFIT: %s %s: %s" % (misfits[0][1], misfits[0][2], misfits[0][3].split("\n")[0][:200])
+        return False, "MISFIT, %s %s: %s" % (misfits[0].place, misfits[0].name, misfits[0].message.split("\n")[0][:200])
     if said.reached and facts:
-        others = sorted({e[2] for e in facts} - {facts[0][2]})
-        return True, "%s %s%s" % (facts[0][1], facts[0][2], " (and %s)" % ", ".join(others[:4]) if others else "")
+        others = sorted({e.name for e in facts} - {facts[0].name})
+        return True, "%s %s%s" % (facts[0].place, facts[0].name, " (and %s)" % ", ".join(others[:4]) if others else "")
     return None, None
 
 
@@ -196,26 +222,25 @@ def rt_dev(folder, crate):
 def warm(crate):
     """Checks the crate as it is. What `rt ci` checked of it is taken over first, so that this takes seconds."""
     modules, rlib = os.path.join(ROOT, "target", "inc", crate), os.path.join(ROOT, "target", "rlib", crate + ".rlib")
-    if not os.path.isdir(modules) and os.path.isdir(rlib):
+    checked = os.path.join(rlib, "toolchain", "checked")
+    if not os.path.isdir(modules) and os.path.isdir(checked):
         build = re.search(r"^rattle-build (\S+)$", read(os.path.join(rlib, "format")), re.M)
-        shutil.copytree(os.path.join(rlib, "toolchain", "checked"), os.path.join(modules, build.group(1).replace("/", "_")))
-    said, status = rt_dev(ROOT, crate)
-    return status == 0
+        shutil.copytree(checked, os.path.join(modules, build.group(1).replace("/", "_")))
+    return rt_dev(ROOT, crate)[1] == 0
 
 
 def put_back(folder, kept):
-    """Makes the folder what the kept one is: what has another size or time is copied, what is new goes."""
+    """Makes the folder what the kept one is: what is new goes, and what has another size or time is copied."""
+    same = lambda a, b: os.path.exists(b) and (os.stat(a).st_size, os.stat(a).st_mtime_ns) == (os.stat(b).st_size, os.stat(b).st_mtime_ns)
     for place, _, names in os.walk(kept):
         there = os.path.join(folder, os.path.relpath(place, kept))
         os.makedirs(there, exist_ok=True)
-        for name in os.listdir(there):
-            new = os.path.join(there, name)
-            if not os.path.exists(os.path.join(place, name)):
-                shutil.rmtree(new) if os.path.isdir(new) else os.remove(new)
+        for new in set(os.listdir(there)) - set(os.listdir(place)):
+            path = os.path.join(there, new)
+            shutil.rmtree(path) if os.path.isdir(path) else os.remove(path)
         for name in names:
-            old, new = os.path.join(place, name), os.path.join(there, name)
-            if not os.path.exists(new) or (os.stat(old).st_size, os.stat(old).st_mtime_ns) != (os.stat(new).st_size, os.stat(new).st_mtime_ns):
-                shutil.copy2(old, new)
+            if not same(os.path.join(place, name), os.path.join(there, name)):
+                shutil.copy2(os.path.join(place, name), os.path.join(there, name))
 
 
 class Copy:
@@ -258,8 +283,8 @@ class Copy:
     def others(self, base, together):
         """The proof files of the functions that these edits leave as they are."""
         own = {proof_of(f) for edit in together for f in edit.functions}
-        found = [os.path.relpath(os.path.join(at, n), base) for at, _, names in os.walk(os.path.join(base, "proofs")) for n in names if n == "Proof.antt"]
-        return sorted(set(found) - own)
+        found = [os.path.relpath(at, base) for at, _, names in os.walk(os.path.join(base, "proofs")) if "Proof.antt" in names]
+        return sorted({os.path.join(at, "Proof.antt") for at in found} - own)
 
 
 class Run:
@@ -301,9 +326,12 @@ class Run:
             print("refusals: %s, %d edits in one check (%d s)" % (crate, len(batch), time.time() - began), flush=True)
         self.tell([one for one in told if one[1] is not None])
         for edit in [e for e, good, _ in told if good is None]:
-            self.tell([(edit, *self.try_alone(copy, edit))])
+            if len(batch) > 1:
+                self.try_batch(copy, [edit])
+            else:
+                self.tell([(edit, *self.try_whole(copy, edit))])
 
-    def try_alone(self, copy, edit):
+    def try_whole(self, copy, edit):
         said = copy.check(edit.crate, [edit], whole=True)
         good, what = judge(edit, said, company=False)
         if good is not None:
@@ -312,7 +340,7 @@ class Run:
             return False, "NOT REFUSED: the crate is still proved with this edit"
         if said.reached:
             return False, "NO FACT: refused, and no error says that a fact does not hold"
-        return False, "it did not reach the prover: %s" % said.text[:300]
+        return False, "it did not reach the prover: %s" % said.text.split("\n")[0][:300]
 
     def tell(self, told):
         with self.turn:
@@ -328,6 +356,7 @@ def main():
     # the dearest first, so that all threads end at about the same time
     order = sorted({e.crate for e in found}, key=lambda c: -sum(e.crate == c for e in found))
     waiting = [b for c in order for b in batches([e for e in found if e.crate == c and not e.bad])]
+    print("refusals: %d edits in %d checks" % (len(found) - len(bad), len(waiting)), flush=True)
     shutil.rmtree(WORK, ignore_errors=True)
     run = Run(waiting)
     run.tell([(e, False, e.bad) for e in bad])
