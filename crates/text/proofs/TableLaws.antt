@@ -2,23 +2,23 @@
 --
 --   is-end never-end   no line of a text is its end
 --   FirstWhole     a first line of 18 bytes, and the other lines behind it
---   at-end at-fault row-line at-row    the lowest fault from line n on, by what the reader finds at line n
---   rows-count line-on     a text of rows alone has as many lines as rows, and a step passes one line
+--   Onward stays moves     the lowest fault from line n on, by whether the reader stays there
+--   rows-count all-rows line-on line-end on-row no-row-left     a text of rows alone has as many lines as rows, and a step passes one line, up to the end
 --   found-at       in a text of rows alone the reader finds each line in its place
 --   column-at column-length     a column's number at a row is that of the line found there; a column has as many as rows
 --   cell           the number that the loop writes
---   answer short enough     the reader's answer, by the code's cases
+--   kept-from answer short enough     the reader's answer, by the code's cases
 -- Assumes nothing.
 use Prim.Native.Nat.{ℕ, zero, suc, _+_, _*_, _≤_, _<_, min}
 use mathlib.Core.Path.{_≡_, refl, sym, ap, _∙_}
 use mathlib.Core.Bool.{Bool, true, false, cond}
 use mathlib.Core.Logic.{⊎-elim}
-use mathlib.Core.List.{List, [], _∷_, map}
+use mathlib.Core.List.{List, [], _∷_, _++_, map}
 use native.Mathlib.Nat.{not-suc-le-zero, le-of-suc-le-suc}
 use native.Mathlib.Omega.{arith}
 use lib.ListN.{length, getD, take, drop, length-drop, length-map, List·getD-map}
 use borrow.Author.Tests.{lt-leb, le-leb}
-use lib.Seq.{drop-cons}
+use lib.Seq.{drop-cons, drop-length}
 use Rattle.text.specs.Decimal.{fieldOf, fieldValue}
 use Rattle.text.specs.Line.{linesOf, firstLine, isWhole, lineNumber, oneRefuses, judged, lineAs, stepAs, rowOf, stepAt, passed, stepFrom}
 use Rattle.text.specs.Table.{faultOr, judgedFrom, roomFor, tableReadOf}
@@ -28,7 +28,7 @@ use Rattle.text.specs.declared.lines.Line.the-variants as line
 use Rattle.text.specs.declared.lines.Step.{Step}
 use Rattle.text.specs.declared.table.TableRead.{TableRead}
 use Rattle.text.specs.declared.table.TableRead.the-variants.{Rows, LineLength, Room}
-use Rattle.text.proofs.Tests.{look, pick-true, pick-false, zero-one}
+use Rattle.text.proofs.Tests.{look, pick-true, pick-false, zero-one, lt-or-le}
 use Rattle.text.proofs.LineLaws.{lines-first, next-start, step-none, step-short, step-from, whole-size, whole-fits, step-found, step-line}
 
 -- ---- no line is the text's end
@@ -95,12 +95,18 @@ row-step (x ∷ xs) d a b e =
     ⊎-elim (λ t. whole-step (x ∷ xs) t) (λ t. no-row d a b (sym (step-short 5 6 6 (x ∷ xs) (omega arith) t) ∙ e))
     (look (isWhole 18 (firstLine (x ∷ xs))))
 
+-- line m is the one behind line n, within the text, and the lowest fault from there on is that of the whole
+pub record Onward (text : List ℕ) (n m : ℕ) (found : TableRead) : Type 0 where
+  pub next : m ≡ n + 1
+  pub within : 18 * m ≤ length text
+  pub rest : judgedFrom m (linesOf (drop (18 * m) text)) ≡ found
+
 module _ (text : List ℕ) (n : ℕ) {s : Step} {found : TableRead} (so : judgedFrom n (linesOf (drop (18 * n) text)) ≡ found) (is : s ≡ stepFrom text n) where
-  pub at-end : s .found ≡ line.End → Rows n ≡ found
+  at-end : s .found ≡ line.End → Rows n ≡ found
   unfolding stepAt
   at-end e = sym (fault-none n _ (sym (step-found text n is) ∙ e)) ∙ so
 
-  pub at-fault : (f : Line) → s .found ≡ f → is-end f ≡ 0 → faultOr (n + 1) f (judgedFrom (n + 1) (drop 1 (linesOf (drop (18 * n) text)))) ≡ found
+  at-fault : (f : Line) → s .found ≡ f → is-end f ≡ 0 → faultOr (n + 1) f (judgedFrom (n + 1) (drop 1 (linesOf (drop (18 * n) text)))) ≡ found
   unfolding stepAt
   at-fault f e z = sym (fault-at n _ f (sym (step-found text n is) ∙ e) z) ∙ so
 
@@ -113,12 +119,29 @@ module _ (text : List ℕ) (n : ℕ) {s : Step} {found : TableRead} (so : judged
             ∙ ap (λ (ls : List (List ℕ)). judgedFrom (n + 1) (drop 1 ls)) (sym (st .split)) ∙ at-fault (line.Row d a b) e refl,
       )
 
-  -- behind a row the line reached is the next one
-  pub row-line : (d a b : ℕ) → s .found ≡ line.Row d a b → s .line ≡ n + 1
-  row-line d a b e = step-line text n is ∙ ap (λ (l : Line). n + passed l) e
+  by-stay : (l : Line) → s .found ≡ l → passed l ≡ 0 → faultOr (n + 1) l (Rows n) ≡ found
+  by-stay (line.Row d a b) e z = zero-one (sym z)
+  by-stay line.End e z = at-end e
+  by-stay line.BadLength e z = at-fault line.BadLength e refl
+  by-stay line.BadField e z = at-fault line.BadField e refl
+  by-stay line.LargeNumber e z = at-fault line.LargeNumber e refl
 
-  pub at-row : (d a b : ℕ) → s .found ≡ line.Row d a b → (18 * s .line ≤ length text) × (judgedFrom (s .line) (linesOf (drop (18 * s .line) text)) ≡ found)
-  at-row d a b e = rw (row-line d a b e) (next-row d a b e)
+  -- a reader that stays is at the text's end or at the lowest faulty line
+  pub stays : s .line ≡ n → faultOr (n + 1) (s .found) (Rows n) ≡ found
+  stays h = by-stay (s .found) refl (omega (arith, step-line text n is))
+
+  by-move : (l : Line) → s .found ≡ l → (passed l ≡ 0 → ⊥) → Onward text n (s .line) found
+  by-move (line.Row d a b) e h =
+      let on : s .line ≡ n + 1 = step-line text n is ∙ ap (λ (l : Line). n + passed l) e in
+      record { next = on; within = rw on (next-row d a b e .0); rest = rw on (next-row d a b e .1) }
+  by-move line.End e h = absurd (h refl)
+  by-move line.BadLength e h = absurd (h refl)
+  by-move line.BadField e h = absurd (h refl)
+  by-move line.LargeNumber e h = absurd (h refl)
+
+  -- one that moves has passed a row
+  pub moves : (s .line ≡ n → ⊥) → Onward text n (s .line) found
+  moves h = by-move (s .found) refl (λ z. h (omega (arith, step-line text n is)))
 
 -- ---- a text of rows alone
 
@@ -141,6 +164,9 @@ pub rows-count : (n c : ℕ) (ls : List (List ℕ)) → judgedFrom n ls ≡ Rows
 unfolding judgedFrom
 rows-count n c [] e = let q : n ≡ c = cc in omega arith
 rows-count n c (l ∷ ls) e = omega (arith, rows-count (n + 1) c ls (passes (n + 1) c (rowOf l) (judgedFrom (n + 1) ls) e))
+
+pub all-rows : (c : ℕ) (ls : List (List ℕ)) → judgedFrom 0 ls ≡ Rows c → c ≡ length ls
+all-rows c ls e = omega (arith, rows-count 0 c ls e)
 
 -- a line that is no row's length refuses
 rows-whole : (n c : ℕ) (ls : List (List ℕ)) → judgedFrom n ls ≡ Rows c → (i : ℕ) → i < length ls → isWhole 18 (getD ls i []) ≡ true
@@ -182,6 +208,24 @@ module _ (text : List ℕ) (c : ℕ) (so : judgedFrom 0 (linesOf text) ≡ Rows 
       let one : passed (rowOf (getD (linesOf text) i [])) ≡ 1 = rows-passed 0 c (linesOf text) so i (omega (arith, rows-count 0 c (linesOf text) so)) in
       step-line text i is ∙ ap (λ (k : ℕ). i + k) (ap passed (step-found text i is ∙ found-at i h) ∙ one)
 
+  -- behind the last row the reader stays
+  pub line-end : (i : ℕ) → i ≡ c → {s : Step} → s ≡ stepFrom text i → s .line ≡ i
+  unfolding stepAs
+  line-end i h {s} is =
+      let all : i ≡ length (linesOf text) = h ∙ all-rows c (linesOf text) so in
+      let end : stepAt text i ≡ line.End =
+      step-from text i (omega arith) (λ j q. rows-whole 0 c (linesOf text) so j (omega arith))
+      ∙ ap (stepAs 5 6 6) (ap (λ (k : ℕ). drop k (linesOf text)) all ∙ drop-length (linesOf text)) in
+      omega (arith, step-line text i is, ap passed (step-found text i is ∙ end))
+
+  -- where the reader moves there is a row
+  pub on-row : (i : ℕ) → i ≤ c → {s : Step} → s ≡ stepFrom text i → (s .line ≡ i → ⊥) → i < c
+  on-row i h is moved = ⊎-elim (λ l. l) (λ (l : c ≤ i). absurd (moved (line-end i (omega arith) is))) (lt-or-le i c)
+
+  -- and where it stays there is none left
+  pub no-row-left : (i : ℕ) → i ≤ c → {s : Step} → s ≡ stepFrom text i → s .line ≡ i → c ≤ i
+  no-row-left i h is e = ⊎-elim (λ (l : i < c). let z : ⊥ = omega (arith, line-on i l is) in absurd z) (λ l. l) (lt-or-le i c)
+
   -- a column of the text's rows, as the lines found give it
   pub column-at : (f : Line → ℕ) → f line.BadLength ≡ 0 → (i : ℕ) → i < c → getD (map (λ (l : List ℕ). f (rowOf l)) (linesOf text)) i 0 ≡ f (stepAt text i)
   column-at f z i h =
@@ -194,6 +238,10 @@ module _ (text : List ℕ) (c : ℕ) (so : judgedFrom 0 (linesOf text) ≡ Rows 
 pub cell : (text : List ℕ) (c : ℕ) → judgedFrom 0 (linesOf text) ≡ Rows c → (f : Line → ℕ) → f line.BadLength ≡ 0 → (i : ℕ) → i < c → {r : Line} {x : ℕ}
     → r ≡ stepAt text i → x ≡ f r → x ≡ getD (map (λ (l : List ℕ). f (rowOf l)) (linesOf text)) i 0
 cell text c so f z i h e q = q ∙ ap f e ∙ sym (column-at text c so f z i h)
+
+-- what is kept behind the rows, counted as lines or as rows
+pub kept-from : (values old : List ℕ) {n m : ℕ} {now : List ℕ} → n ≡ m → now ≡ values ++ drop m old → now ≡ values ++ drop n old
+kept-from values old e h = h ∙ ap (λ (k : ℕ). values ++ drop k old) (sym e)
 
 -- ---- the reader's answer, by the code's cases
 

@@ -1,10 +1,10 @@
 // The table reader: one pass that judges every line, and a second that writes the columns, so that a refusal leaves them as they were.
 ghost use mathlib.Core.Path.{_≡_};
-ghost use Prim.Native.Nat.{_≤_, min};
+ghost use Prim.Native.Nat.{_+_, _≤_, _<_, _^_, min};
 ghost use lib.ListN.{length, drop};
 ghost use mathlib.Core.List.{_++_};
 ghost use Rattle.text.specs.Line.{linesOf};
-ghost use Rattle.text.specs.Table.{dayOf, firstOf, secondOf, daysOf, firstsOf, secondsOf, judgedFrom, tableReadOf, filled};
+ghost use Rattle.text.specs.Table.{dayOf, firstOf, secondOf, daysOf, firstsOf, secondsOf, faultOr, judgedFrom, tableReadOf, filled};
 use crate::lines::Line;
 use crate::reader::read_line;
 
@@ -53,45 +53,53 @@ fn second_of(l: Line) -> u16
     }
 }
 
-// The lowest faulty line, or the number of lines.
+// Where the line reader stays: at the text's end each line before is a row, and a faulty line refuses. A line is counted from 1.
+fn ended(l: Line, line: usize) -> TableRead
+    requires { ⌜ line + 1 < 2 ^ 64 ⌝ }
+    ensures { λ r. ⌜ r ≡ faultOr (line + 1) l (TableRead.Rows line) ⌝ }
+{
+    match l {
+        Line::Row(_, _, _) => TableRead::Rows(line),
+        Line::End => TableRead::Rows(line),
+        Line::BadLength => TableRead::LineLength(line + 1),
+        Line::BadField => TableRead::BrokenField(line + 1),
+        Line::LargeNumber => TableRead::LargeNumber(line + 1),
+    }
+}
+
+// The lowest faulty line, or the number of lines: the reader goes on until it stays. That it moved is asked, and not what it found: so the processor
+// goes on to the next line before this one is judged.
 fn check_lines(text: &[u8]) -> TableRead
     ensures { λ r. ⌜ r ≡ judgedFrom 0 (linesOf (now (text .entry))) ⌝ }
 {
-    let mut n: usize = 0;
+    let mut line: usize = 0;
     loop {
-        let step = read_line(text, n);
-        let l = step.found;
-        match l {
-            Line::Row(_, _, _) => {
-                n = step.line;
-            }
-            Line::End => {
-                return TableRead::Rows(n);
-            }
-            Line::BadLength => {
-                return TableRead::LineLength(n + 1);
-            }
-            Line::BadField => {
-                return TableRead::BrokenField(n + 1);
-            }
-            Line::LargeNumber => {
-                return TableRead::LargeNumber(n + 1);
-            }
+        let step = read_line(text, line);
+        if step.line == line {
+            let l = step.found;
+            return ended(l, line);
         }
+        line = step.line;
     }
 }
 
 // The rows of a text whose every line is a row, into columns that have a place for each.
-fn write_rows(text: &[u8], days: &mut [u16], first: &mut [u16], second: &mut [u16], count: usize)
-    requires { ⌜ judgedFrom 0 (linesOf (now text)) ≡ TableRead.Rows count ⌝ }
-    requires { ⌜ (count ≤ length (now days)) × (count ≤ length (now first)) × (count ≤ length (now second)) ⌝ }
-    ensures { λ _. ⌜ now (days .exit) ≡ daysOf (now (text .entry)) ++ drop count (now (days .entry)) ⌝ }
-    ensures { λ _. ⌜ now (first .exit) ≡ firstsOf (now (text .entry)) ++ drop count (now (first .entry)) ⌝ }
-    ensures { λ _. ⌜ now (second .exit) ≡ secondsOf (now (text .entry)) ++ drop count (now (second .entry)) ⌝ }
+fn write_rows(text: &[u8], days: &mut [u16], first: &mut [u16], second: &mut [u16])
+    requires { ⌜ judgedFrom 0 (linesOf (now text)) ≡ TableRead.Rows (length (linesOf (now text))) ⌝ }
+    requires { ⌜
+        (length (linesOf (now text)) ≤ length (now days))
+        × (length (linesOf (now text)) ≤ length (now first))
+        × (length (linesOf (now text)) ≤ length (now second)) ⌝ }
+    ensures { λ _. ⌜ now (days .exit) ≡ daysOf (now (text .entry)) ++ drop (length (linesOf (now (text .entry)))) (now (days .entry)) ⌝ }
+    ensures { λ _. ⌜ now (first .exit) ≡ firstsOf (now (text .entry)) ++ drop (length (linesOf (now (text .entry)))) (now (first .entry)) ⌝ }
+    ensures { λ _. ⌜ now (second .exit) ≡ secondsOf (now (text .entry)) ++ drop (length (linesOf (now (text .entry)))) (now (second .entry)) ⌝ }
 {
     let mut i: usize = 0;
-    while i < count {
+    loop {
         let step = read_line(text, i);
+        if step.line == i {
+            return;
+        }
         let l = step.found;
         days[i] = day_of(l);
         first[i] = first_of(l);
@@ -140,7 +148,7 @@ pub fn read_table(text: &[u8], days: &mut [u16], first: &mut [u16], second: &mut
             if least(days.len(), first.len(), second.len()) < n {
                 return TableRead::Room;
             }
-            write_rows(text, days, first, second, n);
+            write_rows(text, days, first, second);
             return TableRead::Rows(n);
         }
     }

@@ -1,10 +1,12 @@
 -- `text::table::read_table` meets its contract: one law for each way out; the columns are written only where all is judged.
 -- Assumes nothing.
-use mathlib.Core.Path.{refl, sym, _∙_}
+use mathlib.Core.Path.{refl, sym, ap, _∙_}
 use native.Mathlib.Omega.{arith}
 use lib.ListN.{length}
 use borrow.Author.Needs.{needs}
-use Rattle.text.proofs.TableLaws.{answer, short, enough}
+use Rattle.text.specs.Table.{daysOf, firstsOf, secondsOf}
+use Rattle.text.specs.declared.table.TableRead.the-variants.{Rows}
+use Rattle.text.proofs.TableLaws.{answer, short, enough, all-rows, kept-from}
 use Rattle.text.proofs.table.read_table.Statement.{statement}
 use Rattle.text.proofs.table.read_table.Tie as tie
 
@@ -64,7 +66,9 @@ write-rows-requires : tie.Need-write-rows-requires
 write-rows-requires c κs =
     let check-lines = c .before .before .before .before .before .before .before .before .check-lines in
     let judged4 = c .before .before .before .before .before .before .judged4 in
-    (sym (check-lines .ensures) ∙ judged4 .given .1, omega arith)
+    let rows = sym (check-lines .ensures) ∙ judged4 .given .1 in
+    let all = all-rows _ _ rows in
+    (rows ∙ ap Rows all, omega (arith, all))
 
 same-length : tie.Need-same-length
 same-length c = search needs
@@ -83,7 +87,16 @@ returns-6 c =
     let least = c .before .before .before .before .before .before .before .before .before .before .before .least in
     let if1 = c .before .before .before .before .before .before .before .before .before .before .if1 in
     let write-rows = c .before .before .before .before .before .before .write-rows in
-    (enough (a .text .now) (length (a .days .now)) (length (a .first .now)) (length (a .second .now)) (check-lines .ensures) (judged4 .given .1) (least .ensures) (if1 .left), write-rows .ensures)
+    let all = all-rows _ _ (sym (check-lines .ensures) ∙ judged4 .given .1) in (
+      enough (a .text .now) (length (a .days .now)) (length (a .first .now)) (length (a .second .now)) (check-lines .ensures) (judged4 .given .1) (least .ensures) (if1 .left),
+      (
+        kept-from (daysOf (a .text .now)) (a .days .now) all (write-rows .ensures .0),
+        (
+          kept-from (firstsOf (a .text .now)) (a .first .now) all (write-rows .ensures .1 .0),
+          kept-from (secondsOf (a .text .now)) (a .second .now) all (write-rows .ensures .1 .1),
+        ),
+      ),
+    )
 
 pub read-table-spec : {M : Type 1} → statement M
 read-table-spec =
