@@ -13,13 +13,14 @@ use mathlib.Core.Path.{_≡_, refl, ap, _∙_}
 use mathlib.Core.Bool.{true, false}
 use mathlib.Core.List.{List, [], _∷_, map}
 use native.Mathlib.Nat.{le-refl}
+use native.Mathlib.Omega.{arith}
 use lib.ListN.{length, replicate}
 use Rattle.rings.specs.Words.{run}
 use Rattle.rings.specs.Table.{Table}
 use Rattle.rings.specs.Ring.{degree, ring}
 use Rattle.rings.specs.CoreTimes.{never, accountTime, rowTime}
 use Rattle.rings.specs.Windows.{Entry, minimalWindows}
-use Rattle.rings.specs.Refusals.{Report, countedReport}
+use Rattle.rings.specs.Refusals.{countedReport}
 use Rattle.rings.specs.Buffers.{countedScratch}
 use Rattle.rings.specs.WindowRingCall.{ringAnswer, ringMarks}
 use Rattle.rings.specs.CoreTimesCall.{timesAnswer, accountColumn, rowColumn}
@@ -30,12 +31,12 @@ use Rattle.rings.specs.declared.Query.{Query}
 use Rattle.rings.specs.declared.refusal.Refusal.{Refusal}
 use Rattle.rings.specs.declared.refusal.Verdict.{Verdict}
 use Rattle.rings.specs.declared.refusal.Counted.{Counted}
+use Rattle.rings.proofs.CoreTimeLaws.{times-absent}
 use Rattle.listing.specs.Tight.{memberDays, lowest, firstDay, lastDay, nonempty, tightest, tight}
 use Rattle.listing.specs.Listing.{ListedRing, entryOf, listing, rowSum}
 use Rattle.listing.specs.Distinct.{sameMark, sameRows, distinct, ringsOf, distinctRings}
 use Rattle.listing.specs.ListingCall.{listingChecks, summed, listingAnswer, ringColumn, listingStarts, listingEnds, listingRows, listingScratch, listingReport, listingSum}
 use Rattle.listing.specs.LongestList.{longest, daysOf, longestAnswer}
-use Rattle.listing.specs.Absent.{past-names}
 use Rattle.listing.specs.declared.Listed.{Listed}
 
 abbrev pub season : Table
@@ -147,11 +148,11 @@ pub record StarredRows : Type 0 where
 -- The account column is 4,096 long: accounts 0 to 4 are computed, and the season names no other
 from-start-1 : (n : ℕ) → run (accountTime season two 6 1) 0 (suc (suc (suc (suc (suc n))))) ≡ never ∷ 2 ∷ 2 ∷ 2 ∷ 6 ∷ replicate n never
 unfolding compute
-from-start-1 n = ap (λ (l : List ℕ). never ∷ 2 ∷ 2 ∷ 2 ∷ 6 ∷ l) (past-names season two 6 1 5 n (le-refl 5))
+from-start-1 n = ap (λ (l : List ℕ). never ∷ 2 ∷ 2 ∷ 2 ∷ 6 ∷ l) (times-absent season two 6 1 (omega arith) 5 n (le-refl 5))
 
 from-start-3 : (n : ℕ) → run (accountTime season two 6 3) 0 (suc (suc (suc (suc (suc n))))) ≡ replicate (suc (suc (suc (suc (suc n))))) never
 unfolding compute
-from-start-3 n = ap (λ (l : List ℕ). never ∷ never ∷ never ∷ never ∷ never ∷ l) (past-names season two 6 3 5 n (le-refl 5))
+from-start-3 n = ap (λ (l : List ℕ). never ∷ never ∷ never ∷ never ∷ never ∷ l) (times-absent season two 6 3 (omega arith) 5 n (le-refl 5))
 
 column : (s : ℕ) (ls : List ℕ) → timesAnswer season two 1 6 s 4096 6 8216 ≡ Verdict.Accepted → run (accountTime season two 6 s) 0 4096 ≡ ls
     → accountColumn (timesAnswer season two 1 6 s 4096 6 8216) season two 6 s (replicate 4096 9) ≡ ls

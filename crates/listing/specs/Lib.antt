@@ -3,7 +3,6 @@ pub mod Listing
 pub mod Distinct
 pub mod ListingCall
 pub mod LongestList
-pub mod Absent
 pub mod Examples
 pub mod EachRing
 pub mod Program

@@ -17,7 +17,6 @@ use Rattle.text.specs.Line.{prepend, linesOf, firstLine, isWhole, judged, lineA
 use Rattle.text.specs.Table.{daysOf, firstsOf, secondsOf, judgedFrom, tableReadOf}
 use Rattle.text.specs.Print.{columnOf, printed, listingLine, entryLines, listingText, refusedLine}
 use Rattle.text.specs.TextNumbers.{five, six, row}
-use Rattle.rings.specs.Refusals.{Report}
 use Rattle.rings.specs.Compute.{compute}
 use Rattle.listing.specs.Tight.{memberDays, lowest, firstDay, lastDay, nonempty, tightest, tight}
 use Rattle.listing.specs.Listing.{entryOf, listing, rowSum, span}

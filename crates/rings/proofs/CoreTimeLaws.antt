@@ -9,6 +9,7 @@
 --     account-later, row-later            core times rise with the start
 --     account-never, row-never            so what has none has none later
 --     rows-quiet               where no account has a core time no row has one
+--     account-absent, times-absent        an account that no row has has never; so has each of a column, from one more than the greatest account on
 -- Assumes nothing.
 use Prim.Native.Nat.{ℕ, zero, suc, _+_, _-_, max, _≤_, _<_}
 use native.Mathlib.Nat.{le-refl, le-trans, le-antisymm, eq-or-lt-of-le}
@@ -16,15 +17,18 @@ use native.Mathlib.Omega.{arith}
 use mathlib.Core.Path.{_≡_, refl, sym, _∙_, ap, subst}
 use mathlib.Core.Logic.{_⊎_, ⊎-elim}
 use mathlib.Core.Bool.{Bool, true, false}
+use mathlib.Core.List.{_∷_}
+use lib.ListN.{replicate}
 use lib.Dec.{leb}
 use borrow.Author.Tests.{leb-true, le-leb}
-use Rattle.rings.specs.Words.{marked, count}
+use Rattle.rings.specs.Words.{marked, count, run}
 use Rattle.rings.specs.Table.{Table, size, dayOf, firstOf, secondOf}
-use Rattle.rings.specs.Ring.{met, ring, inRing, members}
+use Rattle.rings.specs.Ring.{names, met, ring, inRing, members}
 use Rattle.rings.specs.CoreTimes.{never, least, accountTime, rowTime}
 use Rattle.rings.specs.declared.Query.{Query}
 use Rattle.rings.proofs.WordLaws.{look, clash, same-truth, count-same}
-use Rattle.rings.proofs.RingLaws.{Inside, met-mono, in-window, two-met, met-first, met-second, ring-grows, in-grows, ring-sized, in-marked, marked-in}
+use Rattle.rings.proofs.RingLaws.{Inside, met-e, met-mono, in-window, two-met, met-first, met-second, ring-grows, in-grows, ring-sized, in-marked, marked-in}
+use Rattle.rings.proofs.OthersLaws.{touch-named}
 
 -- ---- the least day that has a property
 
@@ -209,3 +213,22 @@ module _ (t : Table) (q : Query) (hi : ℕ) where
   rows-quiet fits s quiet j l =
       ⊎-elim (λ n. n) (λ r. let h = r .1 in let k = row-reach-e s fits j (rowTime t q hi s j) h (le-refl (rowTime t q hi s j)) in let a = account-reach-i s (firstOf t j) (rowTime t q hi s j) (r .0) h (met-first t q s (rowTime t q hi s j) j k) in let e = quiet (firstOf t j) l in absurd (omega arith))
       (row-time s j)
+
+-- ---- accounts that no row has
+
+module _ (t : Table) (q : Query) (hi s : ℕ) (fits : hi < never) where
+  pub account-absent : (u : ℕ) → names t ≤ u → accountTime t q hi s u ≡ never
+  account-absent u h =
+      let x = accountTime t q hi s u in
+      ⊎-elim (λ n. n)
+      (λ d.
+      let m = met-e t (ring t q s x) u (account-reach-e t q hi s fits u x (d .1) (le-refl x)) in
+      let l = touch-named t (m .row) u (m .touch) in absurd (omega arith)) (account-time t q hi s u)
+
+  pub times-absent : (i n : ℕ) → names t ≤ i → run (accountTime t q hi s) i n ≡ replicate n never
+  unfolding run
+  times-absent i zero h = refl
+  times-absent i (suc n) h =
+      let a : accountTime t q hi s i ≡ never = account-absent i h in
+      let b : run (accountTime t q hi s) (suc i) n ≡ replicate n never = times-absent (suc i) n (omega arith) in
+      λ k. a k ∷ b k

@@ -9,7 +9,7 @@
 use Prim.Native.Nat.{ℕ}
 use mathlib.Core.Path.{_≡_, refl}
 use mathlib.Core.Bool.{true}
-use mathlib.Core.List.{List, [], _∷_}
+use mathlib.Core.List.{[], _∷_}
 use lib.ListN.{length, replicate}
 use lib.Dec.{ltb, eqb}
 use Rattle.rings.specs.Table.{Table}
@@ -23,8 +23,7 @@ use Rattle.rings.specs.MinimalWindowsCall.{minimalAnswer}
 use Rattle.rings.specs.RecallCall.{Columns, recallAnswer, recallMarks}
 use Rattle.rings.specs.Compute.{compute}
 use Rattle.rings.specs.declared.Query.{Query}
-use Rattle.rings.specs.declared.refusal.Refusal.the-variants.{UnequalColumns, TooManyRows, BadDay, BadAccounts, OutOfOrder, BadK, BadWindow, BadLengths, SmallScratch, NoRoom, BadEntry}
-use Rattle.rings.specs.declared.refusal.Verdict.{Verdict}
+use Rattle.rings.specs.declared.refusal.Refusal.the-variants.{UnequalColumns, TooManyRows, BadDay, BadAccounts, BadK, BadWindow, BadLengths, SmallScratch, NoRoom, BadEntry}
 use Rattle.rings.specs.declared.refusal.Verdict.the-variants.{Accepted, Refused}
 use Rattle.rings.specs.declared.refusal.Counted.{Counted}
 
