@@ -3,7 +3,7 @@
 --   look               a test is true or false
 --   lt-or-le           one number is below another, or not
 --   and-left and-right both-true     a conjunction and its parts
---   or-left or-right both-false      a disjunction that fails, and its parts
+--   or-left or-right      the parts of a disjunction that fails
 --   pick-true pick-false   a choice whose test is known
 --   zero-one           0 is not 1, so anything follows
 -- Assumes nothing.
@@ -42,9 +42,6 @@ pub or-right : (a b : Bool) → (a || b) ≡ false → b ≡ false
 or-right true true e = e
 or-right true false e = refl
 or-right false b e = e
-
-pub both-false : (a b : Bool) → a ≡ false → b ≡ false → (a || b) ≡ false
-both-false a b p q = rw (p, q)
 
 module _ {A : Type 0} where
   pub pick-true : (b : Bool) (x y : A) → b ≡ true → cond b x y ≡ x
