@@ -3,13 +3,12 @@
 --   look               a test is true or false
 --   lt-or-le           one number is below another, or not
 --   and-left and-right both-true     a conjunction and its parts
---   or-left or-right      the parts of a disjunction that fails
 --   pick-true pick-false   a choice whose test is known
 --   zero-one           0 is not 1, so anything follows
 -- Assumes nothing.
 use Prim.Native.Nat.{ℕ, _<_, _≤_}
 use mathlib.Core.Path.{_≡_, refl}
-use mathlib.Core.Bool.{Bool, true, false, cond, _&&_, _||_, true≢false, false≢true}
+use mathlib.Core.Bool.{Bool, true, false, cond, _&&_, true≢false, false≢true}
 use mathlib.Core.Logic.{_⊎_, inl, inr, ⊎-elim}
 use native.Mathlib.Omega.{arith}
 use lib.Dec.{ltb}
@@ -33,15 +32,6 @@ and-right false false e = e
 
 pub both-true : (a b : Bool) → a ≡ true → b ≡ true → (a && b) ≡ true
 both-true a b p q = rw (p, q)
-
-pub or-left : (a b : Bool) → (a || b) ≡ false → a ≡ false
-or-left true b e = e
-or-left false b e = refl
-
-pub or-right : (a b : Bool) → (a || b) ≡ false → b ≡ false
-or-right true true e = e
-or-right true false e = refl
-or-right false b e = e
 
 module _ {A : Type 0} where
   pub pick-true : (b : Bool) (x y : A) → b ≡ true → cond b x y ≡ x
