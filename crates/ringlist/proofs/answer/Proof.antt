@@ -17,9 +17,12 @@ same-length c = search needs
 
 returns : tie.Need-returns
 returns c =
-    let a = c .before .before .before .before .before .before .before .args in
-    let pre = c .before .before .before .before .before .before .before .pre in
-    let print = c .before .before .print in
+    let print′ = c .before .before .print in
+    let args = c .before .before .before .before .before .before .before .args in
+    let pre′ = c .before .before .before .before .before .before .before .pre in
+    let a = args in
+    let pre = pre′ in
+    let print = print′ in
     (print .ensures .0, λ input b. print .ensures .1 ∙ brought-text input (a .buffer .now) (a .read) (pre .1 .0) b)
 
 pub answer-spec : {M : Type 1} → statement M

@@ -19,42 +19,59 @@ same-length c = search needs
 
 returns : tie.Need-returns
 returns c =
-    let a = c .before .before .before .before .before .before .before .before .before .args in
-    let pre = c .before .before .before .before .before .before .before .before .before .pre in
-    let list-text = c .before .before .before .before .before .list-text in
-    prints-found (a .input .now) (text-answer (a .input .now) (a .output .now) pre (list-text .ensures .0) (list-text .ensures .1) (c .before .printed .given .1))
+    let printed = c .before .printed in
+    let list-text′ = c .before .before .before .before .before .list-text in
+    let args = c .before .before .before .before .before .before .before .before .before .args in
+    let pre′ = c .before .before .before .before .before .before .before .before .before .pre in
+    let a = args in
+    let pre = pre′ in
+    let list-text = list-text′ in
+    prints-found (a .input .now)
+    (
+    text-answer (a .input .now) (a .output .now) pre (list-text .ensures .0) (list-text .ensures .1)
+    (printed .given .1)
+    )
 
 enum-known-printed-2 : tie.Need-enum-known-printed-2
 enum-known-printed-2 c = search needs
 
 refuse-requires : tie.Need-refuse-requires
 refuse-requires c κs =
-    let a = c .before .before .before .before .before .before .before .before .before .before .args in
-    let pre = c .before .before .before .before .before .before .before .before .before .before .pre in
-    let list-text = c .before .before .before .before .before .before .list-text in
-    let a = refused-answer (a .input .now) (a .output .now) pre (list-text .ensures .0) (list-text .ensures .1) (c .before .before .printed2 .given .1) in (a .number, a .place, ap length (a .kept) ∙ pre)
+    let printed2 = c .before .before .printed2 in
+    let list-text′ = c .before .before .before .before .before .before .list-text in
+    let args = c .before .before .before .before .before .before .before .before .before .before .args in
+    let pre′ = c .before .before .before .before .before .before .before .before .before .before .pre in
+    let a = args in
+    let pre = pre′ in
+    let list-text = list-text′ in
+    let a = refused-answer (a .input .now) (a .output .now) pre (list-text .ensures .0) (list-text .ensures .1)
+    (printed2 .given .1) in (a .number, a .place, ap length (a .kept) ∙ pre)
 
 same-length-2 : tie.Need-same-length-2
 same-length-2 c = search needs
 
 returns-2 : tie.Need-returns-2
 returns-2 c =
-    let a = c .before .before .before .before .before .before .before .before .before .before .before .before .before .args in
-    let refuse = c .before .before .refuse in
-    let pre = c .before .before .before .before .before .before .before .before .before .before .before .before .before .pre in
-    let list-text = c .before .before .before .before .before .before .before .before .before .list-text in
-    let printed2 = c .before .before .before .before .before .printed2 in
-    prints-stopped (a .input .now) (refuse .result) (refuse .last .1 .1 .0) (refused-answer (a .input .now) (a .output .now) pre (list-text .ensures .0) (list-text .ensures .1) (printed2 .given .1)) (refuse .ensures)
+    let refuse′ = c .before .before .refuse in
+    let printed2′ = c .before .before .before .before .before .printed2 in
+    let list-text′ = c .before .before .before .before .before .before .before .before .before .list-text in
+    let args = c .before .before .before .before .before .before .before .before .before .before .before .before .before .args in
+    let pre′ = c .before .before .before .before .before .before .before .before .before .before .before .before .before .pre in
+    let a = args in
+    let refuse = refuse′ in
+    let pre = pre′ in
+    let list-text = list-text′ in
+    let printed2 = printed2′ in
+    prints-stopped (a .input .now) (refuse .result) (refuse .last .1 .1 .0)
+    (
+    refused-answer (a .input .now) (a .output .now) pre (list-text .ensures .0) (list-text .ensures .1)
+    (printed2 .given .1)
+    ) (refuse .ensures)
 
 pub print-spec : {M : Type 1} → statement M
 print-spec =
     tie.close
-    (tie.spec
-    list-text-requires
-    enum-known-printed
-    same-length
-    returns
-    enum-known-printed-2
-    refuse-requires
-    same-length-2
-    returns-2)
+    (
+    tie.spec list-text-requires enum-known-printed same-length returns enum-known-printed-2 refuse-requires
+    same-length-2 returns-2
+    )

@@ -19,9 +19,12 @@ same-length c = search needs
 
 returns : tie.Need-returns
 returns c =
-    let a = c .before .before .before .before .before .args in
-    let pre = c .before .before .before .before .before .pre in
-    let put-refused = c .before .before .put-refused in
+    let put-refused′ = c .before .before .put-refused in
+    let args = c .before .before .before .before .before .args in
+    let pre′ = c .before .before .before .before .before .pre in
+    let a = args in
+    let pre = pre′ in
+    let put-refused = put-refused′ in
     prints-refused (a .output .now) (a .number) (a .line) (pre .2) (put-refused .ensures .0) (put-refused .ensures .1)
 
 pub refuse-spec : {M : Type 1} → statement M

@@ -13,7 +13,9 @@ of-verdict-requires : tie.Need-of-verdict-requires
 of-verdict-requires c κs = search needs
 
 returns : tie.Need-returns
-returns c = let n = told verdictReport (c .before .check-table .ensures) (c .of-verdict .ensures) in (n .number, n .place)
+returns c =
+    let check-table = c .before .check-table in
+    let n = told verdictReport (check-table .ensures) (c .of-verdict .ensures) in (n .number, n .place)
 
 pub rumbleog-check-table-spec : {M : Type 1} → statement M
 rumbleog-check-table-spec = tie.close (tie.spec check-table-requires of-verdict-requires returns)

@@ -19,11 +19,15 @@ of-refusal-requires c κs = search needs
 
 returns : tie.Need-returns
 unfolding listingReport done
-returns c = simp (c .before .l .given .1)
+returns c =
+    let l = c .before .l in
+    simp (l .given .1)
 
 returns-2 : tie.Need-returns-2
 unfolding listingReport done
-returns-2 c = c .of-refusal .ensures ∙ ap (λ v. numbers (listingReport v)) (sym (c .before .before .l2 .given .1))
+returns-2 c =
+    let l2 = c .before .before .l2 in
+    c .of-refusal .ensures ∙ ap (λ v. numbers (listingReport v)) (sym (l2 .given .1))
 
 pub of-listed-spec : {M : Type 1} → statement M
 of-listed-spec =

@@ -27,17 +27,16 @@ same-length-4 : tie.Need-same-length-4
 same-length-4 c = search needs
 
 returns : tie.Need-returns
-returns c = listing-told _ _ _ _ _ _ _ _ (c .before .before .before .before .before .before .before .before .before .before .list-rings .ensures .0) (c .before .before .before .before .before .before .before .before .before .before .list-rings .ensures .1 .0) (c .before .before .before .before .before .before .before .before .before .before .list-rings .ensures .1 .1 .0) (c .before .before .before .before .before .before .before .before .before .before .list-rings .ensures .1 .1 .1 .0) (c .before .before .before .before .before .before .before .before .before .before .list-rings .ensures .1 .1 .1 .1) (c .before .of-listed .ensures) (c .sum-of .ensures)
+returns c =
+    let of-listed = c .before .of-listed in
+    let list-rings = c .before .before .before .before .before .before .before .before .before .before .list-rings in
+    listing-told _ _ _ _ _ _ _ _ (list-rings .ensures .0) (list-rings .ensures .1 .0) (list-rings .ensures .1 .1 .0)
+    (list-rings .ensures .1 .1 .1 .0) (list-rings .ensures .1 .1 .1 .1) (of-listed .ensures) (c .sum-of .ensures)
 
 pub rumbleog-listing-spec : {M : Type 1} → statement M
 rumbleog-listing-spec =
     tie.close
-    (tie.spec
-    list-rings-requires
-    of-listed-requires
-    sum-of-requires
-    same-length
-    same-length-2
-    same-length-3
-    same-length-4
-    returns)
+    (
+    tie.spec list-rings-requires of-listed-requires sum-of-requires same-length same-length-2 same-length-3
+    same-length-4 returns
+    )

@@ -13,7 +13,9 @@ enum-told c = search needs
 
 returns : tie.Need-returns
 unfolding listingSum
-returns c = simp (c .before .l .given .1)
+returns c =
+    let l = c .before .l in
+    simp (l .given .1)
 
 returns-2 : tie.Need-returns-2
 unfolding listingSum

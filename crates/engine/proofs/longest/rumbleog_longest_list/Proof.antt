@@ -13,7 +13,9 @@ of-counted-requires : tie.Need-of-counted-requires
 of-counted-requires c κs = search needs
 
 returns : tie.Need-returns
-returns c = let n = told countedReport (c .before .longest-list .ensures) (c .of-counted .ensures) in (n .number, n .place, n .count)
+returns c =
+    let longest-list = c .before .longest-list in
+    let n = told countedReport (longest-list .ensures) (c .of-counted .ensures) in (n .number, n .place, n .count)
 
 pub rumbleog-longest-list-spec : {M : Type 1} → statement M
 rumbleog-longest-list-spec = tie.close (tie.spec longest-list-requires of-counted-requires returns)

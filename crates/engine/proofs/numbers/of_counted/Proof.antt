@@ -18,11 +18,15 @@ of-refusal-requires c κs = search needs
 
 returns : tie.Need-returns
 unfolding countedReport done
-returns c = simp (c .before .c .given .1)
+returns c =
+    let c′ = c .before .c in
+    simp (c′ .given .1)
 
 returns-2 : tie.Need-returns-2
 unfolding countedReport done
-returns-2 c = c .of-refusal .ensures ∙ ap (λ v. numbers (countedReport v)) (sym (c .before .before .c2 .given .1))
+returns-2 c =
+    let c2 = c .before .before .c2 in
+    c .of-refusal .ensures ∙ ap (λ v. numbers (countedReport v)) (sym (c2 .given .1))
 
 pub of-counted-spec : {M : Type 1} → statement M
 of-counted-spec =

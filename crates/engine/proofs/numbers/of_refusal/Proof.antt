@@ -13,7 +13,9 @@ place-of-requires c κs = search needs
 
 returns : tie.Need-returns
 unfolding refused
-returns c = simp (c .before .number-of .ensures, c .place-of .ensures)
+returns c =
+    let number-of = c .before .number-of in
+    simp (number-of .ensures, c .place-of .ensures)
 
 pub of-refusal-spec : {M : Type 1} → statement M
 of-refusal-spec = tie.close (tie.spec number-of-requires place-of-requires returns)

@@ -22,7 +22,9 @@ returns c = simp (c .enum-told .given .1)
 
 returns-2 : tie.Need-returns-2
 unfolding verdictReport done
-returns-2 c = c .of-refusal .ensures ∙ ap (λ v. numbers (verdictReport v)) (sym (c .before .before .v .given .1))
+returns-2 c =
+    let v′ = c .before .before .v in
+    c .of-refusal .ensures ∙ ap (λ v. numbers (verdictReport v)) (sym (v′ .given .1))
 
 pub of-verdict-spec : {M : Type 1} → statement M
 of-verdict-spec = tie.close (tie.spec enum-told enum-known-v of-refusal-requires returns returns-2)

@@ -85,26 +85,8 @@ returns-11 c = search needs
 pub place-of-spec : {M : Type 1} → statement M
 place-of-spec =
     tie.close
-    (tie.spec
-    enum-told
-    enum-told-2
-    enum-known-r
-    enum-known-r-2
-    enum-known-r-3
-    enum-told-3
-    enum-told-4
-    enum-told-5
-    enum-told-6
-    enum-told-7
-    enum-known-r-4
-    returns
-    returns-2
-    returns-3
-    returns-4
-    returns-5
-    returns-6
-    returns-7
-    returns-8
-    returns-9
-    returns-10
-    returns-11)
+    (
+    tie.spec enum-told enum-told-2 enum-known-r enum-known-r-2 enum-known-r-3 enum-told-3 enum-told-4 enum-told-5
+    enum-told-6 enum-told-7 enum-known-r-4 returns returns-2 returns-3 returns-4 returns-5 returns-6 returns-7
+    returns-8 returns-9 returns-10 returns-11
+    )

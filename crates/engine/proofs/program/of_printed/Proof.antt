@@ -14,11 +14,15 @@ enum-known-p-2 c = search needs
 
 returns : tie.Need-returns
 unfolding printedReport done
-returns c = simp (c .before .p .given .1)
+returns c =
+    let p = c .before .p in
+    simp (p .given .1)
 
 returns-2 : tie.Need-returns-2
 unfolding printedReport done
-returns-2 c = simp (c .before .p2 .given .1)
+returns-2 c =
+    let p2 = c .before .p2 in
+    simp (p2 .given .1)
 
 pub of-printed-spec : {M : Type 1} → statement M
 of-printed-spec = tie.close (tie.spec enum-known-p enum-known-p-2 returns returns-2)

@@ -15,7 +15,9 @@ same-length : tie.Need-same-length
 same-length c = search needs
 
 returns : tie.Need-returns
-returns c = list-told _ _ (c .before .before .before .list-text .ensures .0) (c .before .before .before .list-text .ensures .1) (c .of-printed .ensures)
+returns c =
+    let list-text = c .before .before .before .list-text in
+    list-told _ _ (list-text .ensures .0) (list-text .ensures .1) (c .of-printed .ensures)
 
 pub rumbleog-list-spec : {M : Type 1} → statement M
 rumbleog-list-spec =

@@ -22,9 +22,13 @@ same-length-3 : tie.Need-same-length-3
 same-length-3 c = search needs
 
 returns : tie.Need-returns
-returns c = read-told (daysOf (c .before .before .before .before .before .before .before .before .before .before .before .before .before .before .before .args .text .now)) (firstsOf (c .before .before .before .before .before .before .before .before .before .before .before .before .before .before .before .args .text .now)) (secondsOf (c .before .before .before .before .before .before .before .before .before .before .before .before .before .before .before .args .text .now)) (c .before .before .before .before .before .before .before .before .before .before .before .before .before .before .before .args .days .now) (c .before .before .before .before .before .before .before .before .before .before .before .before .before .before .before .args .first .now) (c .before .before .before .before .before .before .before .before .before .before .before .before .before .before .before .args .second .now) (c .before .before .before .before .before .before .before .read-table .ensures .0) (c .before .before .before .before .before .before .before .read-table .ensures .1 .0) (c .before .before .before .before .before .before .before .read-table .ensures .1 .1 .0) (c .before .before .before .before .before .before .before .read-table .ensures .1 .1 .1) (c .of-read .ensures)
+returns c =
+    let read-table = c .before .before .before .before .before .before .before .read-table in
+    let args = c .before .before .before .before .before .before .before .before .before .before .before .before .before .before .before .args in
+    read-told (daysOf (args .text .now)) (firstsOf (args .text .now)) (secondsOf (args .text .now)) (args .days .now)
+    (args .first .now) (args .second .now) (read-table .ensures .0) (read-table .ensures .1 .0)
+    (read-table .ensures .1 .1 .0) (read-table .ensures .1 .1 .1) (c .of-read .ensures)
 
 pub rumbleog-read-table-spec : {M : Type 1} → statement M
 rumbleog-read-table-spec =
-    tie.close
-    (tie.spec read-table-requires of-read-requires same-length same-length-2 same-length-3 returns)
+    tie.close (tie.spec read-table-requires of-read-requires same-length same-length-2 same-length-3 returns)

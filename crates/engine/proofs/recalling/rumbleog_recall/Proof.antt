@@ -15,7 +15,9 @@ same-length : tie.Need-same-length
 same-length c = search needs
 
 returns : tie.Need-returns
-returns c = recall-told _ _ _ _ _ (c .before .before .before .recall .ensures .0) (c .before .before .before .recall .ensures .1) (c .of-verdict .ensures)
+returns c =
+    let recall = c .before .before .before .recall in
+    recall-told _ _ _ _ _ (recall .ensures .0) (recall .ensures .1) (c .of-verdict .ensures)
 
 pub rumbleog-recall-spec : {M : Type 1} → statement M
 rumbleog-recall-spec = tie.close (tie.spec recall-requires of-verdict-requires same-length returns)

@@ -18,7 +18,10 @@ same-length-2 : tie.Need-same-length-2
 same-length-2 c = search needs
 
 returns : tie.Need-returns
-returns c = ring-told _ _ _ _ _ _ (c .before .before .before .before .before .window-ring .ensures .0) (c .before .before .before .before .before .window-ring .ensures .1 .0) (c .before .before .before .before .before .window-ring .ensures .1 .1) (c .of-counted .ensures)
+returns c =
+    let window-ring = c .before .before .before .before .before .window-ring in
+    ring-told _ _ _ _ _ _ (window-ring .ensures .0) (window-ring .ensures .1 .0) (window-ring .ensures .1 .1)
+    (c .of-counted .ensures)
 
 pub rumbleog-window-ring-spec : {M : Type 1} → statement M
 rumbleog-window-ring-spec =

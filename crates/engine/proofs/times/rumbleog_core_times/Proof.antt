@@ -21,15 +21,11 @@ same-length-3 : tie.Need-same-length-3
 same-length-3 c = search needs
 
 returns : tie.Need-returns
-returns c = times-told _ _ _ _ _ _ _ (c .before .before .before .before .before .before .before .core-times .ensures .0) (c .before .before .before .before .before .before .before .core-times .ensures .1 .0) (c .before .before .before .before .before .before .before .core-times .ensures .1 .1 .0) (c .before .before .before .before .before .before .before .core-times .ensures .1 .1 .1) (c .of-verdict .ensures)
+returns c =
+    let core-times = c .before .before .before .before .before .before .before .core-times in
+    times-told _ _ _ _ _ _ _ (core-times .ensures .0) (core-times .ensures .1 .0) (core-times .ensures .1 .1 .0)
+    (core-times .ensures .1 .1 .1) (c .of-verdict .ensures)
 
 pub rumbleog-core-times-spec : {M : Type 1} → statement M
 rumbleog-core-times-spec =
-    tie.close
-    (tie.spec
-    core-times-requires
-    of-verdict-requires
-    same-length
-    same-length-2
-    same-length-3
-    returns)
+    tie.close (tie.spec core-times-requires of-verdict-requires same-length same-length-2 same-length-3 returns)

@@ -24,16 +24,16 @@ same-length-4 : tie.Need-same-length-4
 same-length-4 c = search needs
 
 returns : tie.Need-returns
-returns c = minimal-told _ _ _ _ _ _ _ _ (c .before .before .before .before .before .before .before .before .before .minimal-windows .ensures .0) (c .before .before .before .before .before .before .before .before .before .minimal-windows .ensures .1 .0) (c .before .before .before .before .before .before .before .before .before .minimal-windows .ensures .1 .1 .0) (c .before .before .before .before .before .before .before .before .before .minimal-windows .ensures .1 .1 .1 .0) (c .before .before .before .before .before .before .before .before .before .minimal-windows .ensures .1 .1 .1 .1) (c .of-counted .ensures)
+returns c =
+    let minimal-windows = c .before .before .before .before .before .before .before .before .before .minimal-windows in
+    minimal-told _ _ _ _ _ _ _ _ (minimal-windows .ensures .0) (minimal-windows .ensures .1 .0)
+    (minimal-windows .ensures .1 .1 .0) (minimal-windows .ensures .1 .1 .1 .0) (minimal-windows .ensures .1 .1 .1 .1)
+    (c .of-counted .ensures)
 
 pub rumbleog-minimal-windows-spec : {M : Type 1} → statement M
 rumbleog-minimal-windows-spec =
     tie.close
-    (tie.spec
-    minimal-windows-requires
-    of-counted-requires
-    same-length
-    same-length-2
-    same-length-3
-    same-length-4
-    returns)
+    (
+    tie.spec minimal-windows-requires of-counted-requires same-length same-length-2 same-length-3 same-length-4
+    returns
+    )

@@ -36,7 +36,12 @@ slice-aggregate-has-room-4 c = search needs
 
 -- src/list.rt:377:9
 has-room-requires : tie.Need-has-room-requires
-has-room-requires c κs = (c .before .before .before .before .before .before .before .before .before .before .before .before .before .before .before .before .before .before .before .pre .0, (c .before .before .before .before .before .before .before .before .before .before .prepare .ensures, ((c .before .before .before .before .before .before .before .before .before .before .before .before .before .before .before .before .before .before .before .pre .1 .0, c .before .before .before .before .before .before .before .before .before .before .before .before .before .before .before .before .before .before .before .pre .1 .2, c .before .before .before .before .before .before .before .before .before .before .before .before .before .before .before .before .before .before .before .pre .1 .3, refl, refl, refl, refl), (c .before .before .before .before .before .before .before .before .before .before .before .before .before .before .before .before .before .before .before .pre .1 .1, c .before .before .before .before .before .before .before .before .before .before .before .before .before .before .before .before .before .before .before .pre .1 .4, c .before .before .before .before .before .before .before .before .before .before .before .before .before .before .before .before .before .before .before .pre .1 .5))))
+has-room-requires c κs =
+    let prepare = c .before .before .before .before .before .before .before .before .before .before .prepare in
+    let pre = c .before .before .before .before .before .before .before .before .before .before .before .before .before .before .before .before .before .before .before .pre in (
+      pre .0,
+      (prepare .ensures, ((pre .1 .0, pre .1 .2, pre .1 .3, refl, refl, refl, refl), (pre .1 .1, pre .1 .4, pre .1 .5))),
+    )
 
 -- src/list.rt:394:9
 clear-requires : tie.Need-clear-requires
@@ -56,11 +61,22 @@ same-length-3 c = search needs
 
 -- src/list.rt:395:9
 same-length-4 : tie.Need-same-length-4
-same-length-4 c = c .before .before .clear .kept .0 ∙ (c .before .before .before .before .before .before .before .before .before .before .before .before .before .before .before .before .before .has-room .kept .1 .1 .1 .0 ∙ c .before .before .before .before .before .before .before .before .before .before .before .before .before .before .before .before .before .before .before .before .before .before .before .before .before .before .before .before .prepare .kept .1 .1 .1 .0)
+same-length-4 c =
+    let clear = c .before .before .clear in
+    let has-room = c .before .before .before .before .before .before .before .before .before .before .before .before .before .before .before .before .before .has-room in
+    let prepare = c .before .before .before .before .before .before .before .before .before .before .before .before .before .before .before .before .before .before .before .before .before .before .before .before .before .before .before .before .prepare in
+    clear .kept .0 ∙ (has-room .kept .1 .1 .1 .0 ∙ prepare .kept .1 .1 .1 .0)
 
 -- src/list.rt:395:9
 returns : tie.Need-returns
-returns c = find-refused _ _ _ _ (c .before .before .before .before .before .before .before .before .before .before .before .before .before .before .before .before .before .before .before .before .before .before .before .before .before .before .before .before .before .before .before .before .before .before .before .before .before .args .scratch .now) (c .before .before .before .before .before .before .before .before .before .before .before .before .before .before .before .before .before .has-room .ensures .0) (not-true _ (c .before .before .before .before .if1 .taken)) (c .before .before .clear .ensures ∙ ap (λ (m : ℕ). replicate m 0) (c .before .before .before .before .before .before .before .before .before .before .before .before .before .before .before .before .before .has-room .kept .1 .1 .1 .0 ∙ c .before .before .before .before .before .before .before .before .before .before .before .before .before .before .before .before .before .before .before .before .before .before .before .before .before .before .before .before .prepare .kept .1 .1 .1 .0))
+returns c =
+    let clear = c .before .before .clear in
+    let if1 = c .before .before .before .before .if1 in
+    let has-room = c .before .before .before .before .before .before .before .before .before .before .before .before .before .before .before .before .before .has-room in
+    let prepare = c .before .before .before .before .before .before .before .before .before .before .before .before .before .before .before .before .before .before .before .before .before .before .before .before .before .before .before .before .prepare in
+    let args = c .before .before .before .before .before .before .before .before .before .before .before .before .before .before .before .before .before .before .before .before .before .before .before .before .before .before .before .before .before .before .before .before .before .before .before .before .before .args in
+    find-refused _ _ _ _ (args .scratch .now) (has-room .ensures .0) (not-true _ (if1 .taken))
+    (clear .ensures ∙ ap (λ (m : ℕ). replicate m 0) (has-room .kept .1 .1 .1 .0 ∙ prepare .kept .1 .1 .1 .0))
 
 -- src/list.rt:407:9
 slice-aggregate-pass : tie.Need-slice-aggregate-pass
@@ -80,7 +96,24 @@ slice-aggregate-pass-4 c = search needs
 
 -- src/list.rt:398:9
 pass-requires : tie.Need-pass-requires
-pass-requires c κs = (c .before .before .before .before .before .before .before .before .before .before .before .before .before .before .before .before .before .before .before .before .before .before .before .before .before .before .before .before .before .before .before .before .before .before .before .before .before .before .before .before .before .pre .0, (c .before .before .before .before .before .before .before .before .before .before .before .before .before .before .before .before .before .before .before .before .before .has-room .ensures .1, ((c .before .before .before .before .before .before .before .before .before .before .before .before .before .before .before .before .before .before .before .before .before .before .before .before .before .before .before .before .before .before .before .before .before .before .before .before .before .before .before .before .before .pre .1 .0, c .before .before .before .before .before .before .before .before .before .before .before .before .before .before .before .before .before .before .before .before .before .before .before .before .before .before .before .before .before .before .before .before .before .before .before .before .before .before .before .before .before .pre .1 .2, c .before .before .before .before .before .before .before .before .before .before .before .before .before .before .before .before .before .before .before .before .before .before .before .before .before .before .before .before .before .before .before .before .before .before .before .before .before .before .before .before .before .pre .1 .3, c .before .before .before .before .before .before .before .before .before .before .before .before .before .before .before .before .before .before .before .before .before .has-room .kept .1 .1 .1 .1 .1 .1 .1 .0, c .before .before .before .before .before .before .before .before .before .before .before .before .before .before .before .before .before .before .before .before .before .has-room .kept .1 .1 .1 .1 .1 .1 .1 .1 .0, c .before .before .before .before .before .before .before .before .before .before .before .before .before .before .before .before .before .before .before .before .before .has-room .kept .1 .1 .1 .1 .1 .1 .1 .1 .1 .0, c .before .before .before .before .before .before .before .before .before .before .before .before .before .before .before .before .before .before .before .before .before .has-room .kept .1 .1 .1 .1 .1 .1 .1 .1 .1 .1 .0), (omega arith, c .before .before .before .before .before .before .before .before .before .before .before .before .before .before .before .before .before .before .before .before .before .has-room .kept .1 .1 .1 .1 .1 .1 .1 .1 .1 .1 .1 .1 .0 ∙ (c .before .before .before .before .before .before .before .before .before .before .before .before .before .before .before .before .before .before .before .before .before .before .before .before .before .before .before .before .before .before .before .before .before .before .before .before .before .before .before .before .before .pre .1 .4 ∙ sym (c .before .before .before .before .before .before .before .before .before .before .before .before .before .before .before .before .before .before .before .before .before .has-room .kept .1 .1 .1 .1 .1 .1 .1 .1 .1 .1 .1 .0)), c .before .before .before .before .before .before .before .before .before .before .before .before .before .before .before .before .before .before .before .before .before .has-room .kept .1 .1 .1 .1 .1 .1 .1 .1 .1 .1 .1 .1 .1 .0 ∙ (c .before .before .before .before .before .before .before .before .before .before .before .before .before .before .before .before .before .before .before .before .before .before .before .before .before .before .before .before .before .before .before .before .before .before .before .before .before .before .before .before .before .pre .1 .5 ∙ sym (c .before .before .before .before .before .before .before .before .before .before .before .before .before .before .before .before .before .before .before .before .before .has-room .kept .1 .1 .1 .1 .1 .1 .1 .1 .1 .1 .1 .0))))))
+pass-requires c κs =
+    let has-room = c .before .before .before .before .before .before .before .before .before .before .before .before .before .before .before .before .before .before .before .before .before .has-room in
+    let pre = c .before .before .before .before .before .before .before .before .before .before .before .before .before .before .before .before .before .before .before .before .before .before .before .before .before .before .before .before .before .before .before .before .before .before .before .before .before .before .before .before .before .pre in (
+      pre .0,
+      (
+        has-room .ensures .1,
+        (
+          (pre .1 .0, pre .1 .2, pre .1 .3, has-room .kept .1 .1 .1 .1 .1 .1 .1 .0, has-room .kept .1 .1 .1 .1 .1 .1 .1 .1 .0, has-room .kept .1 .1 .1 .1 .1 .1 .1 .1 .1 .0, has-room .kept .1 .1 .1 .1 .1 .1 .1 .1 .1 .1 .0),
+          (
+            omega arith,
+            has-room .kept .1 .1 .1 .1 .1 .1 .1 .1 .1 .1 .1 .1 .0 ∙
+                (pre .1 .4 ∙ sym (has-room .kept .1 .1 .1 .1 .1 .1 .1 .1 .1 .1 .1 .0)),
+            has-room .kept .1 .1 .1 .1 .1 .1 .1 .1 .1 .1 .1 .1 .1 .0 ∙
+                (pre .1 .5 ∙ sym (has-room .kept .1 .1 .1 .1 .1 .1 .1 .1 .1 .1 .1 .0)),
+          ),
+        ),
+      ),
+    )
 
 -- src/list.rt:415:5
 clear-requires-2 : tie.Need-clear-requires-2
@@ -100,36 +133,35 @@ same-length-7 c = search needs
 
 -- src/list.rt:352:1
 same-length-8 : tie.Need-same-length-8
-same-length-8 c = c .before .before .clear2 .kept .0 ∙ (c .before .before .before .before .before .before .before .before .before .before .before .before .before .before .before .before .pass .kept .1 .1 .1 .0 ∙ (c .before .before .before .before .before .before .before .before .before .before .before .before .before .before .before .before .before .before .before .before .before .before .before .before .before .before .before .before .before .before .before .before .before .before .before .before .before .before .has-room .kept .1 .1 .1 .0 ∙ c .before .before .before .before .before .before .before .before .before .before .before .before .before .before .before .before .before .before .before .before .before .before .before .before .before .before .before .before .before .before .before .before .before .before .before .before .before .before .before .before .before .before .before .before .before .before .before .before .before .prepare .kept .1 .1 .1 .0))
+same-length-8 c =
+    let clear2 = c .before .before .clear2 in
+    let pass = c .before .before .before .before .before .before .before .before .before .before .before .before .before .before .before .before .pass in
+    let has-room = c .before .before .before .before .before .before .before .before .before .before .before .before .before .before .before .before .before .before .before .before .before .before .before .before .before .before .before .before .before .before .before .before .before .before .before .before .before .before .has-room in
+    let prepare = c .before .before .before .before .before .before .before .before .before .before .before .before .before .before .before .before .before .before .before .before .before .before .before .before .before .before .before .before .before .before .before .before .before .before .before .before .before .before .before .before .before .before .before .before .before .before .before .before .before .prepare in
+    clear2 .kept .0 ∙ (pass .kept .1 .1 .1 .0 ∙ (has-room .kept .1 .1 .1 .0 ∙ prepare .kept .1 .1 .1 .0))
 
 -- src/list.rt:352:1
 returns-2 : tie.Need-returns-2
-returns-2 c = find-done _ _ _ _ (c .before .before .before .before .before .before .before .before .before .before .before .before .before .before .before .before .before .before .before .before .before .before .before .before .before .before .before .before .before .before .before .before .before .before .before .before .before .before .before .before .before .before .before .before .before .before .before .before .before .before .before .before .before .before .before .before .before .before .args .scratch .now) (c .before .before .before .before .before .before .before .before .before .before .before .before .before .before .before .before .before .before .before .before .before .before .before .before .before .before .before .before .before .before .before .before .before .before .before .before .before .before .has-room .ensures .0) (not-false _ (c .before .before .before .before .before .before .before .before .before .before .before .before .before .before .before .before .before .before .before .before .before .before .before .before .before .if1 .left)) refl (c .before .before .before .before .before .before .before .before .before .before .before .before .before .before .before .before .pass .ensures .0) (c .before .before .clear2 .ensures ∙ ap (λ (m : ℕ). replicate m 0) (c .before .before .before .before .before .before .before .before .before .before .before .before .before .before .before .before .pass .kept .1 .1 .1 .0 ∙ (c .before .before .before .before .before .before .before .before .before .before .before .before .before .before .before .before .before .before .before .before .before .before .before .before .before .before .before .before .before .before .before .before .before .before .before .before .before .before .has-room .kept .1 .1 .1 .0 ∙ c .before .before .before .before .before .before .before .before .before .before .before .before .before .before .before .before .before .before .before .before .before .before .before .before .before .before .before .before .before .before .before .before .before .before .before .before .before .before .before .before .before .before .before .before .before .before .before .before .before .prepare .kept .1 .1 .1 .0)))
+returns-2 c =
+    let clear2 = c .before .before .clear2 in
+    let pass = c .before .before .before .before .before .before .before .before .before .before .before .before .before .before .before .before .pass in
+    let if1 = c .before .before .before .before .before .before .before .before .before .before .before .before .before .before .before .before .before .before .before .before .before .before .before .before .before .if1 in
+    let has-room = c .before .before .before .before .before .before .before .before .before .before .before .before .before .before .before .before .before .before .before .before .before .before .before .before .before .before .before .before .before .before .before .before .before .before .before .before .before .before .has-room in
+    let prepare = c .before .before .before .before .before .before .before .before .before .before .before .before .before .before .before .before .before .before .before .before .before .before .before .before .before .before .before .before .before .before .before .before .before .before .before .before .before .before .before .before .before .before .before .before .before .before .before .before .before .prepare in
+    let args = c .before .before .before .before .before .before .before .before .before .before .before .before .before .before .before .before .before .before .before .before .before .before .before .before .before .before .before .before .before .before .before .before .before .before .before .before .before .before .before .before .before .before .before .before .before .before .before .before .before .before .before .before .before .before .before .before .before .before .args in
+    find-done _ _ _ _ (args .scratch .now) (has-room .ensures .0) (not-false _ (if1 .left)) refl (pass .ensures .0)
+    (
+    clear2 .ensures ∙ ap (λ (m : ℕ). replicate m 0)
+    (pass .kept .1 .1 .1 .0 ∙ (has-room .kept .1 .1 .1 .0 ∙ prepare .kept .1 .1 .1 .0))
+    )
 
 pub find-rings-spec : {M : Type 1} → statement M
 find-rings-spec =
     tie.close
-    (tie.spec
-    prepare-requires
-    slice-aggregate-has-room
-    slice-aggregate-has-room-2
-    slice-aggregate-has-room-3
-    slice-aggregate-has-room-4
-    has-room-requires
-    clear-requires
-    same-length
-    same-length-2
-    same-length-3
-    same-length-4
-    returns
-    slice-aggregate-pass
-    slice-aggregate-pass-2
-    slice-aggregate-pass-3
-    slice-aggregate-pass-4
-    pass-requires
-    clear-requires-2
-    same-length-5
-    same-length-6
-    same-length-7
-    same-length-8
-    returns-2)
+    (
+    tie.spec prepare-requires slice-aggregate-has-room slice-aggregate-has-room-2 slice-aggregate-has-room-3
+    slice-aggregate-has-room-4 has-room-requires clear-requires same-length same-length-2 same-length-3
+    same-length-4 returns slice-aggregate-pass slice-aggregate-pass-2 slice-aggregate-pass-3
+    slice-aggregate-pass-4 pass-requires clear-requires-2 same-length-5 same-length-6 same-length-7 same-length-8
+    returns-2
+    )

@@ -19,48 +19,60 @@ loop-holds c = (uncounted-start _ _, omega (arith, c .pre .0))
 
 -- src/list.rt:213:19
 cast-if1 : tie.Need-cast-if1 Inv-loop μ-loop
-cast-if1 c = omega (arith, c .loop-test .taken, c .before .before .pre .1)
+cast-if1 c =
+    let pre = c .before .before .pre in
+    omega (arith, c .loop-test .taken, pre .1)
 
 -- src/list.rt:213:12
 mul-if1 : tie.Need-mul-if1 Inv-loop μ-loop
-mul-if1 c = omega (arith, c .loop-test .taken, c .before .before .pre .1)
+mul-if1 c =
+    let pre = c .before .before .pre in
+    omega (arith, c .loop-test .taken, pre .1)
 
 -- src/list.rt:213:12
 shared-slice-read-if1 : tie.Need-shared-slice-read-if1 Inv-loop μ-loop
-shared-slice-read-if1 c = omega (arith, c .before .loop-test .taken, c .before .before .before .pre .1, c .before .before .before .pre .2)
+shared-slice-read-if1 c =
+    let loop-test = c .before .loop-test in
+    let pre = c .before .before .before .pre in
+    omega (arith, loop-test .taken, pre .1, pre .2)
 
 -- src/list.rt:214:13
 returns : tie.Need-returns Inv-loop μ-loop
-returns c = counted-one (c .before .before .before .loop .inv .0) (c .before .before .loop-test .taken) (c .if1 .taken)
+returns c =
+    let loop-test = c .before .before .loop-test in
+    let loop = c .before .before .before .loop in
+    counted-one (loop .inv .0) (loop-test .taken) (c .if1 .taken)
 
 -- src/list.rt:216:15
 add-day : tie.Need-add-day Inv-loop μ-loop
-add-day c = omega (arith, c .before .before .loop-test .taken, c .before .before .before .before .pre .1)
+add-day c =
+    let loop-test = c .before .before .loop-test in
+    let pre = c .before .before .before .before .pre in
+    omega (arith, loop-test .taken, pre .1)
 
 -- src/list.rt:212:5
 loop-less : tie.Need-loop-less Inv-loop μ-loop
-loop-less c = omega (arith, c .before .before .loop-test .taken)
+loop-less c =
+    let loop-test = c .before .before .loop-test in
+    omega (arith, loop-test .taken)
 
 -- src/list.rt:212:5
 loop-again : tie.Need-loop-again Inv-loop μ-loop
-loop-again c = (uncounted-next (c .before .before .before .loop .inv .0) (c .if1 .left), omega (arith, c .before .before .loop-test .taken))
+loop-again c =
+    let loop-test = c .before .before .loop-test in
+    let loop = c .before .before .before .loop in
+    (uncounted-next (loop .inv .0) (c .if1 .left), omega (arith, loop-test .taken))
 
 -- src/list.rt:207:1
 returns-2 : tie.Need-returns-2 Inv-loop μ-loop
-returns-2 c = counted-none (c .before .loop .inv .0) (c .before .loop .inv .1) (c .loop-test .left)
+returns-2 c =
+    let loop = c .before .loop in
+    counted-none (loop .inv .0) (loop .inv .1) (c .loop-test .left)
 
 pub first-counted-spec : {M : Type 1} → statement M
 first-counted-spec =
     tie.close
-    (tie.spec
-    Inv-loop
-    μ-loop
-    loop-holds
-    cast-if1
-    mul-if1
-    shared-slice-read-if1
-    returns
-    add-day
-    loop-less
-    loop-again
-    returns-2)
+    (
+    tie.spec Inv-loop μ-loop loop-holds cast-if1 mul-if1 shared-slice-read-if1 returns add-day loop-less loop-again
+    returns-2
+    )

@@ -23,7 +23,9 @@ cast-most c = search needs
 
 -- src/list.rt:327:19
 most-requires : tie.Need-most-requires
-most-requires c κs = omega (arith, c .before .before .before .before .before .before .before .before .before .before .before .pre .1 .1 .1 .0, c .before .before .before .before .before .before .before .before .before .before .before .pre .1 .1 .0 .1, c .before .before .before .before .before .before .before .before .before .before .before .pre .1 .1 .0 .2)
+most-requires c κs =
+    let pre = c .before .before .before .before .before .before .before .before .before .before .before .pre in
+    omega (arith, pre .1 .1 .1 .0, pre .1 .1 .0 .1, pre .1 .1 .0 .2)
 
 -- src/list.rt:327:19
 cast-longest : tie.Need-cast-longest
@@ -31,11 +33,16 @@ cast-longest c = search needs
 
 -- src/list.rt:329:9
 returns : tie.Need-returns
-returns c = ((room-most _ _ _ _ (c .before .most .ensures) (c .if1 .taken), refl, refl, refl), c .before .before .before .before .before .before .before .before .before .before .before .before .before .pre .1 .0)
+returns c =
+    let most = c .before .most in
+    let pre = c .before .before .before .before .before .before .before .before .before .before .before .before .before .pre in
+    ((room-most _ _ _ _ (most .ensures) (c .if1 .taken), refl, refl, refl), pre .1 .0)
 
 -- src/list.rt:331:9
 pass-requires : tie.Need-pass-requires
-pass-requires c κs = (c .before .before .before .before .before .before .before .before .before .before .before .before .before .before .before .before .before .before .before .before .before .pre .0, (c .before .before .before .before .before .before .before .before .before .before .before .before .before .before .before .before .before .before .before .before .before .pre .1 .0, (c .before .before .before .before .before .before .before .before .before .before .before .before .before .before .before .before .before .before .before .before .before .pre .1 .1 .0, (omega arith, c .before .before .before .before .before .before .before .before .before .before .before .before .before .before .before .before .before .before .before .before .before .pre .1 .1 .1 .1, c .before .before .before .before .before .before .before .before .before .before .before .before .before .before .before .before .before .before .before .before .before .pre .1 .1 .1 .2))))
+pass-requires c κs =
+    let pre = c .before .before .before .before .before .before .before .before .before .before .before .before .before .before .before .before .before .before .before .before .before .pre in
+    (pre .0, (pre .1 .0, (pre .1 .1 .0, (omega arith, pre .1 .1 .1 .1, pre .1 .1 .1 .2))))
 
 -- src/list.rt:304:1
 same-length : tie.Need-same-length
@@ -71,25 +78,14 @@ same-length-8 c = search needs
 
 -- src/list.rt:304:1
 returns-2 : tie.Need-returns-2
-returns-2 c = (room-counted _ _ _ _ (c .before .before .before .before .before .before .before .before .before .before .before .before .before .before .before .before .before .pass .ensures .0), c .before .before .before .before .before .before .before .before .before .before .before .before .before .before .before .before .before .pass .ensures .1)
+returns-2 c =
+    let pass = c .before .before .before .before .before .before .before .before .before .before .before .before .before .before .before .before .before .pass in
+    (room-counted _ _ _ _ (pass .ensures .0), pass .ensures .1)
 
 pub has-room-spec : {M : Type 1} → statement M
 has-room-spec =
     tie.close
-    (tie.spec
-    add-most
-    sub-most
-    cast-most
-    most-requires
-    cast-longest
-    returns
-    pass-requires
-    same-length
-    same-length-2
-    same-length-3
-    same-length-4
-    same-length-5
-    same-length-6
-    same-length-7
-    same-length-8
-    returns-2)
+    (
+    tie.spec add-most sub-most cast-most most-requires cast-longest returns pass-requires same-length same-length-2
+    same-length-3 same-length-4 same-length-5 same-length-6 same-length-7 same-length-8 returns-2
+    )

@@ -23,11 +23,29 @@ abbrev μ-loop : tie.MeasureT-loop
 
 -- src/list.rt:128:9
 returns : tie.Need-returns Inv-loop μ-loop
-returns c = (omega arith, omega arith, λ goal rest x y z P. ends-none (c .before .before .before .before .before .args .counts .now) _ _ _ (c .if1 .taken) (omega (arith, c .before .before .before .before .before .pre .0 .0, c .before .before .before .before .before .pre .0 .4 .order)) rest P)
+returns c =
+    let args = c .before .before .before .before .before .args in
+    let pre = c .before .before .before .before .before .pre in (
+      omega arith,
+      omega arith,
+      λ goal rest x y z P. ends-none (args .counts .now) _ _ _ (c .if1 .taken)
+          (omega (arith, pre .0 .0, pre .0 .4 .order)) rest P,
+    )
 
 -- src/list.rt:134:5
 loop-holds : tie.Need-loop-holds Inv-loop μ-loop
-loop-holds c = (omega arith, omega (arith, c .before .before .before .before .before .pre .0 .0), omega arith, omega arith, omega (arith, c .before .before .before .before .before .pre .0 .3), refl, refl, refl, λ goal rest x y z P. ends-from _ _ _ _ _ (c .before .before .before .before .before .pre .0 .0) (c .before .before .before .before .before .pre .0 .4) rest P)
+loop-holds c =
+    let pre = c .before .before .before .before .before .pre in (
+      omega arith,
+      omega (arith, pre .0 .0),
+      omega arith,
+      omega arith,
+      omega (arith, pre .0 .3),
+      refl,
+      refl,
+      refl,
+      λ goal rest x y z P. ends-from _ _ _ _ _ (pre .0 .0) (pre .0 .4) rest P,
+    )
 
 -- src/list.rt:135:28
 cast-added : tie.Need-cast-added Inv-loop μ-loop
@@ -35,15 +53,24 @@ cast-added c = search needs
 
 -- src/list.rt:135:21
 mul-added : tie.Need-mul-added Inv-loop μ-loop
-mul-added c = omega (arith, c .loop-test .taken, c .before .before .before .before .before .before .before .pre .0 .1)
+mul-added c =
+    let pre = c .before .before .before .before .before .before .before .pre in
+    omega (arith, c .loop-test .taken, pre .0 .1)
 
 -- src/list.rt:135:21
 shared-slice-read-added : tie.Need-shared-slice-read-added Inv-loop μ-loop
-shared-slice-read-added c = omega (arith, c .before .loop-test .taken, c .before .before .before .before .before .before .before .before .pre .0 .1, c .before .before .before .before .before .before .before .before .pre .0 .2)
+shared-slice-read-added c =
+    let loop-test = c .before .loop-test in
+    let pre = c .before .before .before .before .before .before .before .before .pre in
+    omega (arith, loop-test .taken, pre .0 .1, pre .0 .2)
 
 -- src/list.rt:136:17
 add-total : tie.Need-add-total Inv-loop μ-loop
-add-total c = omega (arith, c .before .before .loop .inv .4, sum-next (c .before .before .before .before .before .before .before .before .args .counts .now) (c .before .before .before .before .before .before .before .before .args .te) (c .before .before .loop .e) (c .before .loop-test .taken))
+add-total c =
+    let loop-test = c .before .loop-test in
+    let loop = c .before .before .loop in
+    let args = c .before .before .before .before .before .before .before .before .args in
+    omega (arith, loop .inv .4, sum-next (args .counts .now) (args .te) (loop .e) (loop-test .taken))
 
 -- src/list.rt:137:13
 is-listed-requires : tie.Need-is-listed-requires Inv-loop μ-loop
@@ -51,84 +78,152 @@ is-listed-requires c κs = search needs
 
 -- src/list.rt:139:17
 add-e : tie.Need-add-e Inv-loop μ-loop
-add-e c = omega (arith, c .before .before .before .loop-test .taken, c .before .before .before .before .before .before .before .before .before .before .pre .0 .1)
+add-e c =
+    let loop-test = c .before .before .before .loop-test in
+    let pre = c .before .before .before .before .before .before .before .before .before .before .pre in
+    omega (arith, loop-test .taken, pre .0 .1)
 
 -- src/list.rt:134:5
 loop-less : tie.Need-loop-less Inv-loop μ-loop
-loop-less c = omega (arith, c .before .before .before .loop-test .taken)
+loop-less c =
+    let loop-test = c .before .before .before .loop-test in
+    omega (arith, loop-test .taken)
 
 -- src/list.rt:134:5
 loop-again : tie.Need-loop-again Inv-loop μ-loop
-loop-again c = (omega (arith, c .before .before .before .before .loop .inv .0), omega (arith, c .before .before .before .loop-test .taken), omega (arith, c .before .before .before .before .loop .inv .0, c .before .before .before .before .loop .inv .2), omega (arith, c .before .before .before .before .loop .inv .0, c .before .before .before .before .loop .inv .3), omega (arith, c .before .before .before .before .loop .inv .4, sum-next (c .before .before .before .before .before .before .before .before .before .before .args .counts .now) (c .before .before .before .before .before .before .before .before .before .before .args .te) (c .before .before .before .before .loop .e) (c .before .before .before .loop-test .taken)), c .before .before .before .before .loop .inv .5, c .before .before .before .before .loop .inv .6, c .before .before .before .before .loop .inv .7, λ goal rest x y z P. ends-skip (c .before .before .before .before .before .before .before .before .before .before .args .counts .now) _ _ _ _ _ (c .before .before .before .loop-test .taken) (c .before .is-listed .ensures) rest (c .before .before .before .before .loop .inv .8 goal rest x y z P) (not-true _ (c .if2 .taken)))
+loop-again c =
+    let is-listed = c .before .is-listed in
+    let loop-test = c .before .before .before .loop-test in
+    let loop = c .before .before .before .before .loop in
+    let args = c .before .before .before .before .before .before .before .before .before .before .args in (
+      omega (arith, loop .inv .0),
+      omega (arith, loop-test .taken),
+      omega (arith, loop .inv .0, loop .inv .2),
+      omega (arith, loop .inv .0, loop .inv .3),
+      omega (arith, loop .inv .4, sum-next (args .counts .now) (args .te) (loop .e) (loop-test .taken)),
+      loop .inv .5,
+      loop .inv .6,
+      loop .inv .7,
+      λ goal rest x y z P. ends-skip (args .counts .now) _ _ _ _ _ (loop-test .taken) (is-listed .ensures) rest
+          (loop .inv .8 goal rest x y z P) (not-true _ (c .if2 .taken)),
+    )
 
 -- src/list.rt:142:9
 enter-requires : tie.Need-enter-requires Inv-loop μ-loop
-enter-requires c κs = (omega (arith, c .before .before .before .before .before .before .before .before .before .before .before .before .before .pre .1 .0, c .before .before .before .before .before .before .before .loop .inv .5), c .before .before .before .before .before .before .before .loop .inv .6 ∙ (c .before .before .before .before .before .before .before .before .before .before .before .before .before .pre .1 .1 ∙ sym (c .before .before .before .before .before .before .before .loop .inv .5)), c .before .before .before .before .before .before .before .loop .inv .7 ∙ (c .before .before .before .before .before .before .before .before .before .before .before .before .before .pre .1 .2 ∙ sym (c .before .before .before .before .before .before .before .loop .inv .5)))
+enter-requires c κs =
+    let loop = c .before .before .before .before .before .before .before .loop in
+    let pre = c .before .before .before .before .before .before .before .before .before .before .before .before .before .pre in (
+      omega (arith, pre .1 .0, loop .inv .5),
+      loop .inv .6 ∙ (pre .1 .1 ∙ sym (loop .inv .5)),
+      loop .inv .7 ∙ (pre .1 .2 ∙ sym (loop .inv .5)),
+    )
 
 -- src/list.rt:143:17
 add-count : tie.Need-add-count Inv-loop μ-loop
-add-count c = omega (arith, c .before .before .before .before .before .before .before .before .before .before .before .before .before .before .loop .inv .2, c .before .before .before .before .before .before .before .before .before .before .before .before .before .before .before .before .before .before .before .before .pre .1 .3, c .before .before .before .before .before .before .before .before .before .before .before .before .before .loop-test .taken, c .before .before .before .before .before .before .before .before .before .before .before .before .before .before .before .before .before .before .before .before .pre .0 .1)
+add-count c =
+    let loop-test = c .before .before .before .before .before .before .before .before .before .before .before .before .before .loop-test in
+    let loop = c .before .before .before .before .before .before .before .before .before .before .before .before .before .before .loop in
+    let pre = c .before .before .before .before .before .before .before .before .before .before .before .before .before .before .before .before .before .before .before .before .pre in
+    omega (arith, loop .inv .2, pre .1 .3, loop-test .taken, pre .0 .1)
 
 -- src/list.rt:144:25
 cast-whole : tie.Need-cast-whole Inv-loop μ-loop
-cast-whole c = omega (arith, c .before .before .before .before .before .before .before .before .before .before .before .before .before .before .loop .inv .4, sum-next (c .before .before .before .before .before .before .before .before .before .before .before .before .before .before .before .before .before .before .before .before .args .counts .now) (c .before .before .before .before .before .before .before .before .before .before .before .before .before .before .before .before .before .before .before .before .args .te) (c .before .before .before .before .before .before .before .before .before .before .before .before .before .before .loop .e) (c .before .before .before .before .before .before .before .before .before .before .before .before .before .loop-test .taken))
+cast-whole c =
+    let loop-test = c .before .before .before .before .before .before .before .before .before .before .before .before .before .loop-test in
+    let loop = c .before .before .before .before .before .before .before .before .before .before .before .before .before .before .loop in
+    let args = c .before .before .before .before .before .before .before .before .before .before .before .before .before .before .before .before .before .before .before .before .args in
+    omega (arith, loop .inv .4, sum-next (args .counts .now) (args .te) (loop .e) (loop-test .taken))
 
 -- src/list.rt:144:17
 add-whole : tie.Need-add-whole Inv-loop μ-loop
-add-whole c = omega (arith, c .before .before .before .before .before .before .before .before .before .before .before .before .before .before .loop .inv .3, c .before .before .before .before .before .before .before .before .before .before .before .before .before .before .loop .inv .4, sum-next (c .before .before .before .before .before .before .before .before .before .before .before .before .before .before .before .before .before .before .before .before .args .counts .now) (c .before .before .before .before .before .before .before .before .before .before .before .before .before .before .before .before .before .before .before .before .args .te) (c .before .before .before .before .before .before .before .before .before .before .before .before .before .before .loop .e) (c .before .before .before .before .before .before .before .before .before .before .before .before .before .loop-test .taken), c .before .before .before .before .before .before .before .before .before .before .before .before .before .before .before .before .before .before .before .before .pre .1 .4, c .before .before .before .before .before .before .before .before .before .before .before .before .before .loop-test .taken, c .before .before .before .before .before .before .before .before .before .before .before .before .before .before .before .before .before .before .before .before .pre .0 .1)
+add-whole c =
+    let loop-test = c .before .before .before .before .before .before .before .before .before .before .before .before .before .loop-test in
+    let loop = c .before .before .before .before .before .before .before .before .before .before .before .before .before .before .loop in
+    let args = c .before .before .before .before .before .before .before .before .before .before .before .before .before .before .before .before .before .before .before .before .args in
+    let pre = c .before .before .before .before .before .before .before .before .before .before .before .before .before .before .before .before .before .before .before .before .pre in
+    omega (
+      arith,
+      loop .inv .3,
+      loop .inv .4,
+      sum-next (args .counts .now) (args .te) (loop .e) (loop-test .taken),
+      pre .1 .4,
+      loop-test .taken,
+      pre .0 .1,
+    )
 
 -- src/list.rt:145:13
 add-e-2 : tie.Need-add-e-2 Inv-loop μ-loop
-add-e-2 c = omega (arith, c .before .before .before .before .before .before .before .before .before .before .before .before .before .loop-test .taken, c .before .before .before .before .before .before .before .before .before .before .before .before .before .before .before .before .before .before .before .before .pre .0 .1)
+add-e-2 c =
+    let loop-test = c .before .before .before .before .before .before .before .before .before .before .before .before .before .loop-test in
+    let pre = c .before .before .before .before .before .before .before .before .before .before .before .before .before .before .before .before .before .before .before .before .pre in
+    omega (arith, loop-test .taken, pre .0 .1)
 
 -- src/list.rt:134:5
 loop-less-2 : tie.Need-loop-less-2 Inv-loop μ-loop
-loop-less-2 c = omega (arith, c .before .before .before .before .before .before .before .before .before .before .before .before .before .loop-test .taken)
+loop-less-2 c =
+    let loop-test = c .before .before .before .before .before .before .before .before .before .before .before .before .before .loop-test in
+    omega (arith, loop-test .taken)
 
 -- src/list.rt:134:5
 loop-again-2 : tie.Need-loop-again-2 Inv-loop μ-loop
-loop-again-2 c = (omega (arith, c .before .before .before .before .before .before .before .before .before .before .before .before .before .before .loop .inv .0), omega (arith, c .before .before .before .before .before .before .before .before .before .before .before .before .before .loop-test .taken), omega (arith, c .before .before .before .before .before .before .before .before .before .before .before .before .before .before .loop .inv .0, c .before .before .before .before .before .before .before .before .before .before .before .before .before .before .loop .inv .2), omega (arith, c .before .before .before .before .before .before .before .before .before .before .before .before .before .before .loop .inv .0, c .before .before .before .before .before .before .before .before .before .before .before .before .before .before .loop .inv .3, c .before .before .before .before .before .before .before .before .before .before .before .before .before .before .loop .inv .4, sum-next (c .before .before .before .before .before .before .before .before .before .before .before .before .before .before .before .before .before .before .before .before .args .counts .now) (c .before .before .before .before .before .before .before .before .before .before .before .before .before .before .before .before .before .before .before .before .args .te) (c .before .before .before .before .before .before .before .before .before .before .before .before .before .before .loop .e) (c .before .before .before .before .before .before .before .before .before .before .before .before .before .loop-test .taken)), omega (arith, c .before .before .before .before .before .before .before .before .before .before .before .before .before .before .loop .inv .4, sum-next (c .before .before .before .before .before .before .before .before .before .before .before .before .before .before .before .before .before .before .before .before .args .counts .now) (c .before .before .before .before .before .before .before .before .before .before .before .before .before .before .before .before .before .before .before .before .args .te) (c .before .before .before .before .before .before .before .before .before .before .before .before .before .before .loop .e) (c .before .before .before .before .before .before .before .before .before .before .before .before .before .loop-test .taken)), enter-lengths (c .before .before .before .before .before .before .enter .ensures) .0 ∙ c .before .before .before .before .before .before .before .before .before .before .before .before .before .before .loop .inv .5, enter-lengths (c .before .before .before .before .before .before .enter .ensures) .1 ∙ c .before .before .before .before .before .before .before .before .before .before .before .before .before .before .loop .inv .6, enter-lengths (c .before .before .before .before .before .before .enter .ensures) .2 ∙ c .before .before .before .before .before .before .before .before .before .before .before .before .before .before .loop .inv .7, λ goal rest x y z P. ends-one (c .before .before .before .before .before .before .before .before .before .before .before .before .before .before .before .before .before .before .before .before .args .counts .now) _ _ _ _ _ (c .before .before .before .before .before .before .before .before .before .before .before .before .before .loop-test .taken) (c .before .before .before .before .before .before .before .before .before .before .before .is-listed .ensures) rest (c .before .before .before .before .before .before .before .before .before .before .before .before .before .before .loop .inv .8 goal rest x y z P) (not-false _ (c .before .before .before .before .before .before .before .before .before .before .if2 .left)) (omega (arith, c .before .before .before .before .before .before .before .before .before .before .before .before .before .before .before .before .before .before .before .before .pre .1 .0, c .before .before .before .before .before .before .before .before .before .before .before .before .before .before .loop .inv .5)) (c .before .before .before .before .before .before .before .before .before .before .before .before .before .before .loop .inv .6 ∙ (c .before .before .before .before .before .before .before .before .before .before .before .before .before .before .before .before .before .before .before .before .pre .1 .1 ∙ sym (c .before .before .before .before .before .before .before .before .before .before .before .before .before .before .loop .inv .5))) (c .before .before .before .before .before .before .before .before .before .before .before .before .before .before .loop .inv .7 ∙ (c .before .before .before .before .before .before .before .before .before .before .before .before .before .before .before .before .before .before .before .before .pre .1 .2 ∙ sym (c .before .before .before .before .before .before .before .before .before .before .before .before .before .before .loop .inv .5))) (c .before .before .before .before .before .before .enter .ensures))
+loop-again-2 c =
+    let enter = c .before .before .before .before .before .before .enter in
+    let if2 = c .before .before .before .before .before .before .before .before .before .before .if2 in
+    let is-listed = c .before .before .before .before .before .before .before .before .before .before .before .is-listed in
+    let loop-test = c .before .before .before .before .before .before .before .before .before .before .before .before .before .loop-test in
+    let loop = c .before .before .before .before .before .before .before .before .before .before .before .before .before .before .loop in
+    let args = c .before .before .before .before .before .before .before .before .before .before .before .before .before .before .before .before .before .before .before .before .args in
+    let pre = c .before .before .before .before .before .before .before .before .before .before .before .before .before .before .before .before .before .before .before .before .pre in (
+      omega (arith, loop .inv .0),
+      omega (arith, loop-test .taken),
+      omega (arith, loop .inv .0, loop .inv .2),
+      omega
+          (arith, loop .inv .0, loop .inv .3, loop .inv .4, sum-next (args .counts .now) (args .te) (loop .e) (loop-test .taken)),
+      omega (arith, loop .inv .4, sum-next (args .counts .now) (args .te) (loop .e) (loop-test .taken)),
+      enter-lengths (enter .ensures) .0 ∙ loop .inv .5,
+      enter-lengths (enter .ensures) .1 ∙ loop .inv .6,
+      enter-lengths (enter .ensures) .2 ∙ loop .inv .7,
+      λ goal rest x y z P. ends-one (args .counts .now) _ _ _ _ _ (loop-test .taken) (is-listed .ensures) rest
+          (loop .inv .8 goal rest x y z P) (not-false _ (if2 .left)) (omega (arith, pre .1 .0, loop .inv .5))
+          (loop .inv .6 ∙ (pre .1 .1 ∙ sym (loop .inv .5))) (loop .inv .7 ∙ (pre .1 .2 ∙ sym (loop .inv .5)))
+          (enter .ensures),
+    )
 
 -- src/list.rt:110:1
 same-length : tie.Need-same-length Inv-loop μ-loop
-same-length c = c .before .loop .inv .5
+same-length c =
+    let loop = c .before .loop in
+    loop .inv .5
 
 -- src/list.rt:110:1
 same-length-2 : tie.Need-same-length-2 Inv-loop μ-loop
-same-length-2 c = c .before .loop .inv .6
+same-length-2 c =
+    let loop = c .before .loop in
+    loop .inv .6
 
 -- src/list.rt:110:1
 same-length-3 : tie.Need-same-length-3 Inv-loop μ-loop
-same-length-3 c = c .before .loop .inv .7
+same-length-3 c =
+    let loop = c .before .loop in
+    loop .inv .7
 
 -- src/list.rt:110:1
 returns-2 : tie.Need-returns-2 Inv-loop μ-loop
-returns-2 c = (omega (arith, c .before .loop .inv .1, c .before .loop .inv .2, c .before .before .before .before .before .before .before .pre .0 .1), omega (arith, c .before .loop .inv .1, c .before .loop .inv .3, c .before .before .before .before .before .before .before .pre .0 .1), λ goal rest x y z P. ends-end (c .before .before .before .before .before .before .before .args .counts .now) _ _ _ _ _ (c .loop-test .left) rest (c .before .loop .inv .8 goal rest x y z P))
+returns-2 c =
+    let loop = c .before .loop in
+    let args = c .before .before .before .before .before .before .before .args in
+    let pre = c .before .before .before .before .before .before .before .pre in (
+      omega (arith, loop .inv .1, loop .inv .2, pre .0 .1),
+      omega (arith, loop .inv .1, loop .inv .3, pre .0 .1),
+      λ goal rest x y z P. ends-end (args .counts .now) _ _ _ _ _ (c .loop-test .left) rest
+          (loop .inv .8 goal rest x y z P),
+    )
 
 pub list-ends-spec : {M : Type 1} → statement M
 list-ends-spec =
     tie.close
-    (tie.spec
-    Inv-loop
-    μ-loop
-    returns
-    loop-holds
-    cast-added
-    mul-added
-    shared-slice-read-added
-    add-total
-    is-listed-requires
-    add-e
-    loop-less
-    loop-again
-    enter-requires
-    add-count
-    cast-whole
-    add-whole
-    add-e-2
-    loop-less-2
-    loop-again-2
-    same-length
-    same-length-2
-    same-length-3
-    returns-2)
+    (
+    tie.spec Inv-loop μ-loop returns loop-holds cast-added mul-added shared-slice-read-added add-total
+    is-listed-requires add-e loop-less loop-again enter-requires add-count cast-whole add-whole add-e-2
+    loop-less-2 loop-again-2 same-length same-length-2 same-length-3 returns-2
+    )

@@ -34,11 +34,41 @@ enum-told c = search needs
 
 -- src/list.rt:439:13
 find-rings-requires : tie.Need-find-rings-requires
-find-rings-requires c κs = (call-sound _ _ _ _ _ _ _ (sym (c .before .before .before .before .before .before .check-call .ensures) ∙ c .before .before .before .before .enum-told .given .1), (call-k _ _ _ _ _ _ _ (sym (c .before .before .before .before .before .before .check-call .ensures) ∙ c .before .before .before .before .enum-told .given .1) .0, window-e (c .before .before .before .before .before .before .before .before .before .before .before .before .before .before .before .before .args .ts) (c .before .before .before .before .before .before .before .before .before .before .before .before .before .before .before .before .args .te) (c .before .before .before .before .before .before .before .before .is-window .ensures) (call-window _ _ _ _ _ _ _ (sym (c .before .before .before .before .before .before .check-call .ensures) ∙ c .before .before .before .before .enum-told .given .1)) .0, window-e (c .before .before .before .before .before .before .before .before .before .before .before .before .before .before .before .before .args .ts) (c .before .before .before .before .before .before .before .before .before .before .before .before .before .before .before .before .args .te) (c .before .before .before .before .before .before .before .before .is-window .ensures) (call-window _ _ _ _ _ _ _ (sym (c .before .before .before .before .before .before .check-call .ensures) ∙ c .before .before .before .before .enum-told .given .1)) .1, window-e (c .before .before .before .before .before .before .before .before .before .before .before .before .before .before .before .before .args .ts) (c .before .before .before .before .before .before .before .before .before .before .before .before .before .before .before .before .args .te) (c .before .before .before .before .before .before .before .before .is-window .ensures) (call-window _ _ _ _ _ _ _ (sym (c .before .before .before .before .before .before .check-call .ensures) ∙ c .before .before .before .before .enum-told .given .1)) .2, lengths-e (length (c .before .before .before .before .before .before .before .before .before .before .before .before .before .before .before .before .args .ends .now)) (length (c .before .before .before .before .before .before .before .before .before .before .before .before .before .before .before .before .args .starts .now)) (length (c .before .before .before .before .before .before .before .before .before .before .before .before .before .before .before .before .args .rows .now)) (length (c .before .before .before .before .before .before .before .before .before .before .before .before .before .before .before .before .args .starts .now)) (c .before .before .before .before .before .before .before .are-equal .ensures) (call-lengths _ _ _ _ _ _ _ (sym (c .before .before .before .before .before .before .check-call .ensures) ∙ c .before .before .before .before .enum-told .given .1)) .0, lengths-e (length (c .before .before .before .before .before .before .before .before .before .before .before .before .before .before .before .before .args .ends .now)) (length (c .before .before .before .before .before .before .before .before .before .before .before .before .before .before .before .before .args .starts .now)) (length (c .before .before .before .before .before .before .before .before .before .before .before .before .before .before .before .before .args .rows .now)) (length (c .before .before .before .before .before .before .before .before .before .before .before .before .before .before .before .before .args .starts .now)) (c .before .before .before .before .before .before .before .are-equal .ensures) (call-lengths _ _ _ _ _ _ _ (sym (c .before .before .before .before .before .before .check-call .ensures) ∙ c .before .before .before .before .enum-told .given .1)) .1, call-scratch _ _ _ _ _ _ _ (sym (c .before .before .before .before .before .before .check-call .ensures) ∙ c .before .before .before .before .enum-told .given .1)))
+find-rings-requires c κs =
+    let enum-told = c .before .before .before .before .enum-told in
+    let check-call = c .before .before .before .before .before .before .check-call in
+    let are-equal = c .before .before .before .before .before .before .before .are-equal in
+    let is-window = c .before .before .before .before .before .before .before .before .is-window in
+    let args = c .before .before .before .before .before .before .before .before .before .before .before .before .before .before .before .before .args in (
+      call-sound _ _ _ _ _ _ _ (sym (check-call .ensures) ∙ enum-told .given .1),
+      (
+        call-k _ _ _ _ _ _ _ (sym (check-call .ensures) ∙ enum-told .given .1) .0,
+        window-e (args .ts) (args .te) (is-window .ensures)
+            (call-window _ _ _ _ _ _ _ (sym (check-call .ensures) ∙ enum-told .given .1)) .0,
+        window-e (args .ts) (args .te) (is-window .ensures)
+            (call-window _ _ _ _ _ _ _ (sym (check-call .ensures) ∙ enum-told .given .1)) .1,
+        window-e (args .ts) (args .te) (is-window .ensures)
+            (call-window _ _ _ _ _ _ _ (sym (check-call .ensures) ∙ enum-told .given .1)) .2,
+        lengths-e (length (args .ends .now)) (length (args .starts .now)) (length (args .rows .now))
+            (length (args .starts .now)) (are-equal .ensures)
+            (call-lengths _ _ _ _ _ _ _ (sym (check-call .ensures) ∙ enum-told .given .1)) .0,
+        lengths-e (length (args .ends .now)) (length (args .starts .now)) (length (args .rows .now))
+            (length (args .starts .now)) (are-equal .ensures)
+            (call-lengths _ _ _ _ _ _ _ (sym (check-call .ensures) ∙ enum-told .given .1)) .1,
+        call-scratch _ _ _ _ _ _ _ (sym (check-call .ensures) ∙ enum-told .given .1),
+      ),
+    )
 
 -- src/list.rt:414:1
 returns : tie.Need-returns
-returns c = list-refused _ _ _ _ (c .before .before .before .before .before .before .before .before .before .before .before .before .before .args .starts .now) (c .before .before .before .before .before .before .before .before .before .before .before .before .before .args .ends .now) (c .before .before .before .before .before .before .before .before .before .before .before .before .before .args .rows .now) (c .before .before .before .before .before .before .before .before .before .before .before .before .before .args .scratch .now) (c .before .before .before .before .before .is-window .ensures) (c .before .before .before .before .are-equal .ensures) (sym (c .before .before .before .check-call .ensures) ∙ c .before .found .given .1)
+returns c =
+    let found = c .before .found in
+    let check-call = c .before .before .before .check-call in
+    let are-equal = c .before .before .before .before .are-equal in
+    let is-window = c .before .before .before .before .before .is-window in
+    let args = c .before .before .before .before .before .before .before .before .before .before .before .before .before .args in
+    list-refused _ _ _ _ (args .starts .now) (args .ends .now) (args .rows .now) (args .scratch .now)
+    (is-window .ensures) (are-equal .ensures) (sym (check-call .ensures) ∙ found .given .1)
 
 -- src/list.rt:414:1
 same-length : tie.Need-same-length
@@ -58,21 +88,20 @@ same-length-4 c = search needs
 
 -- src/list.rt:414:1
 returns-2 : tie.Need-returns-2
-returns-2 c = list-done _ _ _ _ (c .before .before .before .before .before .before .before .before .before .before .before .before .before .before .before .before .before .before .before .before .before .before .before .before .before .args .starts .now) (c .before .before .before .before .before .before .before .before .before .before .before .before .before .before .before .before .before .before .before .before .before .before .before .before .before .args .ends .now) (c .before .before .before .before .before .before .before .before .before .before .before .before .before .before .before .before .before .before .before .before .before .before .before .before .before .args .rows .now) (c .before .before .before .before .before .before .before .before .before .before .before .before .before .before .before .before .before .before .before .before .before .before .before .before .before .args .scratch .now) (c .before .before .before .before .before .before .before .before .before .before .before .before .before .before .before .before .before .is-window .ensures) (c .before .before .before .before .before .before .before .before .before .before .before .before .before .before .before .before .are-equal .ensures) (sym (c .before .before .before .before .before .before .before .before .before .before .before .before .before .before .before .check-call .ensures) ∙ c .before .before .before .before .before .before .before .before .before .before .before .before .before .enum-told .given .1) (c .before .before .before .before .before .before .before .before .find-rings .ensures)
+returns-2 c =
+    let find-rings = c .before .before .before .before .before .before .before .before .find-rings in
+    let enum-told = c .before .before .before .before .before .before .before .before .before .before .before .before .before .enum-told in
+    let check-call = c .before .before .before .before .before .before .before .before .before .before .before .before .before .before .before .check-call in
+    let are-equal = c .before .before .before .before .before .before .before .before .before .before .before .before .before .before .before .before .are-equal in
+    let is-window = c .before .before .before .before .before .before .before .before .before .before .before .before .before .before .before .before .before .is-window in
+    let args = c .before .before .before .before .before .before .before .before .before .before .before .before .before .before .before .before .before .before .before .before .before .before .before .before .before .args in
+    list-done _ _ _ _ (args .starts .now) (args .ends .now) (args .rows .now) (args .scratch .now) (is-window .ensures)
+    (are-equal .ensures) (sym (check-call .ensures) ∙ enum-told .given .1) (find-rings .ensures)
 
 pub list-rings-spec : {M : Type 1} → statement M
 list-rings-spec =
     tie.close
-    (tie.spec
-    is-window-requires
-    are-equal-requires
-    check-call-requires
-    enum-known-found
-    enum-told
-    find-rings-requires
-    returns
-    same-length
-    same-length-2
-    same-length-3
-    same-length-4
-    returns-2)
+    (
+    tie.spec is-window-requires are-equal-requires check-call-requires enum-known-found enum-told
+    find-rings-requires returns same-length same-length-2 same-length-3 same-length-4 returns-2
+    )

@@ -16,11 +16,16 @@ returns c = simp (lt-leb _ _ (c .if1 .taken))
 
 returns-2 : tie.Need-returns-2
 unfolding longestAnswer counted rangeCheck _when_ _and_ no
-returns-2 c = simp (le-leb _ _ (c .before .if1 .left), lt-leb _ _ (c .if2 .taken))
+returns-2 c =
+    let if1 = c .before .if1 in
+    simp (le-leb _ _ (if1 .left), lt-leb _ _ (c .if2 .taken))
 
 returns-3 : tie.Need-returns-3
 unfolding longestAnswer counted rangeCheck _when_ _and_ no
-returns-3 c = simp (le-leb _ _ (c .before .before .if1 .left), le-leb _ _ (c .before .if2 .left), lt-leb _ _ (c .if3 .taken))
+returns-3 c =
+    let if2 = c .before .if2 in
+    let if1 = c .before .before .if1 in
+    simp (le-leb _ _ (if1 .left), le-leb _ _ (if2 .left), lt-leb _ _ (c .if3 .taken))
 
 add-days : tie.Need-add-days
 add-days c = search needs
@@ -37,8 +42,12 @@ cast-t11 c = search needs
 returns-4 : tie.Need-returns-4
 unfolding longestAnswer counted rangeCheck _when_ _and_ no daysOf
 returns-4 c =
-    let e : c .most .result ≡ longest (daysOf (c .before .before .before .before .args .ts) (c .before .before .before .before .args .te)) = c .most .ensures ∙ ap longest (omega arith) in
-    simp (le-leb _ _ (c .before .before .before .if1 .left), le-leb _ _ (c .before .before .if2 .left), le-leb _ _ (c .before .if3 .left), e)
+    let if3 = c .before .if3 in
+    let if2 = c .before .before .if2 in
+    let if1 = c .before .before .before .if1 in
+    let args = c .before .before .before .before .args in
+    let e : c .most .result ≡ longest (daysOf (args .ts) (args .te)) = c .most .ensures ∙ ap longest (omega arith) in
+    simp (le-leb _ _ (if1 .left), le-leb _ _ (if2 .left), le-leb _ _ (if3 .left), e)
 
 pub longest-list-spec : {M : Type 1} → statement M
 longest-list-spec = tie.close (tie.spec returns returns-2 returns-3 add-days cast-days most-requires cast-t11 returns-4)

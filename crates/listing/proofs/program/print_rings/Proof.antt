@@ -41,54 +41,83 @@ slice-aggregate-write-listing-3 c = search needs
 
 write-listing-requires : tie.Need-write-listing-requires
 write-listing-requires c κs =
-    let a = c .before .before .before .before .before .before .before .before .before .before .before .before .before .before .before .before .before .before .before .before .args in
-    let list-rings = c .before .before .before .before .before .before .before .before .before .before .before .list-rings in
-    let rings = c .before .before .before .before .before .rings in
-    rings-rise (tableOf (a .days .now) (a .first .now) (a .second .now)) (query (a .k)) (a .ts) (a .te) (list-rings .ensures .0) (replicate 2048 0) (replicate 2048 0) (replicate 2048 0) (list-rings .ensures .1 .0) (list-rings .ensures .1 .1 .0) (list-rings .ensures .1 .1 .1 .0) (rings .given .1)
+    let rings′ = c .before .before .before .before .before .rings in
+    let list-rings′ = c .before .before .before .before .before .before .before .before .before .before .before .list-rings in
+    let args = c .before .before .before .before .before .before .before .before .before .before .before .before .before .before .before .before .before .before .before .before .args in
+    let a = args in
+    let list-rings = list-rings′ in
+    let rings = rings′ in
+    rings-rise (tableOf (a .days .now) (a .first .now) (a .second .now)) (query (a .k)) (a .ts) (a .te)
+    (list-rings .ensures .0) (replicate 2048 0) (replicate 2048 0) (replicate 2048 0) (list-rings .ensures .1 .0)
+    (list-rings .ensures .1 .1 .0) (list-rings .ensures .1 .1 .1 .0) (rings .given .1)
 
 same-length : tie.Need-same-length
 same-length c = search needs
 
 returns : tie.Need-returns
 returns c =
-    let a = c .before .before .before .before .before .before .before .before .before .before .before .before .before .before .before .before .before .before .before .before .before .before .before .args in
-    let list-rings = c .before .before .before .before .before .before .before .before .before .before .before .before .before .before .list-rings in
-    let rings = c .before .before .before .before .before .before .before .before .rings in
-    answer-as (a .output .now) (listed-rings (tableOf (a .days .now) (a .first .now) (a .second .now)) (query (a .k)) (a .ts) (a .te) (list-rings .ensures .0) (rings .given .1) ∙ ap found (sym (rings-are (tableOf (a .days .now) (a .first .now) (a .second .now)) (query (a .k)) (a .ts) (a .te) (list-rings .ensures .0) (replicate 2048 0) (replicate 2048 0) (replicate 2048 0) (list-rings .ensures .1 .0) (list-rings .ensures .1 .1 .0) (list-rings .ensures .1 .1 .1 .0) (rings .given .1)))) (c .before .before .write-listing .ensures)
+    let write-listing = c .before .before .write-listing in
+    let rings′ = c .before .before .before .before .before .before .before .before .rings in
+    let list-rings′ = c .before .before .before .before .before .before .before .before .before .before .before .before .before .before .list-rings in
+    let args = c .before .before .before .before .before .before .before .before .before .before .before .before .before .before .before .before .before .before .before .before .before .before .before .args in
+    let a = args in
+    let list-rings = list-rings′ in
+    let rings = rings′ in
+    answer-as (a .output .now)
+    (
+    listed-rings (tableOf (a .days .now) (a .first .now) (a .second .now)) (query (a .k)) (a .ts) (a .te)
+    (list-rings .ensures .0) (rings .given .1) ∙ ap found
+    (
+    sym
+    (
+    rings-are (tableOf (a .days .now) (a .first .now) (a .second .now)) (query (a .k)) (a .ts) (a .te)
+    (list-rings .ensures .0) (replicate 2048 0) (replicate 2048 0) (replicate 2048 0)
+    (list-rings .ensures .1 .0) (list-rings .ensures .1 .1 .0) (list-rings .ensures .1 .1 .1 .0)
+    (rings .given .1)
+    )
+    )
+    ) (write-listing .ensures)
 
 enum-known-rings-2 : tie.Need-enum-known-rings-2
 enum-known-rings-2 c = search needs
 
 refused-requires : tie.Need-refused-requires
 refused-requires c κs =
-    let pre = c .before .before .before .before .before .before .before .before .before .before .before .before .before .before .before .before .pre in
-    let a = c .before .before .before .before .before .before .before .before .before .before .before .before .before .before .before .before .args in
-    let list-rings = c .before .before .before .before .before .before .before .list-rings in
-    omega (arith, pre, refused-place (tableOf (a .days .now) (a .first .now) (a .second .now)) (query (a .k)) (a .ts) (a .te) 2048 2048 2048 12288 (sym (list-rings .ensures .0) ∙ c .before .rings2 .given .1))
+    let rings2 = c .before .rings2 in
+    let list-rings′ = c .before .before .before .before .before .before .before .list-rings in
+    let args = c .before .before .before .before .before .before .before .before .before .before .before .before .before .before .before .before .args in
+    let pre′ = c .before .before .before .before .before .before .before .before .before .before .before .before .before .before .before .before .pre in
+    let pre = pre′ in
+    let a = args in
+    let list-rings = list-rings′ in
+    omega (
+      arith,
+      pre,
+      refused-place (tableOf (a .days .now) (a .first .now) (a .second .now)) (query (a .k)) (a .ts) (a .te) 2048 2048
+          2048 12288 (sym (list-rings .ensures .0) ∙ rings2 .given .1),
+    )
 
 returns-2 : tie.Need-returns-2
 returns-2 c =
-    let a = c .before .before .before .before .before .before .before .before .before .before .before .before .before .before .before .before .before .args in
-    let rings2 = c .before .before .rings2 in
-    let list-rings = c .before .before .before .before .before .before .before .before .list-rings in
-    answer-refused (listed (tableOf (a .days .now) (a .first .now) (a .second .now)) (query (a .k)) (a .ts) (a .te)) (a .output .now) (rings2 .given .0 .0) (listed-none (tableOf (a .days .now) (a .first .now) (a .second .now)) (query (a .k)) (a .ts) (a .te) (list-rings .ensures .0) (rings2 .given .1)) (c .refused .ensures)
+    let rings2′ = c .before .before .rings2 in
+    let list-rings′ = c .before .before .before .before .before .before .before .before .list-rings in
+    let args = c .before .before .before .before .before .before .before .before .before .before .before .before .before .before .before .before .before .args in
+    let a = args in
+    let rings2 = rings2′ in
+    let list-rings = list-rings′ in
+    answer-refused (listed (tableOf (a .days .now) (a .first .now) (a .second .now)) (query (a .k)) (a .ts) (a .te))
+    (a .output .now) (rings2 .given .0 .0)
+    (
+    listed-none (tableOf (a .days .now) (a .first .now) (a .second .now)) (query (a .k)) (a .ts) (a .te)
+    (list-rings .ensures .0) (rings2 .given .1)
+    ) (c .refused .ensures)
 
 pub print-rings-spec : {M : Type 1} → statement M
 print-rings-spec =
     tie.close
-    (tie.spec
-    slice-aggregate-list-rings
-    slice-aggregate-list-rings-2
-    slice-aggregate-list-rings-3
-    slice-aggregate-list-rings-4
-    list-rings-requires
-    enum-known-rings
-    slice-aggregate-write-listing
-    slice-aggregate-write-listing-2
-    slice-aggregate-write-listing-3
-    write-listing-requires
-    same-length
-    returns
-    enum-known-rings-2
-    refused-requires
-    returns-2)
+    (
+    tie.spec slice-aggregate-list-rings slice-aggregate-list-rings-2 slice-aggregate-list-rings-3
+    slice-aggregate-list-rings-4 list-rings-requires enum-known-rings slice-aggregate-write-listing
+    slice-aggregate-write-listing-2 slice-aggregate-write-listing-3 write-listing-requires same-length returns
+    enum-known-rings-2 refused-requires returns-2
+    )

@@ -17,13 +17,17 @@ enum-known-line c = search needs
 
 sub-read-rows : tie.Need-sub-read-rows
 sub-read-rows c =
-    let a = c .before .before .before .before .before .before .before .before .args in
-    omega (arith, query-fits (a .input .now) _ _ _ (sym (c .before .before .before .read-query .ensures) ∙ c .before .line .given .1))
+    let line = c .before .line in
+    let read-query = c .before .before .before .read-query in
+    let args = c .before .before .before .before .before .before .before .before .args in
+    let a = args in omega (arith, query-fits (a .input .now) _ _ _ (sym (read-query .ensures) ∙ line .given .1))
 
 part-read-rows-start : tie.Need-part-read-rows-start
 part-read-rows-start c =
-    let a = c .before .before .before .before .before .before .before .before .args in
-    omega (arith, query-fits (a .input .now) _ _ _ (sym (c .before .before .before .read-query .ensures) ∙ c .before .line .given .1))
+    let line = c .before .line in
+    let read-query = c .before .before .before .read-query in
+    let args = c .before .before .before .before .before .before .before .before .args in
+    let a = args in omega (arith, query-fits (a .input .now) _ _ _ (sym (read-query .ensures) ∙ line .given .1))
 
 part-read-rows-end : tie.Need-part-read-rows-end
 part-read-rows-end c = search needs
@@ -42,11 +46,16 @@ same-length-3 c = search needs
 
 returns : tie.Need-returns
 returns c =
-    let a = c .before .before .before .before .before .before .before .before .before .before .before .before .before .before .before .before .before .before .before .args in
-    let pre = c .before .before .before .before .before .before .before .before .before .before .before .before .before .before .before .before .before .before .before .pre in
-    let read-query = c .before .before .before .before .before .before .before .before .before .before .before .before .before .before .read-query in
-    let line = c .before .before .before .before .before .before .before .before .before .before .before .before .line in
-    let read-rows = c .before .before .before .before .before .before .read-rows in
+    let read-rows′ = c .before .before .before .before .before .before .read-rows in
+    let line′ = c .before .before .before .before .before .before .before .before .before .before .before .before .line in
+    let read-query′ = c .before .before .before .before .before .before .before .before .before .before .before .before .before .before .read-query in
+    let args = c .before .before .before .before .before .before .before .before .before .before .before .before .before .before .before .before .before .before .before .args in
+    let pre′ = c .before .before .before .before .before .before .before .before .before .before .before .before .before .before .before .before .before .before .before .pre in
+    let a = args in
+    let pre = pre′ in
+    let read-query = read-query′ in
+    let line = line′ in
+    let read-rows = read-rows′ in
     asks-query (a .input .now) (pre .0) (read-query .ensures) (line .given .1) (read-rows .ensures)
 
 enum-told : tie.Need-enum-told
@@ -55,9 +64,12 @@ enum-told c = search needs
 returns-2 : tie.Need-returns-2
 unfolding fromQuery badQuery
 returns-2 c =
-    let a = c .before .before .before .before .before .before .before .args in
-    let pre = c .before .before .before .before .before .before .before .pre in
-    asks-none (a .input .now) (pre .0) QueryRead.BadLength (c .before .before .read-query .ensures) (c .enum-told .given .1) refl
+    let read-query = c .before .before .read-query in
+    let args = c .before .before .before .before .before .before .before .args in
+    let pre′ = c .before .before .before .before .before .before .before .pre in
+    let a = args in
+    let pre = pre′ in
+    asks-none (a .input .now) (pre .0) QueryRead.BadLength (read-query .ensures) (c .enum-told .given .1) refl
 
 enum-told-2 : tie.Need-enum-told-2
 enum-told-2 c = search needs
@@ -65,9 +77,12 @@ enum-told-2 c = search needs
 returns-3 : tie.Need-returns-3
 unfolding fromQuery badQuery
 returns-3 c =
-    let a = c .before .before .before .before .before .before .before .args in
-    let pre = c .before .before .before .before .before .before .before .pre in
-    asks-none (a .input .now) (pre .0) QueryRead.BadField (c .before .before .read-query .ensures) (c .enum-told2 .given .1) refl
+    let read-query = c .before .before .read-query in
+    let args = c .before .before .before .before .before .before .before .args in
+    let pre′ = c .before .before .before .before .before .before .before .pre in
+    let a = args in
+    let pre = pre′ in
+    asks-none (a .input .now) (pre .0) QueryRead.BadField (read-query .ensures) (c .enum-told2 .given .1) refl
 
 enum-told-3 : tie.Need-enum-told-3
 enum-told-3 c = search needs
@@ -75,27 +90,18 @@ enum-told-3 c = search needs
 returns-4 : tie.Need-returns-4
 unfolding fromQuery badQuery
 returns-4 c =
-    let a = c .before .before .before .before .before .before .before .args in
-    let pre = c .before .before .before .before .before .before .before .pre in
-    asks-none (a .input .now) (pre .0) QueryRead.LargeNumber (c .before .before .read-query .ensures) (c .enum-told3 .given .1) refl
+    let read-query = c .before .before .read-query in
+    let args = c .before .before .before .before .before .before .before .args in
+    let pre′ = c .before .before .before .before .before .before .before .pre in
+    let a = args in
+    let pre = pre′ in
+    asks-none (a .input .now) (pre .0) QueryRead.LargeNumber (read-query .ensures) (c .enum-told3 .given .1) refl
 
 pub read-input-spec : {M : Type 1} → statement M
 read-input-spec =
     tie.close
-    (tie.spec
-    read-query-requires
-    enum-known-line
-    sub-read-rows
-    part-read-rows-start
-    part-read-rows-end
-    read-rows-requires
-    same-length
-    same-length-2
-    same-length-3
-    returns
-    enum-told
-    returns-2
-    enum-told-2
-    returns-3
-    enum-told-3
-    returns-4)
+    (
+    tie.spec read-query-requires enum-known-line sub-read-rows part-read-rows-start part-read-rows-end
+    read-rows-requires same-length same-length-2 same-length-3 returns enum-told returns-2 enum-told-2 returns-3
+    enum-told-3 returns-4
+    )

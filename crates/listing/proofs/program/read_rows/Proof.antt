@@ -12,10 +12,18 @@ read-table-requires c κs = search needs
 
 asked-by-requires : tie.Need-asked-by-requires
 asked-by-requires c κs =
-    let pre = c .before .before .before .before .before .before .before .before .before .before .before .before .before .before .pre in
-    let a = c .before .before .before .before .before .before .before .before .before .before .before .before .before .before .args in
-    let read-table = c .before .before .before .before .before .before .read-table in
-    omega (arith, pre .0, place-lines (a .text .now) (length (a .days .now)) (length (a .first .now)) (length (a .second .now)) (read-table .ensures .0))
+    let read-table′ = c .before .before .before .before .before .before .read-table in
+    let args = c .before .before .before .before .before .before .before .before .before .before .before .before .before .before .args in
+    let pre′ = c .before .before .before .before .before .before .before .before .before .before .before .before .before .before .pre in
+    let pre = pre′ in
+    let a = args in
+    let read-table = read-table′ in
+    omega (
+      arith,
+      pre .0,
+      place-lines (a .text .now) (length (a .days .now)) (length (a .first .now)) (length (a .second .now))
+          (read-table .ensures .0),
+    )
 
 same-length : tie.Need-same-length
 same-length c = search needs
@@ -28,18 +36,16 @@ same-length-3 c = search needs
 
 returns : tie.Need-returns
 returns c =
-    let a = c .before .before .before .before .before .before .before .before .before .before .before .before .before .before .before .args in
-    let read-table = c .before .before .before .before .before .before .before .read-table in
-    let pre = c .before .before .before .before .before .before .before .before .before .before .before .before .before .before .before .pre in
-    rows-asked (a .text .now) (a .k) (a .ts) (a .te) (a .days .now) (a .first .now) (a .second .now) (read-table .result) (read-table .ensures .0) (pre .1 .0) (pre .1 .1) (pre .1 .2) (read-table .ensures .1 .0) (read-table .ensures .1 .1 .0) (read-table .ensures .1 .1 .1) (c .asked-by .ensures)
+    let read-table′ = c .before .before .before .before .before .before .before .read-table in
+    let args = c .before .before .before .before .before .before .before .before .before .before .before .before .before .before .before .args in
+    let pre′ = c .before .before .before .before .before .before .before .before .before .before .before .before .before .before .before .pre in
+    let a = args in
+    let read-table = read-table′ in
+    let pre = pre′ in
+    rows-asked (a .text .now) (a .k) (a .ts) (a .te) (a .days .now) (a .first .now) (a .second .now)
+    (read-table .result) (read-table .ensures .0) (pre .1 .0) (pre .1 .1) (pre .1 .2) (read-table .ensures .1 .0)
+    (read-table .ensures .1 .1 .0) (read-table .ensures .1 .1 .1) (c .asked-by .ensures)
 
 pub read-rows-spec : {M : Type 1} → statement M
 read-rows-spec =
-    tie.close
-    (tie.spec
-    read-table-requires
-    asked-by-requires
-    same-length
-    same-length-2
-    same-length-3
-    returns)
+    tie.close (tie.spec read-table-requires asked-by-requires same-length same-length-2 same-length-3 returns)

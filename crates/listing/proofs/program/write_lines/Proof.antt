@@ -16,104 +16,109 @@ abbrev μ-loop : tie.MeasureT-loop
 
 loop-holds : tie.Need-loop-holds Inv-loop μ-loop
 loop-holds c =
-    let a = c .before .before .before .before .args in
-    (omega arith, print-start (a .starts .now) (a .ends .now) (a .rows .now) (a .output .now))
+    let args = c .before .before .before .before .args in
+    let a = args in (omega arith, print-start (a .starts .now) (a .ends .now) (a .rows .now) (a .output .now))
 
 mul-start : tie.Need-mul-start Inv-loop μ-loop
 mul-start c =
-    let pre = c .before .before .before .before .before .before .pre in
-    omega (arith, c .loop-test .taken, pre .0 .most)
+    let pre′ = c .before .before .before .before .before .before .pre in
+    let pre = pre′ in omega (arith, c .loop-test .taken, pre .0 .most)
 
 shared-slice-read-start : tie.Need-shared-slice-read-start Inv-loop μ-loop
 shared-slice-read-start c =
-    let pre = c .before .before .before .before .before .before .before .pre in
-    omega (arith, c .before .loop-test .taken, pre .0 .in-starts)
+    let loop-test = c .before .loop-test in
+    let pre′ = c .before .before .before .before .before .before .before .pre in
+    let pre = pre′ in omega (arith, loop-test .taken, pre .0 .in-starts)
 
 mul-end : tie.Need-mul-end Inv-loop μ-loop
 mul-end c =
-    let pre = c .before .before .before .before .before .before .before .pre in
-    omega (arith, c .before .loop-test .taken, pre .0 .most)
+    let loop-test = c .before .loop-test in
+    let pre′ = c .before .before .before .before .before .before .before .pre in
+    let pre = pre′ in omega (arith, loop-test .taken, pre .0 .most)
 
 shared-slice-read-end : tie.Need-shared-slice-read-end Inv-loop μ-loop
 shared-slice-read-end c =
-    let pre = c .before .before .before .before .before .before .before .before .pre in
-    omega (arith, c .before .before .loop-test .taken, pre .0 .in-ends)
+    let loop-test = c .before .before .loop-test in
+    let pre′ = c .before .before .before .before .before .before .before .before .pre in
+    let pre = pre′ in omega (arith, loop-test .taken, pre .0 .in-ends)
 
 sub-put-line : tie.Need-sub-put-line Inv-loop μ-loop
 sub-put-line c =
-    let pre = c .before .before .before .before .before .before .before .before .before .pre in
-    let loop = c .before .before .before .before .loop in
-    omega (arith, pre .0 .order (loop .i) (c .before .before .before .loop-test .taken))
+    let loop-test = c .before .before .before .loop-test in
+    let loop′ = c .before .before .before .before .loop in
+    let pre′ = c .before .before .before .before .before .before .before .before .before .pre in
+    let pre = pre′ in let loop = loop′ in omega (arith, pre .0 .order (loop .i) (loop-test .taken))
 
 mul-put-line : tie.Need-mul-put-line Inv-loop μ-loop
 mul-put-line c =
-    let pre = c .before .before .before .before .before .before .before .before .before .pre in
-    omega (arith, c .before .before .before .loop-test .taken, pre .0 .most)
+    let loop-test = c .before .before .before .loop-test in
+    let pre′ = c .before .before .before .before .before .before .before .before .before .pre in
+    let pre = pre′ in omega (arith, loop-test .taken, pre .0 .most)
 
 shared-slice-read-put-line : tie.Need-shared-slice-read-put-line Inv-loop μ-loop
 shared-slice-read-put-line c =
-    let loop-test = c .before .before .before .before .loop-test in
-    let pre = c .before .before .before .before .before .before .before .before .before .before .pre in
-    omega (arith, loop-test .taken, pre .0 .in-rows)
+    let loop-test′ = c .before .before .before .before .loop-test in
+    let pre′ = c .before .before .before .before .before .before .before .before .before .before .pre in
+    let loop-test = loop-test′ in let pre = pre′ in omega (arith, loop-test .taken, pre .0 .in-rows)
 
 put-line-requires : tie.Need-put-line-requires Inv-loop μ-loop
 put-line-requires c κs = tt
 
 add-at : tie.Need-add-at Inv-loop μ-loop
 add-at c =
-    let loop-test = c .before .before .before .before .before .before .before .loop-test in
-    let pre = c .before .before .before .before .before .before .before .before .before .before .before .before .before .pre in
-    let loop = c .before .before .before .before .before .before .before .before .loop in
-    omega (arith, loop-test .taken, pre .0 .most, loop .inv .1 .next)
+    let loop-test′ = c .before .before .before .before .before .before .before .loop-test in
+    let loop′ = c .before .before .before .before .before .before .before .before .loop in
+    let pre′ = c .before .before .before .before .before .before .before .before .before .before .before .before .before .pre in
+    let loop-test = loop-test′ in
+    let pre = pre′ in let loop = loop′ in omega (arith, loop-test .taken, pre .0 .most, loop .inv .1 .next)
 
 add-i : tie.Need-add-i Inv-loop μ-loop
 add-i c =
-    let loop-test = c .before .before .before .before .before .before .before .loop-test in
-    let pre = c .before .before .before .before .before .before .before .before .before .before .before .before .before .pre in
-    omega (arith, loop-test .taken, pre .0 .most)
+    let loop-test′ = c .before .before .before .before .before .before .before .loop-test in
+    let pre′ = c .before .before .before .before .before .before .before .before .before .before .before .before .before .pre in
+    let loop-test = loop-test′ in let pre = pre′ in omega (arith, loop-test .taken, pre .0 .most)
 
 loop-less : tie.Need-loop-less Inv-loop μ-loop
 loop-less c =
-    let loop-test = c .before .before .before .before .before .before .before .loop-test in
-    omega (arith, loop-test .taken)
+    let loop-test′ = c .before .before .before .before .before .before .before .loop-test in
+    let loop-test = loop-test′ in omega (arith, loop-test .taken)
 
 loop-again : tie.Need-loop-again Inv-loop μ-loop
 unfolding span entryAt
 loop-again c =
-    let loop-test = c .before .before .before .before .before .before .before .loop-test in
-    let a = c .before .before .before .before .before .before .before .before .before .before .before .before .before .args in
-    let loop = c .before .before .before .before .before .before .before .before .loop in
-    let pre = c .before .before .before .before .before .before .before .before .before .before .before .before .before .pre in
-    let put-line = c .before .before .put-line in
-    (omega (arith, loop-test .taken), print-next (a .starts .now) (a .ends .now) (a .rows .now) (loop .inv .1) (loop-test .taken) (pre .1) (put-line .ensures .0) (put-line .ensures .1))
+    let put-line′ = c .before .before .put-line in
+    let loop-test′ = c .before .before .before .before .before .before .before .loop-test in
+    let loop′ = c .before .before .before .before .before .before .before .before .loop in
+    let args = c .before .before .before .before .before .before .before .before .before .before .before .before .before .args in
+    let pre′ = c .before .before .before .before .before .before .before .before .before .before .before .before .before .pre in
+    let loop-test = loop-test′ in
+    let a = args in
+    let loop = loop′ in
+    let pre = pre′ in
+    let put-line = put-line′ in (
+      omega (arith, loop-test .taken),
+      print-next (a .starts .now) (a .ends .now) (a .rows .now) (loop .inv .1) (loop-test .taken) (pre .1)
+          (put-line .ensures .0) (put-line .ensures .1),
+    )
 
 same-length : tie.Need-same-length Inv-loop μ-loop
-same-length c = c .before .loop .inv .1 .long
+same-length c =
+    let loop = c .before .loop in
+    loop .inv .1 .long
 
 returns : tie.Need-returns Inv-loop μ-loop
 returns c =
-    let a = c .before .before .before .before .before .before .args in
-    let loop = c .before .loop in
+    let loop′ = c .before .loop in
+    let args = c .before .before .before .before .before .before .args in
+    let a = args in
+    let loop = loop′ in
     print-end (a .starts .now) (a .ends .now) (a .rows .now) (loop .inv .1) (loop .inv .0) (c .loop-test .left)
 
 pub write-lines-spec : {M : Type 1} → statement M
 write-lines-spec =
     tie.close
-    (tie.spec
-    Inv-loop
-    μ-loop
-    loop-holds
-    mul-start
-    shared-slice-read-start
-    mul-end
-    shared-slice-read-end
-    sub-put-line
-    mul-put-line
-    shared-slice-read-put-line
-    put-line-requires
-    add-at
-    add-i
-    loop-less
-    loop-again
-    same-length
-    returns)
+    (
+    tie.spec Inv-loop μ-loop loop-holds mul-start shared-slice-read-start mul-end shared-slice-read-end sub-put-line
+    mul-put-line shared-slice-read-put-line put-line-requires add-at add-i loop-less loop-again same-length
+    returns
+    )

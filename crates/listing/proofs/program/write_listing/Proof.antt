@@ -13,8 +13,8 @@ mul-size c = search needs
 
 returns : tie.Need-returns
 returns c =
-    let a = c .before .before .before .before .before .args in
-    text-none (a .starts .now) (a .ends .now) (a .rows .now) (a .output .now) (a .count) (c .if1 .taken)
+    let args = c .before .before .before .before .before .args in
+    let a = args in text-none (a .starts .now) (a .ends .now) (a .rows .now) (a .output .now) (a .count) (c .if1 .taken)
 
 put-header-requires : tie.Need-put-header-requires
 put-header-requires c κs = search needs
@@ -27,19 +27,16 @@ same-length c = search needs
 
 returns-2 : tie.Need-returns-2
 returns-2 c =
-    let a = c .before .before .before .before .before .before .before .before .before .before .before .before .before .args in
-    let if1 = c .before .before .before .before .before .before .before .before .if1 in
-    let put-header = c .before .before .before .before .before .before .put-header in
-    text-done (a .starts .now) (a .ends .now) (a .rows .now) (a .output .now) (a .count) (if1 .left) (put-header .ensures .0) (put-header .ensures .1) (c .before .before .write-lines .ensures)
+    let write-lines = c .before .before .write-lines in
+    let put-header′ = c .before .before .before .before .before .before .put-header in
+    let if1′ = c .before .before .before .before .before .before .before .before .if1 in
+    let args = c .before .before .before .before .before .before .before .before .before .before .before .before .before .args in
+    let a = args in
+    let if1 = if1′ in
+    let put-header = put-header′ in
+    text-done (a .starts .now) (a .ends .now) (a .rows .now) (a .output .now) (a .count) (if1 .left)
+    (put-header .ensures .0) (put-header .ensures .1) (write-lines .ensures)
 
 pub write-listing-spec : {M : Type 1} → statement M
 write-listing-spec =
-    tie.close
-    (tie.spec
-    add-size
-    mul-size
-    returns
-    put-header-requires
-    write-lines-requires
-    same-length
-    returns-2)
+    tie.close (tie.spec add-size mul-size returns put-header-requires write-lines-requires same-length returns-2)

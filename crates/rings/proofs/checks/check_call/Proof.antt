@@ -24,23 +24,24 @@ enum-told c = search needs
 
 -- src/checks.rt:87:30
 check-numbers-requires : tie.Need-check-numbers-requires
-check-numbers-requires c κs = table-sound _ _ _ (sym (c .before .before .check-table .ensures) ∙ c .enum-told .given .1) .most
+check-numbers-requires c κs =
+    let check-table = c .before .before .check-table in
+    table-sound _ _ _ (sym (check-table .ensures) ∙ c .enum-told .given .1) .most
 
 -- src/checks.rt:81:1
 returns : tie.Need-returns
-returns c = sym (then-refused _ (sym (c .before .before .before .check-table .ensures) ∙ c .before .found .given .1))
+returns c =
+    let found = c .before .found in
+    let check-table = c .before .before .before .check-table in
+    sym (then-refused _ (sym (check-table .ensures) ∙ found .given .1))
 
 -- src/checks.rt:81:1
 returns-2 : tie.Need-returns-2
-returns-2 c = c .check-numbers .ensures ∙ sym (then-accepted _ (sym (c .before .before .before .check-table .ensures) ∙ c .before .enum-told .given .1))
+returns-2 c =
+    let enum-told = c .before .enum-told in
+    let check-table = c .before .before .before .check-table in
+    c .check-numbers .ensures ∙ sym (then-accepted _ (sym (check-table .ensures) ∙ enum-told .given .1))
 
 pub check-call-spec : {M : Type 1} → statement M
 check-call-spec =
-    tie.close
-    (tie.spec
-    check-table-requires
-    enum-known-found
-    enum-told
-    check-numbers-requires
-    returns
-    returns-2)
+    tie.close (tie.spec check-table-requires enum-known-found enum-told check-numbers-requires returns returns-2)

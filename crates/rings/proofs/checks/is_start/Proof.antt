@@ -13,17 +13,25 @@ returns c = simp (lt-leb _ _ (c .if1 .taken))
 -- src/checks.rt:38:9
 returns-2 : tie.Need-returns-2
 unfolding _and_
-returns-2 c = simp (le-leb _ _ (c .before .if1 .left), lt-leb _ _ (c .if2 .taken))
+returns-2 c =
+    let if1 = c .before .if1 in
+    simp (le-leb _ _ (if1 .left), lt-leb _ _ (c .if2 .taken))
 
 -- src/checks.rt:41:9
 returns-3 : tie.Need-returns-3
 unfolding _and_
-returns-3 c = simp (le-leb _ _ (c .before .before .if1 .left), le-leb _ _ (c .before .if2 .left), lt-leb _ _ (c .if3 .taken))
+returns-3 c =
+    let if2 = c .before .if2 in
+    let if1 = c .before .before .if1 in
+    simp (le-leb _ _ (if1 .left), le-leb _ _ (if2 .left), lt-leb _ _ (c .if3 .taken))
 
 -- src/checks.rt:31:1
 returns-4 : tie.Need-returns-4
 unfolding _and_
-returns-4 c = simp (le-leb _ _ (c .before .before .if1 .left), le-leb _ _ (c .before .if2 .left), le-leb _ _ (c .if3 .left))
+returns-4 c =
+    let if2 = c .before .if2 in
+    let if1 = c .before .before .if1 in
+    simp (le-leb _ _ (if1 .left), le-leb _ _ (if2 .left), le-leb _ _ (c .if3 .left))
 
 pub is-start-spec : {M : Type 1} → statement M
 is-start-spec = tie.close (tie.spec returns returns-2 returns-3 returns-4)

@@ -13,12 +13,16 @@ returns c = simp (lt-leb _ _ (c .if1 .taken))
 -- src/checks.rt:25:9
 returns-2 : tie.Need-returns-2
 unfolding _and_
-returns-2 c = simp (le-leb _ _ (c .before .if1 .left), lt-leb _ _ (c .if2 .taken))
+returns-2 c =
+    let if1 = c .before .if1 in
+    simp (le-leb _ _ (if1 .left), lt-leb _ _ (c .if2 .taken))
 
 -- src/checks.rt:18:1
 returns-3 : tie.Need-returns-3
 unfolding _and_
-returns-3 c = simp (le-leb _ _ (c .before .if1 .left), le-leb _ _ (c .if2 .left))
+returns-3 c =
+    let if1 = c .before .if1 in
+    simp (le-leb _ _ (if1 .left), le-leb _ _ (c .if2 .left))
 
 pub is-window-spec : {M : Type 1} → statement M
 is-window-spec = tie.close (tie.spec returns returns-2 returns-3)

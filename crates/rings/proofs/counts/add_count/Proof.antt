@@ -17,11 +17,17 @@ mul-counts c = search needs
 
 -- src/rows.rt:51:17
 slice-read-counts : tie.Need-slice-read-counts
-slice-read-counts c = omega (arith, c .before .before .pre .0, (c .before .before .pre .1) (c .before .if1 .left) .0)
+slice-read-counts c =
+    let if1 = c .before .if1 in
+    let pre = c .before .before .pre in
+    omega (arith, pre .0, (pre .1) (if1 .left) .0)
 
 -- src/rows.rt:51:17
 add-counts : tie.Need-add-counts
-add-counts c = omega (arith, (c .before .before .pre .1) (c .before .if1 .left) .1)
+add-counts c =
+    let if1 = c .before .if1 in
+    let pre = c .before .before .pre in
+    omega (arith, (pre .1) (if1 .left) .1)
 
 -- src/rows.rt:51:5
 mul-counts-2 : tie.Need-mul-counts-2
@@ -29,7 +35,10 @@ mul-counts-2 c = search needs
 
 -- src/rows.rt:51:5
 slice-write-counts : tie.Need-slice-write-counts
-slice-write-counts c = omega (arith, c .before .before .pre .0, (c .before .before .pre .1) (c .before .if1 .left) .0)
+slice-write-counts c =
+    let if1 = c .before .if1 in
+    let pre = c .before .before .pre in
+    omega (arith, pre .0, (pre .1) (if1 .left) .0)
 
 -- src/rows.rt:43:1
 same-length : tie.Need-same-length
@@ -37,17 +46,11 @@ same-length c = search needs
 
 -- src/rows.rt:43:1
 returns-2 : tie.Need-returns-2
-returns-2 c = some (c .before .if1 .left) refl
+returns-2 c =
+    let if1 = c .before .if1 in
+    some (if1 .left) refl
 
 pub add-count-spec : {M : Type 1} → statement M
 add-count-spec =
     tie.close
-    (tie.spec
-    returns
-    mul-counts
-    slice-read-counts
-    add-counts
-    mul-counts-2
-    slice-write-counts
-    same-length
-    returns-2)
+    (tie.spec returns mul-counts slice-read-counts add-counts mul-counts-2 slice-write-counts same-length returns-2)

@@ -29,48 +29,74 @@ clear-requires c κs = search needs
 
 -- src/counts.rt:85:5
 loop-holds : tie.Need-loop-holds Inv-loop μ-loop
-loop-holds c = (omega arith, c .before .before .before .before .before .before .before .before .before .pre .1 .0 .0 .ordered, hist-start _ _ _ (c .before .before .before .before .before .before .before .before .before .pre .1 .1 .0) (c .before .before .clear .ensures) (λ j h. row-before _ _ _ _ j (c .before .before .before .before .before .before .before .before .before .pre .0 .setting .before-lo j h)))
+loop-holds c =
+    let clear = c .before .before .clear in
+    let pre = c .before .before .before .before .before .before .before .before .before .pre in (
+      omega arith,
+      pre .1 .0 .0 .ordered,
+      hist-start _ _ _ (pre .1 .1 .0) (clear .ensures) (λ j h. row-before _ _ _ _ j (pre .0 .setting .before-lo j h)),
+    )
 
 -- src/counts.rt:86:13
 row-time-requires : tie.Need-row-time-requires Inv-loop μ-loop
-row-time-requires c κs = (c .before .before .before .before .before .before .before .before .before .before .before .pre .0, (c .before .before .before .before .before .before .before .before .before .before .before .pre .1 .0 .0, (c .before .before .before .before .before .before .before .before .before .before .before .pre .1 .0 .1, omega (arith, c .loop-test .taken, c .before .before .before .before .before .before .before .before .before .before .before .pre .1 .0 .0 .within))))
+row-time-requires c κs =
+    let pre = c .before .before .before .before .before .before .before .before .before .before .before .pre in
+    (pre .0, (pre .1 .0 .0, (pre .1 .0 .1, omega (arith, c .loop-test .taken, pre .1 .0 .0 .within))))
 
 -- src/counts.rt:87:9
 add-count-requires : tie.Need-add-count-requires Inv-loop μ-loop
-add-count-requires c κs = hist-few _ (c .before .before .before .loop .inv .2) (omega (arith, c .before .before .loop-test .taken, c .before .before .before .before .before .before .before .before .before .before .before .before .before .pre .1 .0 .0 .within, c .before .before .before .before .before .before .before .before .before .before .before .before .before .pre .0 .sound .most)) (is-time _ _ _ _ _ (c .before .before .before .before .before .before .before .before .before .before .before .before .before .pre .1 .1 .1) (c .before .row-time .ensures))
+add-count-requires c κs =
+    let row-time = c .before .row-time in
+    let loop-test = c .before .before .loop-test in
+    let loop = c .before .before .before .loop in
+    let pre = c .before .before .before .before .before .before .before .before .before .before .before .before .before .pre in
+    hist-few _ (loop .inv .2) (omega (arith, loop-test .taken, pre .1 .0 .0 .within, pre .0 .sound .most))
+    (is-time _ _ _ _ _ (pre .1 .1 .1) (row-time .ensures))
 
 -- src/counts.rt:88:9
 add-j : tie.Need-add-j Inv-loop μ-loop
-add-j c = omega (arith, c .before .before .before .before .before .loop-test .taken, c .before .before .before .before .before .before .before .before .before .before .before .before .before .before .before .before .pre .1 .0 .0 .within, c .before .before .before .before .before .before .before .before .before .before .before .before .before .before .before .before .pre .0 .sound .most)
+add-j c =
+    let loop-test = c .before .before .before .before .before .loop-test in
+    let pre = c .before .before .before .before .before .before .before .before .before .before .before .before .before .before .before .before .pre in
+    omega (arith, loop-test .taken, pre .1 .0 .0 .within, pre .0 .sound .most)
 
 -- src/counts.rt:85:5
 loop-less : tie.Need-loop-less Inv-loop μ-loop
-loop-less c = omega (arith, c .before .before .before .before .before .loop-test .taken)
+loop-less c =
+    let loop-test = c .before .before .before .before .before .loop-test in
+    omega (arith, loop-test .taken)
 
 -- src/counts.rt:85:5
 loop-again : tie.Need-loop-again Inv-loop μ-loop
-loop-again c = (omega (arith, c .before .before .before .before .before .before .loop .inv .0), omega (arith, c .before .before .before .before .before .loop-test .taken), hist-next _ (c .before .before .before .before .before .before .loop .inv .2) (c .before .before .before .before .row-time .ensures) (c .before .before .add-count .ensures))
+loop-again c =
+    let add-count = c .before .before .add-count in
+    let row-time = c .before .before .before .before .row-time in
+    let loop-test = c .before .before .before .before .before .loop-test in
+    let loop = c .before .before .before .before .before .before .loop in (
+      omega (arith, loop .inv .0),
+      omega (arith, loop-test .taken),
+      hist-next _ (loop .inv .2) (row-time .ensures) (add-count .ensures),
+    )
 
 -- src/counts.rt:66:1
 same-length : tie.Need-same-length Inv-loop μ-loop
-same-length c = c .before .loop .inv .2 .long ∙ sym (c .before .before .before .before .before .before .before .before .before .before .before .pre .1 .1 .0)
+same-length c =
+    let loop = c .before .loop in
+    let pre = c .before .before .before .before .before .before .before .before .before .before .before .pre in
+    loop .inv .2 .long ∙ sym (pre .1 .1 .0)
 
 -- src/counts.rt:66:1
 returns : tie.Need-returns Inv-loop μ-loop
-returns c = hist-past _ (c .before .loop .inv .2) (omega (arith, c .before .loop .inv .1, c .before .before .before .before .before .before .before .before .before .before .before .pre .1 .0 .0 .within)) (λ j a b. sym (row-late _ _ _ _ (c .before .before .before .before .before .before .before .before .before .before .before .pre .0) (c .before .before .before .before .before .before .before .before .before .before .before .pre .1 .0 .0) (c .before .before .before .before .before .before .before .before .before .before .before .pre .1 .0 .1) b (omega (arith, a, c .loop-test .left))))
+returns c =
+    let loop = c .before .loop in
+    let pre = c .before .before .before .before .before .before .before .before .before .before .before .pre in
+    hist-past _ (loop .inv .2) (omega (arith, loop .inv .1, pre .1 .0 .0 .within))
+    (λ j a b. sym (row-late _ _ _ _ (pre .0) (pre .1 .0 .0) (pre .1 .0 .1) b (omega (arith, a, c .loop-test .left))))
 
 pub count-times-spec : {M : Type 1} → statement M
 count-times-spec =
     tie.close
-    (tie.spec
-    Inv-loop
-    μ-loop
-    clear-requires
-    loop-holds
-    row-time-requires
-    add-count-requires
-    add-j
-    loop-less
-    loop-again
-    same-length
-    returns)
+    (
+    tie.spec Inv-loop μ-loop clear-requires loop-holds row-time-requires add-count-requires add-j loop-less
+    loop-again same-length returns
+    )

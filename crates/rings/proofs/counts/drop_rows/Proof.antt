@@ -23,47 +23,79 @@ abbrev μ-loop : tie.MeasureT-loop
 
 -- src/counts.rt:112:5
 loop-holds : tie.Need-loop-holds Inv-loop μ-loop
-loop-holds c = (omega arith, drop-from _ _ _ _ _ _ _ (c .before .before .before .before .before .pre .0 .setting) (c .before .before .before .before .before .pre .1 .0 .1) (c .before .before .before .before .before .pre .1 .0 .3) (omega (arith, c .before .before .before .before .before .pre .1 .0 .0 .ordered, c .before .before .before .before .before .pre .1 .0 .0 .within)), drop-start _ _ _ _ _ _ _ (c .before .before .before .before .before .pre .0 .setting) (c .before .before .before .before .before .pre .1 .0 .1) (c .before .before .before .before .before .pre .1 .0 .3) (drop-from _ _ _ _ _ _ _ (c .before .before .before .before .before .pre .0 .setting) (c .before .before .before .before .before .pre .1 .0 .1) (c .before .before .before .before .before .pre .1 .0 .3) (omega (arith, c .before .before .before .before .before .pre .1 .0 .0 .ordered, c .before .before .before .before .before .pre .1 .0 .0 .within))) (c .before .before .before .before .before .pre .1 .1))
+loop-holds c =
+    let pre = c .before .before .before .before .before .pre in (
+      omega arith,
+      drop-from _ _ _ _ _ _ _ (pre .0 .setting) (pre .1 .0 .1) (pre .1 .0 .3)
+          (omega (arith, pre .1 .0 .0 .ordered, pre .1 .0 .0 .within)),
+      drop-start _ _ _ _ _ _ _ (pre .0 .setting) (pre .1 .0 .1) (pre .1 .0 .3)
+          (
+          drop-from _ _ _ _ _ _ _ (pre .0 .setting) (pre .1 .0 .1) (pre .1 .0 .3)
+          (omega (arith, pre .1 .0 .0 .ordered, pre .1 .0 .0 .within))
+          ) (pre .1 .1),
+    )
 
 -- src/counts.rt:113:13
 row-time-requires : tie.Need-row-time-requires Inv-loop μ-loop
-row-time-requires c κs = (c .before .before .before .before .before .before .before .pre .0, (c .before .before .before .before .before .before .before .pre .1 .0 .0, (c .before .before .before .before .before .before .before .pre .1 .0 .1, omega (arith, c .loop-test .taken, c .before .before .before .before .before .before .before .pre .1 .0 .3 .within))))
+row-time-requires c κs =
+    let pre = c .before .before .before .before .before .before .before .pre in
+    (pre .0, (pre .1 .0 .0, (pre .1 .0 .1, omega (arith, c .loop-test .taken, pre .1 .0 .3 .within))))
 
 -- src/counts.rt:114:9
 drop-count-requires : tie.Need-drop-count-requires Inv-loop μ-loop
-drop-count-requires c κs = drop-asks _ _ _ _ _ _ _ (c .before .before .before .before .before .before .before .before .before .pre .0 .setting) (c .before .before .before .before .before .before .before .before .before .pre .1 .0 .1) (c .before .before .before .before .before .before .before .before .before .pre .1 .0 .3) (c .before .before .loop-test .taken) (c .before .before .before .before .before .before .before .before .before .pre .1 .0 .2) (c .before .row-time .ensures) (c .before .before .before .loop .inv .2)
+drop-count-requires c κs =
+    let row-time = c .before .row-time in
+    let loop-test = c .before .before .loop-test in
+    let loop = c .before .before .before .loop in
+    let pre = c .before .before .before .before .before .before .before .before .before .pre in
+    drop-asks _ _ _ _ _ _ _ (pre .0 .setting) (pre .1 .0 .1) (pre .1 .0 .3) (loop-test .taken) (pre .1 .0 .2)
+    (row-time .ensures) (loop .inv .2)
 
 -- src/counts.rt:115:9
 add-j : tie.Need-add-j Inv-loop μ-loop
-add-j c = omega (arith, c .before .before .before .before .before .loop-test .taken, c .before .before .before .before .before .before .before .before .before .before .before .before .pre .1 .0 .3 .within, c .before .before .before .before .before .before .before .before .before .before .before .before .pre .0 .sound .most)
+add-j c =
+    let loop-test = c .before .before .before .before .before .loop-test in
+    let pre = c .before .before .before .before .before .before .before .before .before .before .before .before .pre in
+    omega (arith, loop-test .taken, pre .1 .0 .3 .within, pre .0 .sound .most)
 
 -- src/counts.rt:112:5
 loop-less : tie.Need-loop-less Inv-loop μ-loop
-loop-less c = omega (arith, c .before .before .before .before .before .loop-test .taken)
+loop-less c =
+    let loop-test = c .before .before .before .before .before .loop-test in
+    omega (arith, loop-test .taken)
 
 -- src/counts.rt:112:5
 loop-again : tie.Need-loop-again Inv-loop μ-loop
-loop-again c = (omega (arith, c .before .before .before .before .before .before .loop .inv .0), omega (arith, c .before .before .before .before .before .loop-test .taken), drop-next _ _ _ _ _ _ _ (c .before .before .before .before .before .before .before .before .before .before .before .before .pre .0 .setting) (c .before .before .before .before .before .before .before .before .before .before .before .before .pre .1 .0 .1) (c .before .before .before .before .before .before .before .before .before .before .before .before .pre .1 .0 .3) (c .before .before .before .before .before .loop-test .taken) (c .before .before .before .before .before .before .before .before .before .before .before .before .pre .1 .0 .2) (c .before .before .before .before .row-time .ensures) (c .before .before .before .before .before .before .loop .inv .2) (c .before .before .drop-count .ensures))
+loop-again c =
+    let drop-count = c .before .before .drop-count in
+    let row-time = c .before .before .before .before .row-time in
+    let loop-test = c .before .before .before .before .before .loop-test in
+    let loop = c .before .before .before .before .before .before .loop in
+    let pre = c .before .before .before .before .before .before .before .before .before .before .before .before .pre in (
+      omega (arith, loop .inv .0),
+      omega (arith, loop-test .taken),
+      drop-next _ _ _ _ _ _ _ (pre .0 .setting) (pre .1 .0 .1) (pre .1 .0 .3) (loop-test .taken) (pre .1 .0 .2)
+          (row-time .ensures) (loop .inv .2) (drop-count .ensures),
+    )
 
 -- src/counts.rt:93:1
 same-length : tie.Need-same-length Inv-loop μ-loop
-same-length c = c .before .loop .inv .2 .long ∙ sym (c .before .before .before .before .before .before .before .pre .1 .1 .long)
+same-length c =
+    let loop = c .before .loop in
+    let pre = c .before .before .before .before .before .before .before .pre in
+    loop .inv .2 .long ∙ sym (pre .1 .1 .long)
 
 -- src/counts.rt:93:1
 returns : tie.Need-returns Inv-loop μ-loop
-returns c = drop-end _ _ _ _ _ _ _ (c .before .before .before .before .before .before .before .pre .0 .setting) (c .before .before .before .before .before .before .before .pre .1 .0 .1) (c .before .before .before .before .before .before .before .pre .1 .0 .3) (c .loop-test .left) (c .before .loop .inv .2)
+returns c =
+    let loop = c .before .loop in
+    let pre = c .before .before .before .before .before .before .before .pre in
+    drop-end _ _ _ _ _ _ _ (pre .0 .setting) (pre .1 .0 .1) (pre .1 .0 .3) (c .loop-test .left) (loop .inv .2)
 
 pub drop-rows-spec : {M : Type 1} → statement M
 drop-rows-spec =
     tie.close
-    (tie.spec
-    Inv-loop
-    μ-loop
-    loop-holds
-    row-time-requires
-    drop-count-requires
-    add-j
-    loop-less
-    loop-again
-    same-length
-    returns)
+    (
+    tie.spec Inv-loop μ-loop loop-holds row-time-requires drop-count-requires add-j loop-less loop-again same-length
+    returns
+    )

@@ -27,11 +27,20 @@ mul-counts c = search needs
 
 -- src/counts.rt:74:17
 slice-read-counts : tie.Need-slice-read-counts
-slice-read-counts c = omega (arith, c .before .wide .ensures, (c .before .before .before .before .pre (not-false _ (c .before .before .if1 .left))) .0, (c .before .before .before .before .pre (not-false _ (c .before .before .if1 .left))) .1)
+slice-read-counts c =
+    let wide = c .before .wide in
+    let if1 = c .before .before .if1 in
+    let pre = c .before .before .before .before .pre in
+    omega (arith, wide .ensures, (pre (not-false _ (if1 .left))) .0, (pre (not-false _ (if1 .left))) .1)
 
 -- src/counts.rt:74:17
 sub-counts : tie.Need-sub-counts
-sub-counts c = subst (λ (i : ℕ). c .before .before .before .before .args .m ≤ getD (c .before .before .before .before .args .counts .now) i 0) (sym (c .before .wide .ensures)) ((c .before .before .before .before .pre (not-false _ (c .before .before .if1 .left))) .2)
+sub-counts c =
+    let wide = c .before .wide in
+    let if1 = c .before .before .if1 in
+    let args = c .before .before .before .before .args in
+    let pre = c .before .before .before .before .pre in
+    subst (λ (i : ℕ). args .m ≤ getD (args .counts .now) i 0) (sym (wide .ensures)) ((pre (not-false _ (if1 .left))) .2)
 
 -- src/counts.rt:74:5
 mul-counts-2 : tie.Need-mul-counts-2
@@ -39,31 +48,53 @@ mul-counts-2 c = search needs
 
 -- src/counts.rt:74:5
 slice-write-counts : tie.Need-slice-write-counts
-slice-write-counts c = omega (arith, c .before .wide .ensures, (c .before .before .before .before .pre (not-false _ (c .before .before .if1 .left))) .0, (c .before .before .before .before .pre (not-false _ (c .before .before .if1 .left))) .1)
+slice-write-counts c =
+    let wide = c .before .wide in
+    let if1 = c .before .before .if1 in
+    let pre = c .before .before .before .before .pre in
+    omega (arith, wide .ensures, (pre (not-false _ (if1 .left))) .0, (pre (not-false _ (if1 .left))) .1)
 
 -- src/counts.rt:75:5
 add-count-requires : tie.Need-add-count-requires
-add-count-requires c κs = moving-room _ _ _ (c .before .before .before .before .before .args .counts .now) _ ((c .before .before .before .before .before .pre (not-false _ (c .before .before .before .if1 .left))) .0) ((c .before .before .before .before .before .pre (not-false _ (c .before .before .before .if1 .left))) .1) ((c .before .before .before .before .before .pre (not-false _ (c .before .before .before .if1 .left))) .2) (ap (λ (i : ℕ). set (c .before .before .before .before .before .args .counts .now) i (getD (c .before .before .before .before .before .args .counts .now) i 0 - c .before .before .before .before .before .args .m)) (c .before .before .wide .ensures)) ((c .before .before .before .before .before .pre (not-false _ (c .before .before .before .if1 .left))) .3)
+add-count-requires c κs =
+    let wide = c .before .before .wide in
+    let if1 = c .before .before .before .if1 in
+    let args = c .before .before .before .before .before .args in
+    let pre = c .before .before .before .before .before .pre in
+    moving-room _ _ _ (args .counts .now) _ ((pre (not-false _ (if1 .left))) .0) ((pre (not-false _ (if1 .left))) .1)
+    ((pre (not-false _ (if1 .left))) .2)
+    (ap (λ (i : ℕ). set (args .counts .now) i (getD (args .counts .now) i 0 - args .m)) (wide .ensures))
+    ((pre (not-false _ (if1 .left))) .3)
 
 -- src/counts.rt:66:1
 same-length : tie.Need-same-length
-same-length c = c .before .before .add-count .kept .0 ∙ length-set (c .before .before .before .before .before .before .before .before .args .counts .now) (c .before .before .before .before .before .wide .result) (getD (c .before .before .before .before .before .before .before .before .args .counts .now) (c .before .before .before .before .before .wide .result) 0 - c .before .before .before .before .before .before .before .before .args .m)
+same-length c =
+    let add-count = c .before .before .add-count in
+    let wide = c .before .before .before .before .before .wide in
+    let args = c .before .before .before .before .before .before .before .before .args in
+    add-count .kept .0 ∙ length-set (args .counts .now) (wide .result)
+    (getD (args .counts .now) (wide .result) 0 - args .m)
 
 -- src/counts.rt:66:1
 returns-2 : tie.Need-returns-2
-returns-2 c = record { counted = λ h. moving-made _ _ _ (c .before .before .before .before .before .before .before .before .args .counts .now) _ ((c .before .before .before .before .before .before .before .before .pre (not-false _ (c .before .before .before .before .before .before .if1 .left))) .0) ((c .before .before .before .before .before .before .before .before .pre (not-false _ (c .before .before .before .before .before .before .if1 .left))) .1) ((c .before .before .before .before .before .before .before .before .pre (not-false _ (c .before .before .before .before .before .before .if1 .left))) .2) (ap (λ (i : ℕ). set (c .before .before .before .before .before .before .before .before .args .counts .now) i (getD (c .before .before .before .before .before .before .before .before .args .counts .now) i 0 - c .before .before .before .before .before .before .before .before .args .m)) (c .before .before .before .before .before .wide .ensures)) (c .before .before .add-count .ensures); same = λ h. clash (not-false _ (c .before .before .before .before .before .before .if1 .left)) h }
+returns-2 c =
+    let add-count = c .before .before .add-count in
+    let wide = c .before .before .before .before .before .wide in
+    let if1 = c .before .before .before .before .before .before .if1 in
+    let args = c .before .before .before .before .before .before .before .before .args in
+    let pre = c .before .before .before .before .before .before .before .before .pre in
+    record {
+      counted = λ h. moving-made _ _ _ (args .counts .now) _ ((pre (not-false _ (if1 .left))) .0)
+          ((pre (not-false _ (if1 .left))) .1) ((pre (not-false _ (if1 .left))) .2)
+          (ap (λ (i : ℕ). set (args .counts .now) i (getD (args .counts .now) i 0 - args .m)) (wide .ensures))
+          (add-count .ensures);
+      same = λ h. clash (not-false _ (if1 .left)) h;
+    }
 
 pub move-counts-spec : {M : Type 1} → statement M
 move-counts-spec =
     tie.close
-    (tie.spec
-    returns
-    wide-requires
-    mul-counts
-    slice-read-counts
-    sub-counts
-    mul-counts-2
-    slice-write-counts
-    add-count-requires
-    same-length
-    returns-2)
+    (
+    tie.spec returns wide-requires mul-counts slice-read-counts sub-counts mul-counts-2 slice-write-counts
+    add-count-requires same-length returns-2
+    )

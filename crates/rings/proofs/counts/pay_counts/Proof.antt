@@ -14,7 +14,10 @@ returns c = record { counted = λ h. clash h (not-true _ (c .if1 .taken)); same 
 
 -- src/counts.rt:62:5
 add-count-requires : tie.Need-add-count-requires
-add-count-requires c κs = c .before .before .before .pre (not-false _ (c .before .if1 .left))
+add-count-requires c κs =
+    let if1 = c .before .if1 in
+    let pre = c .before .before .before .pre in
+    pre (not-false _ (if1 .left))
 
 -- src/counts.rt:55:1
 same-length : tie.Need-same-length
@@ -22,7 +25,10 @@ same-length c = search needs
 
 -- src/counts.rt:55:1
 returns-2 : tie.Need-returns-2
-returns-2 c = record { counted = λ h. c .before .before .add-count .ensures; same = λ h. clash (not-false _ (c .before .before .before .before .if1 .left)) h }
+returns-2 c =
+    let add-count = c .before .before .add-count in
+    let if1 = c .before .before .before .before .if1 in
+    record { counted = λ h. add-count .ensures; same = λ h. clash (not-false _ (if1 .left)) h }
 
 pub pay-counts-spec : {M : Type 1} → statement M
 pay-counts-spec = tie.close (tie.spec returns add-count-requires same-length returns-2)

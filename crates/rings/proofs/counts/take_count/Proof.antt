@@ -34,11 +34,27 @@ mul-counts c = search needs
 
 -- src/counts.rt:50:17
 slice-read-counts : tie.Need-slice-read-counts
-slice-read-counts c = take-place (c .before .before .before .before .before .before .args .counts .now) (λ y. c .before .wide .ensures ∙ c .before .before .pick .ensures .0 y, λ y. c .before .wide .ensures ∙ c .before .before .pick .ensures .1 y) (c .before .before .before .one .ensures) (c .before .before .before .before .before .before .pre (not-false _ (c .before .before .before .before .if1 .left)) .2) (c .before .before .before .before .before .before .pre (not-false _ (c .before .before .before .before .if1 .left)) .0)
+slice-read-counts c =
+    let wide = c .before .wide in
+    let pick = c .before .before .pick in
+    let one = c .before .before .before .one in
+    let if1 = c .before .before .before .before .if1 in
+    let args = c .before .before .before .before .before .before .args in
+    let pre = c .before .before .before .before .before .before .pre in
+    take-place (args .counts .now) (λ y. wide .ensures ∙ pick .ensures .0 y, λ y. wide .ensures ∙ pick .ensures .1 y)
+    (one .ensures) (pre (not-false _ (if1 .left)) .2) (pre (not-false _ (if1 .left)) .0)
 
 -- src/counts.rt:50:17
 sub-counts : tie.Need-sub-counts
-sub-counts c = take-less (c .before .before .before .before .before .before .args .counts .now) (λ y. c .before .wide .ensures ∙ c .before .before .pick .ensures .0 y, λ y. c .before .wide .ensures ∙ c .before .before .pick .ensures .1 y) (c .before .before .before .one .ensures) (c .before .before .before .before .before .before .pre (not-false _ (c .before .before .before .before .if1 .left)) .2)
+sub-counts c =
+    let wide = c .before .wide in
+    let pick = c .before .before .pick in
+    let one = c .before .before .before .one in
+    let if1 = c .before .before .before .before .if1 in
+    let args = c .before .before .before .before .before .before .args in
+    let pre = c .before .before .before .before .before .before .pre in
+    take-less (args .counts .now) (λ y. wide .ensures ∙ pick .ensures .0 y, λ y. wide .ensures ∙ pick .ensures .1 y)
+    (one .ensures) (pre (not-false _ (if1 .left)) .2)
 
 -- src/counts.rt:50:5
 mul-counts-2 : tie.Need-mul-counts-2
@@ -46,11 +62,31 @@ mul-counts-2 c = search needs
 
 -- src/counts.rt:50:5
 slice-write-counts : tie.Need-slice-write-counts
-slice-write-counts c = take-place (c .before .before .before .before .before .before .args .counts .now) (λ y. c .before .wide .ensures ∙ c .before .before .pick .ensures .0 y, λ y. c .before .wide .ensures ∙ c .before .before .pick .ensures .1 y) (c .before .before .before .one .ensures) (c .before .before .before .before .before .before .pre (not-false _ (c .before .before .before .before .if1 .left)) .2) (c .before .before .before .before .before .before .pre (not-false _ (c .before .before .before .before .if1 .left)) .0)
+slice-write-counts c =
+    let wide = c .before .wide in
+    let pick = c .before .before .pick in
+    let one = c .before .before .before .one in
+    let if1 = c .before .before .before .before .if1 in
+    let args = c .before .before .before .before .before .before .args in
+    let pre = c .before .before .before .before .before .before .pre in
+    take-place (args .counts .now) (λ y. wide .ensures ∙ pick .ensures .0 y, λ y. wide .ensures ∙ pick .ensures .1 y)
+    (one .ensures) (pre (not-false _ (if1 .left)) .2) (pre (not-false _ (if1 .left)) .0)
 
 -- src/counts.rt:51:5
 add-result : tie.Need-add-result
-add-result c = omega (arith, take-few (c .before .before .before .before .before .before .args .counts .now) (λ y. c .before .wide .ensures ∙ c .before .before .pick .ensures .0 y, λ y. c .before .wide .ensures ∙ c .before .before .pick .ensures .1 y) (c .before .before .before .one .ensures) (c .before .before .before .before .before .before .pre (not-false _ (c .before .before .before .before .if1 .left)) .2), c .before .before .before .before .before .before .pre (not-false _ (c .before .before .before .before .if1 .left)) .1)
+add-result c =
+    let wide = c .before .wide in
+    let pick = c .before .before .pick in
+    let one = c .before .before .before .one in
+    let if1 = c .before .before .before .before .if1 in
+    let args = c .before .before .before .before .before .before .args in
+    let pre = c .before .before .before .before .before .before .pre in
+    omega (
+      arith,
+      take-few (args .counts .now) (λ y. wide .ensures ∙ pick .ensures .0 y, λ y. wide .ensures ∙ pick .ensures .1 y)
+          (one .ensures) (pre (not-false _ (if1 .left)) .2),
+      pre (not-false _ (if1 .left)) .1,
+    )
 
 -- src/counts.rt:41:1
 same-length : tie.Need-same-length
@@ -58,21 +94,22 @@ same-length c = search needs
 
 -- src/counts.rt:41:1
 returns-2 : tie.Need-returns-2
-returns-2 c = (record { counted = λ h. take-end (c .before .before .before .before .before .before .args .counts .now) (λ y. c .before .wide .ensures ∙ c .before .before .pick .ensures .0 y, λ y. c .before .wide .ensures ∙ c .before .before .pick .ensures .1 y) (c .before .before .before .one .ensures) (c .before .before .before .before .before .before .pre (not-false _ (c .before .before .before .before .if1 .left)) .2); same = λ h. clash (not-false _ (c .before .before .before .before .if1 .left)) h }, λ h. clash (not-false _ (c .before .before .before .before .if1 .left)) h)
+returns-2 c =
+    let wide = c .before .wide in
+    let pick = c .before .before .pick in
+    let one = c .before .before .before .one in
+    let if1 = c .before .before .before .before .if1 in
+    let args = c .before .before .before .before .before .before .args in
+    let pre = c .before .before .before .before .before .before .pre in (
+      record
+          { counted = λ h. take-end (args .counts .now) (λ y. wide .ensures ∙ pick .ensures .0 y, λ y. wide .ensures ∙ pick .ensures .1 y) (one .ensures) (pre (not-false _ (if1 .left)) .2); same = λ h. clash (not-false _ (if1 .left)) h },
+      λ h. clash (not-false _ (if1 .left)) h,
+    )
 
 pub take-count-spec : {M : Type 1} → statement M
 take-count-spec =
     tie.close
-    (tie.spec
-    returns
-    one-requires
-    pick-requires
-    wide-requires
-    mul-counts
-    slice-read-counts
-    sub-counts
-    mul-counts-2
-    slice-write-counts
-    add-result
-    same-length
-    returns-2)
+    (
+    tie.spec returns one-requires pick-requires wide-requires mul-counts slice-read-counts sub-counts mul-counts-2
+    slice-write-counts add-result same-length returns-2
+    )

@@ -31,27 +31,64 @@ abbrev μ-loop : tie.MeasureT-loop
 
 -- src/look.rt:166:9
 entry-requires : tie.Need-entry-requires Inv-loop μ-loop
-entry-requires c κs = omega (arith, c .before .before .before .before .before .before .pre .1 .0 .0, c .before .before .before .before .before .before .pre .0 .shelves .long)
+entry-requires c κs =
+    let pre = c .before .before .before .before .before .before .pre in
+    omega (arith, pre .1 .0 .0, pre .0 .shelves .long)
 
 -- src/look.rt:173:5
 loop-holds : tie.Need-loop-holds Inv-loop μ-loop
-loop-holds c = (refl, c .entry .ensures, gathering-start _ _ _ _ _ (c .before .before .before .before .before .before .before .pre .0) _ (c .before .before .before .before .before .before .before .pre .1 .0 .1) (c .before .before .before .before .before .before .before .pre .1 .0 .2) (c .before .before .before .before .before .before .before .pre .1 .0 .0) (c .before .before .before .before .before .before .before .pre .1 .0 .3) (c .before .before .before .before .before .before .before .pre .1 .0 .5) _ _ (c .before .before .before .before .before .before .before .pre .1 .1 .0) (c .before .before .before .before .before .before .before .pre .1 .0 .4), le-refl _, omega (arith, c .before .before .before .before .before .before .before .pre .1 .0 .4 .to, c .before .before .before .before .before .before .before .pre .0 .shelves .shelf _ (c .before .before .before .before .before .before .before .pre .1 .0 .0) .to, c .before .before .before .before .before .before .before .pre .0 .sound .most), le-refl _)
+loop-holds c =
+    let pre = c .before .before .before .before .before .before .before .pre in (
+      refl,
+      c .entry .ensures,
+      gathering-start _ _ _ _ _ (pre .0) _ (pre .1 .0 .1) (pre .1 .0 .2) (pre .1 .0 .0) (pre .1 .0 .3) (pre .1 .0 .5) _
+          _ (pre .1 .1 .0) (pre .1 .0 .4),
+      le-refl _,
+      omega (arith, pre .1 .0 .4 .to, pre .0 .shelves .shelf _ (pre .1 .0 .0) .to, pre .0 .sound .most),
+      le-refl _,
+    )
 
 -- src/look.rt:174:30
 add-entry : tie.Need-add-entry Inv-loop μ-loop
-add-entry c = omega (arith, reading-few _ _ _ _ (c .before .before .before .before .before .before .before .before .before .pre .0 .sound) (c .before .before .before .before .before .before .before .before .before .pre .0 .shelves) (c .before .before .before .before .before .before .before .before .before .pre .1 .0 .0) (c .before .loop .inv .2 .reading) (c .before .loop .inv .1) (c .loop-test .taken))
+add-entry c =
+    let loop = c .before .loop in
+    let pre = c .before .before .before .before .before .before .before .before .before .pre in
+    omega (
+      arith,
+      reading-few _ _ _ _ (pre .0 .sound) (pre .0 .shelves) (pre .1 .0 .0) (loop .inv .2 .reading) (loop .inv .1)
+          (c .loop-test .taken),
+    )
 
 -- src/look.rt:174:13
 entry-requires-2 : tie.Need-entry-requires-2 Inv-loop μ-loop
-entry-requires-2 c κs = reading-place _ _ _ _ (c .before .before .before .before .before .before .before .before .before .pre .0 .sound) (c .before .before .before .before .before .before .before .before .before .pre .0 .shelves) (c .before .before .before .before .before .before .before .before .before .pre .1 .0 .0) (c .before .loop .inv .2 .reading) (c .before .loop .inv .1) (c .loop-test .taken)
+entry-requires-2 c κs =
+    let loop = c .before .loop in
+    let pre = c .before .before .before .before .before .before .before .before .before .pre in
+    reading-place _ _ _ _ (pre .0 .sound) (pre .0 .shelves) (pre .1 .0 .0) (loop .inv .2 .reading) (loop .inv .1)
+    (c .loop-test .taken)
 
 -- src/look.rt:175:19
 mul-day : tie.Need-mul-day Inv-loop μ-loop
-mul-day c = omega (arith, reading-row _ _ _ _ (c .before .before .before .before .before .before .before .before .before .before .pre .0 .sound) (c .before .before .before .before .before .before .before .before .before .before .pre .0 .shelves) (c .before .before .before .before .before .before .before .before .before .before .pre .1 .0 .0) (c .before .before .loop .inv .2 .reading) (c .before .before .loop .inv .1) (c .before .loop-test .taken) (c .entry2 .ensures), c .before .before .before .before .before .before .before .before .before .before .pre .0 .sound .most)
+mul-day c =
+    let loop-test = c .before .loop-test in
+    let loop = c .before .before .loop in
+    let pre = c .before .before .before .before .before .before .before .before .before .before .pre in
+    omega (
+      arith,
+      reading-row _ _ _ _ (pre .0 .sound) (pre .0 .shelves) (pre .1 .0 .0) (loop .inv .2 .reading) (loop .inv .1)
+          (loop-test .taken) (c .entry2 .ensures),
+      pre .0 .sound .most,
+    )
 
 -- src/look.rt:175:19
 shared-slice-read-day : tie.Need-shared-slice-read-day Inv-loop μ-loop
-shared-slice-read-day c = reading-row _ _ _ _ (c .before .before .before .before .before .before .before .before .before .before .before .pre .0 .sound) (c .before .before .before .before .before .before .before .before .before .before .before .pre .0 .shelves) (c .before .before .before .before .before .before .before .before .before .before .before .pre .1 .0 .0) (c .before .before .before .loop .inv .2 .reading) (c .before .before .before .loop .inv .1) (c .before .before .loop-test .taken) (c .before .entry2 .ensures)
+shared-slice-read-day c =
+    let entry2 = c .before .entry2 in
+    let loop-test = c .before .before .loop-test in
+    let loop = c .before .before .before .loop in
+    let pre = c .before .before .before .before .before .before .before .before .before .before .before .pre in
+    reading-row _ _ _ _ (pre .0 .sound) (pre .0 .shelves) (pre .1 .0 .0) (loop .inv .2 .reading) (loop .inv .1)
+    (loop-test .taken) (entry2 .ensures)
 
 -- src/look.rt:176:12
 is-over-requires : tie.Need-is-over-requires Inv-loop μ-loop
@@ -59,43 +96,137 @@ is-over-requires c κs = search needs
 
 -- src/look.rt:183:25
 sub-t38 : tie.Need-sub-t38 Inv-loop μ-loop
-sub-t38 c = omega (arith, c .before .before .before .before .before .loop .inv .3)
+sub-t38 c =
+    let loop = c .before .before .before .before .before .loop in
+    omega (arith, loop .inv .3)
 
 -- src/look.rt:177:13
 same-length : tie.Need-same-length Inv-loop μ-loop
-same-length c = c .before .before .before .before .before .loop .inv .2 .behind .long ∙ sym (c .before .before .before .before .before .before .before .before .before .before .before .before .before .pre .1 .1 .0)
+same-length c =
+    let loop = c .before .before .before .before .before .loop in
+    let pre = c .before .before .before .before .before .before .before .before .before .before .before .before .before .pre in
+    loop .inv .2 .behind .long ∙ sym (pre .1 .1 .0)
 
 -- src/look.rt:177:13
 returns : tie.Need-returns Inv-loop μ-loop
-returns c = ((glance-over _ _ _ _ _ (c .before .before .before .before .before .before .before .before .before .before .before .before .before .pre .0) _ (c .before .before .before .before .before .before .before .before .before .before .before .before .before .pre .1 .0 .1) (c .before .before .before .before .before .before .before .before .before .before .before .before .before .pre .1 .0 .2) (c .before .before .before .before .before .before .before .before .before .before .before .before .before .pre .1 .0 .0) (c .before .before .before .before .before .before .before .before .before .before .before .before .before .pre .1 .0 .3) (c .before .before .before .before .before .before .before .before .before .before .before .before .before .pre .1 .0 .5) (as-glance (c .before .before .before .before .before .loop .inv .2)) (c .before .before .before .before .before .loop .inv .1) (c .before .before .before .before .loop-test .taken) (c .before .before .before .entry2 .ensures) refl (c .before .is-over .ensures .yes (c .if1 .taken)), omega (arith, c .before .before .before .before .before .loop .inv .4), glance-most _ _ _ _ _ (c .before .before .before .before .before .before .before .before .before .before .before .before .before .pre .0) _ (c .before .before .before .before .before .before .before .before .before .before .before .before .before .pre .1 .0 .1) (c .before .before .before .before .before .before .before .before .before .before .before .before .before .pre .1 .0 .2) (c .before .before .before .before .before .before .before .before .before .before .before .before .before .pre .1 .0 .0) (c .before .before .before .before .before .before .before .before .before .before .before .before .before .pre .1 .0 .3) (c .before .before .before .before .before .before .before .before .before .before .before .before .before .pre .1 .0 .5) (as-glance (c .before .before .before .before .before .loop .inv .2)) (c .before .before .before .before .before .loop .inv .1), omega (arith, c .before .before .before .before .before .before .before .before .before .before .before .before .before .pre .1 .1 .1, c .before .before .before .before .before .loop .inv .1, c .before .before .before .before .before .loop .inv .5, c .before .before .before .before .loop-test .taken)), (λ few. gathering-over _ _ _ _ _ (c .before .before .before .before .before .before .before .before .before .before .before .before .before .pre .0) _ (c .before .before .before .before .before .before .before .before .before .before .before .before .before .pre .1 .0 .1) (c .before .before .before .before .before .before .before .before .before .before .before .before .before .pre .1 .0 .2) (c .before .before .before .before .before .before .before .before .before .before .before .before .before .pre .1 .0 .0) (c .before .before .before .before .before .before .before .before .before .before .before .before .before .pre .1 .0 .3) (c .before .before .before .before .before .before .before .before .before .before .before .before .before .pre .1 .0 .5) _ _ (c .before .before .before .before .before .loop .inv .2) (c .before .before .before .before .before .loop .inv .1) (c .before .before .before .before .loop-test .taken) (c .before .before .before .entry2 .ensures) refl (c .before .is-over .ensures .yes (c .if1 .taken)) few, c .before .before .before .before .before .loop .inv .2 .behind))
+returns c =
+    let is-over = c .before .is-over in
+    let entry2 = c .before .before .before .entry2 in
+    let loop-test = c .before .before .before .before .loop-test in
+    let loop = c .before .before .before .before .before .loop in
+    let pre = c .before .before .before .before .before .before .before .before .before .before .before .before .before .pre in (
+      (glance-over _ _ _ _ _ (pre .0) _ (pre .1 .0 .1) (pre .1 .0 .2) (pre .1 .0 .0) (pre .1 .0 .3) (pre .1 .0 .5) (as-glance (loop .inv .2)) (loop .inv .1) (loop-test .taken) (entry2 .ensures) refl (is-over .ensures .yes (c .if1 .taken)), omega (arith, loop .inv .4), glance-most _ _ _ _ _ (pre .0) _ (pre .1 .0 .1) (pre .1 .0 .2) (pre .1 .0 .0) (pre .1 .0 .3) (pre .1 .0 .5) (as-glance (loop .inv .2)) (loop .inv .1), omega (arith, pre .1 .1 .1, loop .inv .1, loop .inv .5, loop-test .taken)),
+      (
+        λ few. gathering-over _ _ _ _ _ (pre .0) _ (pre .1 .0 .1) (pre .1 .0 .2) (pre .1 .0 .0) (pre .1 .0 .3)
+            (pre .1 .0 .5) _ _ (loop .inv .2) (loop .inv .1) (loop-test .taken) (entry2 .ensures) refl
+            (is-over .ensures .yes (c .if1 .taken)) few,
+        loop .inv .2 .behind,
+      ),
+    )
 
 -- src/look.rt:186:9
 add-p : tie.Need-add-p Inv-loop μ-loop
-add-p c = omega (arith, reading-few _ _ _ _ (c .before .before .before .before .before .before .before .before .before .before .before .before .before .pre .0 .sound) (c .before .before .before .before .before .before .before .before .before .before .before .before .before .pre .0 .shelves) (c .before .before .before .before .before .before .before .before .before .before .before .before .before .pre .1 .0 .0) (c .before .before .before .before .before .loop .inv .2 .reading) (c .before .before .before .before .before .loop .inv .1) (c .before .before .before .before .loop-test .taken))
+add-p c =
+    let loop-test = c .before .before .before .before .loop-test in
+    let loop = c .before .before .before .before .before .loop in
+    let pre = c .before .before .before .before .before .before .before .before .before .before .before .before .before .pre in
+    omega (
+      arith,
+      reading-few _ _ _ _ (pre .0 .sound) (pre .0 .shelves) (pre .1 .0 .0) (loop .inv .2 .reading) (loop .inv .1)
+          (loop-test .taken),
+    )
 
 -- src/look.rt:187:13
 is-first-requires : tie.Need-is-first-requires Inv-loop μ-loop
-is-first-requires c κs = rw (c .before .before .before .before .before .loop .inv .0) (let a = reading-fresh-place _ _ _ _ (c .before .before .before .before .before .before .before .before .before .before .before .before .before .pre .0 .sound) (c .before .before .before .before .before .before .before .before .before .before .before .before .before .pre .0 .shelves) (c .before .before .before .before .before .before .before .before .before .before .before .before .before .pre .1 .0 .0) (c .before .before .before .before .before .loop .inv .2 .reading) (c .before .before .before .before .before .loop .inv .1) (c .before .before .before .before .loop-test .taken) (c .before .before .before .entry2 .ensures) in (a .0, a .1, a .2, glance-late _ _ _ _ _ (c .before .before .before .before .before .before .before .before .before .before .before .before .before .pre .0) _ (c .before .before .before .before .before .before .before .before .before .before .before .before .before .pre .1 .0 .1) (c .before .before .before .before .before .before .before .before .before .before .before .before .before .pre .1 .0 .2) (c .before .before .before .before .before .before .before .before .before .before .before .before .before .pre .1 .0 .0) (c .before .before .before .before .before .before .before .before .before .before .before .before .before .pre .1 .0 .3) (c .before .before .before .before .before .before .before .before .before .before .before .before .before .pre .1 .0 .5) (as-glance (c .before .before .before .before .before .loop .inv .2)) (c .before .before .before .before .before .loop .inv .1) (c .before .before .before .before .loop-test .taken) (c .before .before .before .entry2 .ensures)))
+is-first-requires c κs =
+    let entry2 = c .before .before .before .entry2 in
+    let loop-test = c .before .before .before .before .loop-test in
+    let loop = c .before .before .before .before .before .loop in
+    let pre = c .before .before .before .before .before .before .before .before .before .before .before .before .before .pre in
+    rw (loop .inv .0)
+    (
+    let a = reading-fresh-place _ _ _ _ (pre .0 .sound) (pre .0 .shelves) (pre .1 .0 .0) (loop .inv .2 .reading)
+    (loop .inv .1) (loop-test .taken) (entry2 .ensures) in (
+      a .0,
+      a .1,
+      a .2,
+      glance-late _ _ _ _ _ (pre .0) _ (pre .1 .0 .1) (pre .1 .0 .2) (pre .1 .0 .0) (pre .1 .0 .3) (pre .1 .0 .5)
+          (as-glance (loop .inv .2)) (loop .inv .1) (loop-test .taken) (entry2 .ensures),
+    )
+    )
 
 -- src/look.rt:188:13
 entry-requires-3 : tie.Need-entry-requires-3 Inv-loop μ-loop
-entry-requires-3 c κs = omega (arith, reading-row _ _ _ _ (c .before .before .before .before .before .before .before .before .before .before .before .before .before .before .pre .0 .sound) (c .before .before .before .before .before .before .before .before .before .before .before .before .before .before .pre .0 .shelves) (c .before .before .before .before .before .before .before .before .before .before .before .before .before .before .pre .1 .0 .0) (c .before .before .before .before .before .before .loop .inv .2 .reading) (c .before .before .before .before .before .before .loop .inv .1) (c .before .before .before .before .before .loop-test .taken) (c .before .before .before .before .entry2 .ensures), c .before .before .before .before .before .before .before .before .before .before .before .before .before .before .pre .0 .sound .firsts)
+entry-requires-3 c κs =
+    let entry2 = c .before .before .before .before .entry2 in
+    let loop-test = c .before .before .before .before .before .loop-test in
+    let loop = c .before .before .before .before .before .before .loop in
+    let pre = c .before .before .before .before .before .before .before .before .before .before .before .before .before .before .pre in
+    omega (
+      arith,
+      reading-row _ _ _ _ (pre .0 .sound) (pre .0 .shelves) (pre .1 .0 .0) (loop .inv .2 .reading) (loop .inv .1)
+          (loop-test .taken) (entry2 .ensures),
+      pre .0 .sound .firsts,
+    )
 
 -- src/look.rt:189:13
 entry-requires-4 : tie.Need-entry-requires-4 Inv-loop μ-loop
-entry-requires-4 c κs = omega (arith, reading-row _ _ _ _ (c .before .before .before .before .before .before .before .before .before .before .before .before .before .before .before .pre .0 .sound) (c .before .before .before .before .before .before .before .before .before .before .before .before .before .before .before .pre .0 .shelves) (c .before .before .before .before .before .before .before .before .before .before .before .before .before .before .before .pre .1 .0 .0) (c .before .before .before .before .before .before .before .loop .inv .2 .reading) (c .before .before .before .before .before .before .before .loop .inv .1) (c .before .before .before .before .before .before .loop-test .taken) (c .before .before .before .before .before .entry2 .ensures), c .before .before .before .before .before .before .before .before .before .before .before .before .before .before .before .pre .0 .sound .seconds)
+entry-requires-4 c κs =
+    let entry2 = c .before .before .before .before .before .entry2 in
+    let loop-test = c .before .before .before .before .before .before .loop-test in
+    let loop = c .before .before .before .before .before .before .before .loop in
+    let pre = c .before .before .before .before .before .before .before .before .before .before .before .before .before .before .before .pre in
+    omega (
+      arith,
+      reading-row _ _ _ _ (pre .0 .sound) (pre .0 .shelves) (pre .1 .0 .0) (loop .inv .2 .reading) (loop .inv .1)
+          (loop-test .taken) (entry2 .ensures),
+      pre .0 .sound .seconds,
+    )
 
 -- src/look.rt:190:13
 other-requires : tie.Need-other-requires Inv-loop μ-loop
-other-requires c κs = reading-ends _ _ _ _ (c .before .before .before .before .before .before .before .before .before .before .before .before .before .before .before .before .pre .0 .sound) (c .before .before .before .before .before .before .before .before .before .before .before .before .before .before .before .before .pre .0 .shelves) (c .before .before .before .before .before .before .before .before .before .before .before .before .before .before .before .before .pre .1 .0 .0) (c .before .before .before .before .before .before .before .before .loop .inv .2 .reading) (c .before .before .before .before .before .before .before .before .loop .inv .1) (c .before .before .before .before .before .before .before .loop-test .taken) (c .before .before .before .before .before .before .entry2 .ensures) (c .before .entry3 .ensures) (c .entry4 .ensures)
+other-requires c κs =
+    let entry3 = c .before .entry3 in
+    let entry2 = c .before .before .before .before .before .before .entry2 in
+    let loop-test = c .before .before .before .before .before .before .before .loop-test in
+    let loop = c .before .before .before .before .before .before .before .before .loop in
+    let pre = c .before .before .before .before .before .before .before .before .before .before .before .before .before .before .before .before .pre in
+    reading-ends _ _ _ _ (pre .0 .sound) (pre .0 .shelves) (pre .1 .0 .0) (loop .inv .2 .reading) (loop .inv .1)
+    (loop-test .taken) (entry2 .ensures) (entry3 .ensures) (c .entry4 .ensures)
 
 -- src/look.rt:191:17
 mul-x : tie.Need-mul-x Inv-loop μ-loop
-mul-x c = omega (arith, glance-small _ _ _ _ _ (c .before .before .before .before .before .before .before .before .before .before .before .before .before .before .before .before .before .pre .0) _ (c .before .before .before .before .before .before .before .before .before .before .before .before .before .before .before .before .before .pre .1 .0 .1) (c .before .before .before .before .before .before .before .before .before .before .before .before .before .before .before .before .before .pre .1 .0 .2) (c .before .before .before .before .before .before .before .before .before .before .before .before .before .before .before .before .before .pre .1 .0 .0) (c .before .before .before .before .before .before .before .before .before .before .before .before .before .before .before .before .before .pre .1 .0 .3) (c .before .before .before .before .before .before .before .before .before .before .before .before .before .before .before .before .before .pre .1 .0 .5) (as-glance (c .before .before .before .before .before .before .before .before .before .loop .inv .2)) (c .before .before .before .before .before .before .before .before .before .loop .inv .1) (c .before .before .before .before .before .before .before .before .loop-test .taken) (c .before .before .before .before .before .before .before .entry2 .ensures) refl (c .before .before .entry3 .ensures) (c .before .entry4 .ensures) (c .other .ensures))
+mul-x c =
+    let entry4 = c .before .entry4 in
+    let entry3 = c .before .before .entry3 in
+    let entry2 = c .before .before .before .before .before .before .before .entry2 in
+    let loop-test = c .before .before .before .before .before .before .before .before .loop-test in
+    let loop = c .before .before .before .before .before .before .before .before .before .loop in
+    let pre = c .before .before .before .before .before .before .before .before .before .before .before .before .before .before .before .before .before .pre in
+    omega (
+      arith,
+      glance-small _ _ _ _ _ (pre .0) _ (pre .1 .0 .1) (pre .1 .0 .2) (pre .1 .0 .0) (pre .1 .0 .3) (pre .1 .0 .5)
+          (as-glance (loop .inv .2)) (loop .inv .1) (loop-test .taken) (entry2 .ensures) refl (entry3 .ensures)
+          (entry4 .ensures) (c .other .ensures),
+    )
 
 -- src/look.rt:191:17
 shared-slice-read-x : tie.Need-shared-slice-read-x Inv-loop μ-loop
-shared-slice-read-x c = omega (arith, glance-small _ _ _ _ _ (c .before .before .before .before .before .before .before .before .before .before .before .before .before .before .before .before .before .before .pre .0) _ (c .before .before .before .before .before .before .before .before .before .before .before .before .before .before .before .before .before .before .pre .1 .0 .1) (c .before .before .before .before .before .before .before .before .before .before .before .before .before .before .before .before .before .before .pre .1 .0 .2) (c .before .before .before .before .before .before .before .before .before .before .before .before .before .before .before .before .before .before .pre .1 .0 .0) (c .before .before .before .before .before .before .before .before .before .before .before .before .before .before .before .before .before .before .pre .1 .0 .3) (c .before .before .before .before .before .before .before .before .before .before .before .before .before .before .before .before .before .before .pre .1 .0 .5) (as-glance (c .before .before .before .before .before .before .before .before .before .before .loop .inv .2)) (c .before .before .before .before .before .before .before .before .before .before .loop .inv .1) (c .before .before .before .before .before .before .before .before .before .loop-test .taken) (c .before .before .before .before .before .before .before .before .entry2 .ensures) refl (c .before .before .before .entry3 .ensures) (c .before .before .entry4 .ensures) (c .before .other .ensures), c .before .before .before .before .before .before .before .before .before .before .before .before .before .before .before .before .before .before .pre .1 .0 .1)
+shared-slice-read-x c =
+    let other = c .before .other in
+    let entry4 = c .before .before .entry4 in
+    let entry3 = c .before .before .before .entry3 in
+    let entry2 = c .before .before .before .before .before .before .before .before .entry2 in
+    let loop-test = c .before .before .before .before .before .before .before .before .before .loop-test in
+    let loop = c .before .before .before .before .before .before .before .before .before .before .loop in
+    let pre = c .before .before .before .before .before .before .before .before .before .before .before .before .before .before .before .before .before .before .pre in
+    omega (
+      arith,
+      glance-small _ _ _ _ _ (pre .0) _ (pre .1 .0 .1) (pre .1 .0 .2) (pre .1 .0 .0) (pre .1 .0 .3) (pre .1 .0 .5)
+          (as-glance (loop .inv .2)) (loop .inv .1) (loop-test .taken) (entry2 .ensures) refl (entry3 .ensures)
+          (entry4 .ensures) (other .ensures),
+      pre .1 .0 .1,
+    )
 
 -- src/look.rt:192:13
 greater-requires : tie.Need-greater-requires Inv-loop μ-loop
@@ -103,7 +234,23 @@ greater-requires c κs = search needs
 
 -- src/look.rt:194:9
 put-requires : tie.Need-put-requires Inv-loop μ-loop
-put-requires c κs = (omega (arith, c .before .before .before .before .before .before .before .before .before .before .before .before .before .before .before .before .before .before .before .before .pre .1 .1 .0, c .before .before .before .before .before .before .before .before .before .before .before .before .before .before .before .before .before .before .before .before .pre .1 .1 .1, c .before .before .before .before .before .before .before .before .before .before .before .before .loop .inv .1, c .before .before .before .before .before .before .before .before .before .before .before .before .loop .inv .2 .behind .long, c .before .before .before .before .before .before .before .before .before .before .before .before .loop .inv .5, c .before .before .before .before .before .before .before .before .before .before .before .loop-test .taken), omega (arith, glance-small _ _ _ _ _ (c .before .before .before .before .before .before .before .before .before .before .before .before .before .before .before .before .before .before .before .before .pre .0) _ (c .before .before .before .before .before .before .before .before .before .before .before .before .before .before .before .before .before .before .before .before .pre .1 .0 .1) (c .before .before .before .before .before .before .before .before .before .before .before .before .before .before .before .before .before .before .before .before .pre .1 .0 .2) (c .before .before .before .before .before .before .before .before .before .before .before .before .before .before .before .before .before .before .before .before .pre .1 .0 .0) (c .before .before .before .before .before .before .before .before .before .before .before .before .before .before .before .before .before .before .before .before .pre .1 .0 .3) (c .before .before .before .before .before .before .before .before .before .before .before .before .before .before .before .before .before .before .before .before .pre .1 .0 .5) (as-glance (c .before .before .before .before .before .before .before .before .before .before .before .before .loop .inv .2)) (c .before .before .before .before .before .before .before .before .before .before .before .before .loop .inv .1) (c .before .before .before .before .before .before .before .before .before .before .before .loop-test .taken) (c .before .before .before .before .before .before .before .before .before .before .entry2 .ensures) refl (c .before .before .before .before .before .entry3 .ensures) (c .before .before .before .before .entry4 .ensures) (c .before .before .before .other .ensures)))
+put-requires c κs =
+    let other = c .before .before .before .other in
+    let entry4 = c .before .before .before .before .entry4 in
+    let entry3 = c .before .before .before .before .before .entry3 in
+    let entry2 = c .before .before .before .before .before .before .before .before .before .before .entry2 in
+    let loop-test = c .before .before .before .before .before .before .before .before .before .before .before .loop-test in
+    let loop = c .before .before .before .before .before .before .before .before .before .before .before .before .loop in
+    let pre = c .before .before .before .before .before .before .before .before .before .before .before .before .before .before .before .before .before .before .before .before .pre in (
+      omega
+          (arith, pre .1 .1 .0, pre .1 .1 .1, loop .inv .1, loop .inv .2 .behind .long, loop .inv .5, loop-test .taken),
+      omega (
+        arith,
+        glance-small _ _ _ _ _ (pre .0) _ (pre .1 .0 .1) (pre .1 .0 .2) (pre .1 .0 .0) (pre .1 .0 .3) (pre .1 .0 .5)
+            (as-glance (loop .inv .2)) (loop .inv .1) (loop-test .taken) (entry2 .ensures) refl (entry3 .ensures)
+            (entry4 .ensures) (other .ensures),
+      ),
+    )
 
 -- src/look.rt:195:21
 one-requires : tie.Need-one-requires Inv-loop μ-loop
@@ -115,7 +262,12 @@ wide-requires c κs = search needs
 
 -- src/look.rt:195:9
 add-end : tie.Need-add-end Inv-loop μ-loop
-add-end c = omega (arith, by-most (c .before .one .ensures), c .wide .ensures, c .before .before .before .before .before .before .before .before .before .before .before .before .before .before .before .before .before .before .before .before .before .before .before .before .before .pre .1 .1 .1, c .before .before .before .before .before .before .before .before .before .before .before .before .before .before .before .before .before .loop .inv .1, c .before .before .before .before .before .before .before .before .before .before .before .before .before .before .before .before .before .loop .inv .5, c .before .before .before .before .before .before .before .before .before .before .before .before .before .before .before .before .loop-test .taken)
+add-end c =
+    let one = c .before .one in
+    let loop-test = c .before .before .before .before .before .before .before .before .before .before .before .before .before .before .before .before .loop-test in
+    let loop = c .before .before .before .before .before .before .before .before .before .before .before .before .before .before .before .before .before .loop in
+    let pre = c .before .before .before .before .before .before .before .before .before .before .before .before .before .before .before .before .before .before .before .before .before .before .before .before .before .pre in
+    omega (arith, by-most (one .ensures), c .wide .ensures, pre .1 .1 .1, loop .inv .1, loop .inv .5, loop-test .taken)
 
 -- src/look.rt:196:25
 one-requires-2 : tie.Need-one-requires-2 Inv-loop μ-loop
@@ -123,65 +275,108 @@ one-requires-2 c κs = search needs
 
 -- src/look.rt:196:17
 add-moved : tie.Need-add-moved Inv-loop μ-loop
-add-moved c = omega (arith, by-most (c .one2 .ensures), gathering-few _ _ _ _ _ (c .before .before .before .before .before .before .before .before .before .before .before .before .before .before .before .before .before .before .before .before .before .before .before .before .before .before .pre .0) _ (c .before .before .before .before .before .before .before .before .before .before .before .before .before .before .before .before .before .before .before .before .before .before .before .before .before .before .pre .1 .0 .1) (c .before .before .before .before .before .before .before .before .before .before .before .before .before .before .before .before .before .before .before .before .before .before .before .before .before .before .pre .1 .0 .2) (c .before .before .before .before .before .before .before .before .before .before .before .before .before .before .before .before .before .before .before .before .before .before .before .before .before .before .pre .1 .0 .0) (c .before .before .before .before .before .before .before .before .before .before .before .before .before .before .before .before .before .before .before .before .before .before .before .before .before .before .pre .1 .0 .3) (c .before .before .before .before .before .before .before .before .before .before .before .before .before .before .before .before .before .before .before .before .before .before .before .before .before .before .pre .1 .0 .5) _ _ (c .before .before .before .before .before .before .before .before .before .before .before .before .before .before .before .before .before .before .loop .inv .2) (c .before .before .before .before .before .before .before .before .before .before .before .before .before .before .before .before .before .before .loop .inv .1) (c .before .before .before .before .before .before .before .before .before .before .before .before .before .before .before .before .before .loop-test .taken) (c .before .before .before .before .before .before .before .before .before .before .before .before .before .before .before .before .entry2 .ensures))
+add-moved c =
+    let entry2 = c .before .before .before .before .before .before .before .before .before .before .before .before .before .before .before .before .entry2 in
+    let loop-test = c .before .before .before .before .before .before .before .before .before .before .before .before .before .before .before .before .before .loop-test in
+    let loop = c .before .before .before .before .before .before .before .before .before .before .before .before .before .before .before .before .before .before .loop in
+    let pre = c .before .before .before .before .before .before .before .before .before .before .before .before .before .before .before .before .before .before .before .before .before .before .before .before .before .before .pre in
+    omega (
+      arith,
+      by-most (c .one2 .ensures),
+      gathering-few _ _ _ _ _ (pre .0) _ (pre .1 .0 .1) (pre .1 .0 .2) (pre .1 .0 .0) (pre .1 .0 .3) (pre .1 .0 .5) _
+          _ (loop .inv .2) (loop .inv .1) (loop-test .taken) (entry2 .ensures),
+    )
 
 -- src/look.rt:197:13
 note-requires : tie.Need-note-requires Inv-loop μ-loop
-note-requires c κs = glance-few _ _ _ _ _ (c .before .before .before .before .before .before .before .before .before .before .before .before .before .before .before .before .before .before .before .before .before .before .before .before .before .before .pre .0) _ (c .before .before .before .before .before .before .before .before .before .before .before .before .before .before .before .before .before .before .before .before .before .before .before .before .before .before .pre .1 .0 .1) (c .before .before .before .before .before .before .before .before .before .before .before .before .before .before .before .before .before .before .before .before .before .before .before .before .before .before .pre .1 .0 .2) (c .before .before .before .before .before .before .before .before .before .before .before .before .before .before .before .before .before .before .before .before .before .before .before .before .before .before .pre .1 .0 .0) (c .before .before .before .before .before .before .before .before .before .before .before .before .before .before .before .before .before .before .before .before .before .before .before .before .before .before .pre .1 .0 .3) (c .before .before .before .before .before .before .before .before .before .before .before .before .before .before .before .before .before .before .before .before .before .before .before .before .before .before .pre .1 .0 .5) (as-glance (c .before .before .before .before .before .before .before .before .before .before .before .before .before .before .before .before .before .before .loop .inv .2)) (c .before .before .before .before .before .before .before .before .before .before .before .before .before .before .before .before .before .before .loop .inv .1) (c .before .before .before .before .before .before .before .before .before .before .before .before .before .before .before .before .before .loop-test .taken) (c .before .before .before .before .before .before .before .before .before .before .before .before .before .before .before .before .entry2 .ensures)
+note-requires c κs =
+    let entry2 = c .before .before .before .before .before .before .before .before .before .before .before .before .before .before .before .before .entry2 in
+    let loop-test = c .before .before .before .before .before .before .before .before .before .before .before .before .before .before .before .before .before .loop-test in
+    let loop = c .before .before .before .before .before .before .before .before .before .before .before .before .before .before .before .before .before .before .loop in
+    let pre = c .before .before .before .before .before .before .before .before .before .before .before .before .before .before .before .before .before .before .before .before .before .before .before .before .before .before .pre in
+    glance-few _ _ _ _ _ (pre .0) _ (pre .1 .0 .1) (pre .1 .0 .2) (pre .1 .0 .0) (pre .1 .0 .3) (pre .1 .0 .5)
+    (as-glance (loop .inv .2)) (loop .inv .1) (loop-test .taken) (entry2 .ensures)
 
 -- src/look.rt:173:5
 loop-less : tie.Need-loop-less Inv-loop μ-loop
-loop-less c = omega (arith, c .before .before .before .before .before .before .before .before .before .before .before .before .before .before .before .before .before .before .loop-test .taken)
+loop-less c =
+    let loop-test = c .before .before .before .before .before .before .before .before .before .before .before .before .before .before .before .before .before .before .loop-test in
+    omega (arith, loop-test .taken)
 
 -- src/look.rt:173:5
 loop-again : tie.Need-loop-again Inv-loop μ-loop
-loop-again c = (c .before .before .before .before .before .before .before .before .before .before .before .before .before .before .before .before .before .before .before .loop .inv .0, c .before .before .before .before .before .before .before .before .before .before .before .before .before .before .before .before .before .before .before .loop .inv .1, gathering-next _ _ _ _ _ (c .before .before .before .before .before .before .before .before .before .before .before .before .before .before .before .before .before .before .before .before .before .before .before .before .before .before .before .pre .0) _ (c .before .before .before .before .before .before .before .before .before .before .before .before .before .before .before .before .before .before .before .before .before .before .before .before .before .before .before .pre .1 .0 .1) (c .before .before .before .before .before .before .before .before .before .before .before .before .before .before .before .before .before .before .before .before .before .before .before .before .before .before .before .pre .1 .0 .2) (c .before .before .before .before .before .before .before .before .before .before .before .before .before .before .before .before .before .before .before .before .before .before .before .before .before .before .before .pre .1 .0 .0) (c .before .before .before .before .before .before .before .before .before .before .before .before .before .before .before .before .before .before .before .before .before .before .before .before .before .before .before .pre .1 .0 .3) (c .before .before .before .before .before .before .before .before .before .before .before .before .before .before .before .before .before .before .before .before .before .before .before .before .before .before .before .pre .1 .0 .5) _ _ (c .before .before .before .before .before .before .before .before .before .before .before .before .before .before .before .before .before .before .before .loop .inv .2) (c .before .before .before .before .before .before .before .before .before .before .before .before .before .before .before .before .before .before .before .loop .inv .1) (c .before .before .before .before .before .before .before .before .before .before .before .before .before .before .before .before .before .before .loop-test .taken) (c .before .before .before .before .before .before .before .before .before .before .before .before .before .before .before .before .before .entry2 .ensures) refl (c .before .before .before .before .before .before .before .before .before .before .before .before .entry3 .ensures) (c .before .before .before .before .before .before .before .before .before .before .before .entry4 .ensures) (c .before .before .before .before .before .before .before .before .before .before .other .ensures) (rw (c .before .before .before .before .before .before .before .before .before .before .before .before .before .before .before .before .before .before .before .loop .inv .0) (c .before .before .before .before .before .before .before .before .before .before .before .before .before .is-first .ensures)) (⊎-elim (λ h. omega (arith, h, c .before .before .before .before .before .before .before .before .before .before .before .before .before .before .before .before .before .before .before .before .before .before .before .before .before .before .before .pre .1 .0 .3)) (λ h. h) (c .before .before .before .before .before .before .before .before .before .before .before .before .before .before .before .is-over .ensures .not (c .before .before .before .before .before .before .before .before .before .before .before .before .before .before .if1 .left))) refl (c .before .before .before .before .before .before .before .before .greater .ensures) (c .note .ensures) (c .before .one2 .ensures) (omega (arith, c .before .before .before .before .before .before .before .before .before .before .before .before .before .before .before .before .before .before .before .before .before .before .before .before .before .before .before .pre .1 .1 .0, c .before .before .before .before .before .before .before .before .before .before .before .before .before .before .before .before .before .before .before .before .before .before .before .before .before .before .before .pre .1 .1 .1, c .before .before .before .before .before .before .before .before .before .before .before .before .before .before .before .before .before .before .before .loop .inv .1, c .before .before .before .before .before .before .before .before .before .before .before .before .before .before .before .before .before .before .before .loop .inv .2 .behind .long, c .before .before .before .before .before .before .before .before .before .before .before .before .before .before .before .before .before .before .before .loop .inv .5, c .before .before .before .before .before .before .before .before .before .before .before .before .before .before .before .before .before .before .loop-test .taken)) (c .before .before .before .before .before .before .put .ensures) (λ y. c .before .before .wide .ensures ∙ c .before .before .before .one .ensures .0 y, λ y. c .before .before .wide .ensures ∙ c .before .before .before .one .ensures .1 y), omega (arith, c .before .before .before .before .before .before .before .before .before .before .before .before .before .before .before .before .before .before .before .loop .inv .3), omega (arith, reading-few _ _ _ _ (c .before .before .before .before .before .before .before .before .before .before .before .before .before .before .before .before .before .before .before .before .before .before .before .before .before .before .before .pre .0 .sound) (c .before .before .before .before .before .before .before .before .before .before .before .before .before .before .before .before .before .before .before .before .before .before .before .before .before .before .before .pre .0 .shelves) (c .before .before .before .before .before .before .before .before .before .before .before .before .before .before .before .before .before .before .before .before .before .before .before .before .before .before .before .pre .1 .0 .0) (c .before .before .before .before .before .before .before .before .before .before .before .before .before .before .before .before .before .before .before .loop .inv .2 .reading) (c .before .before .before .before .before .before .before .before .before .before .before .before .before .before .before .before .before .before .before .loop .inv .1) (c .before .before .before .before .before .before .before .before .before .before .before .before .before .before .before .before .before .before .loop-test .taken)), omega (arith, c .before .before .before .before .before .before .before .before .before .before .before .before .before .before .before .before .before .before .before .loop .inv .5, by-most (c .before .before .before .one .ensures), c .before .before .wide .ensures))
+loop-again c =
+    let one2 = c .before .one2 in
+    let wide = c .before .before .wide in
+    let one = c .before .before .before .one in
+    let put = c .before .before .before .before .before .before .put in
+    let greater = c .before .before .before .before .before .before .before .before .greater in
+    let other = c .before .before .before .before .before .before .before .before .before .before .other in
+    let entry4 = c .before .before .before .before .before .before .before .before .before .before .before .entry4 in
+    let entry3 = c .before .before .before .before .before .before .before .before .before .before .before .before .entry3 in
+    let is-first = c .before .before .before .before .before .before .before .before .before .before .before .before .before .is-first in
+    let if1 = c .before .before .before .before .before .before .before .before .before .before .before .before .before .before .if1 in
+    let is-over = c .before .before .before .before .before .before .before .before .before .before .before .before .before .before .before .is-over in
+    let entry2 = c .before .before .before .before .before .before .before .before .before .before .before .before .before .before .before .before .before .entry2 in
+    let loop-test = c .before .before .before .before .before .before .before .before .before .before .before .before .before .before .before .before .before .before .loop-test in
+    let loop = c .before .before .before .before .before .before .before .before .before .before .before .before .before .before .before .before .before .before .before .loop in
+    let pre = c .before .before .before .before .before .before .before .before .before .before .before .before .before .before .before .before .before .before .before .before .before .before .before .before .before .before .before .pre in (
+      loop .inv .0,
+      loop .inv .1,
+      gathering-next _ _ _ _ _ (pre .0) _ (pre .1 .0 .1) (pre .1 .0 .2) (pre .1 .0 .0) (pre .1 .0 .3) (pre .1 .0 .5) _ _
+          (loop .inv .2) (loop .inv .1) (loop-test .taken) (entry2 .ensures) refl (entry3 .ensures) (entry4 .ensures)
+          (other .ensures) (rw (loop .inv .0) (is-first .ensures))
+          (⊎-elim (λ h. omega (arith, h, pre .1 .0 .3)) (λ h. h) (is-over .ensures .not (if1 .left))) refl
+          (greater .ensures) (c .note .ensures) (one2 .ensures)
+          (
+          omega (
+            arith,
+            pre .1 .1 .0,
+            pre .1 .1 .1,
+            loop .inv .1,
+            loop .inv .2 .behind .long,
+            loop .inv .5,
+            loop-test .taken,
+          )
+          ) (put .ensures) (λ y. wide .ensures ∙ one .ensures .0 y, λ y. wide .ensures ∙ one .ensures .1 y),
+      omega (arith, loop .inv .3),
+      omega
+          (arith, reading-few _ _ _ _ (pre .0 .sound) (pre .0 .shelves) (pre .1 .0 .0) (loop .inv .2 .reading) (loop .inv .1) (loop-test .taken)),
+      omega (arith, loop .inv .5, by-most (one .ensures), wide .ensures),
+    )
 
 -- src/look.rt:208:17
 sub-t45 : tie.Need-sub-t45 Inv-loop μ-loop
-sub-t45 c = omega (arith, c .before .loop .inv .3)
+sub-t45 c =
+    let loop = c .before .loop in
+    omega (arith, loop .inv .3)
 
 -- src/look.rt:143:1
 same-length-2 : tie.Need-same-length-2 Inv-loop μ-loop
-same-length-2 c = c .before .loop .inv .2 .behind .long ∙ sym (c .before .before .before .before .before .before .before .before .before .pre .1 .1 .0)
+same-length-2 c =
+    let loop = c .before .loop in
+    let pre = c .before .before .before .before .before .before .before .before .before .pre in
+    loop .inv .2 .behind .long ∙ sym (pre .1 .1 .0)
 
 -- src/look.rt:143:1
 returns-2 : tie.Need-returns-2 Inv-loop μ-loop
-returns-2 c = ((glance-out _ _ _ _ _ (c .before .before .before .before .before .before .before .before .before .pre .0) _ (c .before .before .before .before .before .before .before .before .before .pre .1 .0 .1) (c .before .before .before .before .before .before .before .before .before .pre .1 .0 .2) (c .before .before .before .before .before .before .before .before .before .pre .1 .0 .0) (c .before .before .before .before .before .before .before .before .before .pre .1 .0 .3) (c .before .before .before .before .before .before .before .before .before .pre .1 .0 .5) (as-glance (c .before .loop .inv .2)) (c .before .loop .inv .1) (c .loop-test .left), omega (arith, c .before .loop .inv .4), glance-most _ _ _ _ _ (c .before .before .before .before .before .before .before .before .before .pre .0) _ (c .before .before .before .before .before .before .before .before .before .pre .1 .0 .1) (c .before .before .before .before .before .before .before .before .before .pre .1 .0 .2) (c .before .before .before .before .before .before .before .before .before .pre .1 .0 .0) (c .before .before .before .before .before .before .before .before .before .pre .1 .0 .3) (c .before .before .before .before .before .before .before .before .before .pre .1 .0 .5) (as-glance (c .before .loop .inv .2)) (c .before .loop .inv .1), omega (arith, c .before .before .before .before .before .before .before .before .before .pre .1 .1 .1, c .before .loop .inv .1, c .before .loop .inv .5, c .before .loop .inv .2 .reading .to)), (λ few. gathering-out _ _ _ _ _ (c .before .before .before .before .before .before .before .before .before .pre .0) _ (c .before .before .before .before .before .before .before .before .before .pre .1 .0 .1) (c .before .before .before .before .before .before .before .before .before .pre .1 .0 .2) (c .before .before .before .before .before .before .before .before .before .pre .1 .0 .0) (c .before .before .before .before .before .before .before .before .before .pre .1 .0 .3) (c .before .before .before .before .before .before .before .before .before .pre .1 .0 .5) _ _ (c .before .loop .inv .2) (c .before .loop .inv .1) (c .loop-test .left), c .before .loop .inv .2 .behind))
+returns-2 c =
+    let loop = c .before .loop in
+    let pre = c .before .before .before .before .before .before .before .before .before .pre in (
+      (glance-out _ _ _ _ _ (pre .0) _ (pre .1 .0 .1) (pre .1 .0 .2) (pre .1 .0 .0) (pre .1 .0 .3) (pre .1 .0 .5) (as-glance (loop .inv .2)) (loop .inv .1) (c .loop-test .left), omega (arith, loop .inv .4), glance-most _ _ _ _ _ (pre .0) _ (pre .1 .0 .1) (pre .1 .0 .2) (pre .1 .0 .0) (pre .1 .0 .3) (pre .1 .0 .5) (as-glance (loop .inv .2)) (loop .inv .1), omega (arith, pre .1 .1 .1, loop .inv .1, loop .inv .5, loop .inv .2 .reading .to)),
+      (
+        λ few. gathering-out _ _ _ _ _ (pre .0) _ (pre .1 .0 .1) (pre .1 .0 .2) (pre .1 .0 .0) (pre .1 .0 .3)
+            (pre .1 .0 .5) _ _ (loop .inv .2) (loop .inv .1) (c .loop-test .left),
+        loop .inv .2 .behind,
+      ),
+    )
 
 pub gather-spec : {M : Type 1} → statement M
 gather-spec =
     tie.close
-    (tie.spec
-    Inv-loop
-    μ-loop
-    entry-requires
-    loop-holds
-    add-entry
-    entry-requires-2
-    mul-day
-    shared-slice-read-day
-    is-over-requires
-    sub-t38
-    same-length
-    returns
-    add-p
-    is-first-requires
-    entry-requires-3
-    entry-requires-4
-    other-requires
-    mul-x
-    shared-slice-read-x
-    greater-requires
-    put-requires
-    one-requires
-    wide-requires
-    add-end
-    one-requires-2
-    add-moved
-    note-requires
-    loop-less
-    loop-again
-    sub-t45
-    same-length-2
-    returns-2)
+    (
+    tie.spec Inv-loop μ-loop entry-requires loop-holds add-entry entry-requires-2 mul-day shared-slice-read-day
+    is-over-requires sub-t38 same-length returns add-p is-first-requires entry-requires-3 entry-requires-4
+    other-requires mul-x shared-slice-read-x greater-requires put-requires one-requires wide-requires add-end
+    one-requires-2 add-moved note-requires loop-less loop-again sub-t45 same-length-2 returns-2
+    )

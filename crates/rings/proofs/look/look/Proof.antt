@@ -21,43 +21,94 @@ abbrev μ-loop : tie.MeasureT-loop
 
 -- src/look.rt:249:5
 loop-holds : tie.Need-loop-holds Inv-loop μ-loop
-loop-holds c = (c .before .before .before .before .before .pre .1 .1, omega arith)
+loop-holds c =
+    let pre = c .before .before .before .before .before .pre in
+    (pre .1 .1, omega arith)
 
 -- src/look.rt:251:13
 returns : tie.Need-returns Inv-loop μ-loop
-returns c = (λ z. absurd (z refl), omega (arith, c .before .before .loop .inv .1, c .before .before .before .before .before .before .before .before .pre .1 .0 .3))
+returns c =
+    let loop = c .before .before .loop in
+    let pre = c .before .before .before .before .before .before .before .before .pre in
+    (λ z. absurd (z refl), omega (arith, loop .inv .1, pre .1 .0 .3))
 
 -- src/look.rt:257:13
 look-at-requires : tie.Need-look-at-requires Inv-loop μ-loop
-look-at-requires c κs = (c .before .before .before .before .before .before .before .before .pre .0, (c .before .before .before .before .before .before .before .before .pre .1 .0 .0, c .before .before .before .before .before .before .before .before .pre .1 .0 .1, c .before .before .before .before .before .before .before .before .pre .1 .0 .2, (⊎-elim (λ h. h) (λ h. absurd (omega (arith, h, c .before .loop-test .taken))) (c .before .before .loop .inv .0 .day)), c .before .before .before .before .before .before .before .before .pre .1 .0 .4, c .before .before .before .before .before .before .before .before .pre .1 .0 .5 (λ e. omega (arith, e, c .before .before .loop .inv .0 .from, c .before .loop-test .taken))))
+look-at-requires c κs =
+    let loop-test = c .before .loop-test in
+    let loop = c .before .before .loop in
+    let pre = c .before .before .before .before .before .before .before .before .pre in (
+      pre .0,
+      (
+        pre .1 .0 .0,
+        pre .1 .0 .1,
+        pre .1 .0 .2,
+        (⊎-elim (λ h. h) (λ h. absurd (omega (arith, h, loop-test .taken))) (loop .inv .0 .day)),
+        pre .1 .0 .4,
+        pre .1 .0 .5 (λ e. omega (arith, e, loop .inv .0 .from, loop-test .taken)),
+      ),
+    )
 
 -- src/look.rt:271:18
 add-walked : tie.Need-add-walked Inv-loop μ-loop
-add-walked c = omega (arith, c .before .look-at .ensures .1, c .before .before .if1 .left, c .before .before .before .before .before .before .before .before .before .before .pre .1 .0 .3)
+add-walked c =
+    let look-at = c .before .look-at in
+    let if1 = c .before .before .if1 in
+    let pre = c .before .before .before .before .before .before .before .before .before .before .pre in
+    omega (arith, look-at .ensures .1, if1 .left, pre .1 .0 .3)
 
 -- src/look.rt:275:24
 add-t19 : tie.Need-add-t19 Inv-loop μ-loop
-add-t19 c = omega (arith, c .before .before .before .before .look-at .ensures .2)
+add-t19 c =
+    let look-at = c .before .before .before .before .look-at in
+    omega (arith, look-at .ensures .2)
 
 -- src/look.rt:275:24
 sub-t20 : tie.Need-sub-t20 Inv-loop μ-loop
-sub-t20 c = omega (arith, c .before .if2 .taken)
+sub-t20 c =
+    let if2 = c .before .if2 in
+    omega (arith, if2 .taken)
 
 -- src/look.rt:273:13
 returns-2 : tie.Need-returns-2 Inv-loop μ-loop
-returns-2 c = (λ z. look-found _ _ _ _ _ (c .before .before .before .before .before .before .before .before .before .before .before .before .before .pre .0 .setting) _ (c .before .before .before .before .before .before .before .loop .inv .0 .fewer) (c .before .before .before .before .before .before .before .loop .inv .0 .from) (c .before .before .before .before .look-at .ensures .0) (c .before .if2 .taken) (⊎-elim (λ h. h) (λ h. absurd (omega (arith, h, c .before .before .before .before .before .before .loop-test .taken))) (c .before .before .before .before .before .before .before .loop .inv .0 .day)) refl, omega (arith, c .before .before .before .before .look-at .ensures .1, c .before .before .before .before .before .if1 .left, c .before .before .before .before .before .before .before .before .before .before .before .before .before .pre .1 .0 .3))
+returns-2 c =
+    let if2 = c .before .if2 in
+    let look-at = c .before .before .before .before .look-at in
+    let if1 = c .before .before .before .before .before .if1 in
+    let loop-test = c .before .before .before .before .before .before .loop-test in
+    let loop = c .before .before .before .before .before .before .before .loop in
+    let pre = c .before .before .before .before .before .before .before .before .before .before .before .before .before .pre in (
+      λ z. look-found _ _ _ _ _ (pre .0 .setting) _ (loop .inv .0 .fewer) (loop .inv .0 .from) (look-at .ensures .0)
+          (if2 .taken) (⊎-elim (λ h. h) (λ h. absurd (omega (arith, h, loop-test .taken))) (loop .inv .0 .day)) refl,
+      omega (arith, look-at .ensures .1, if1 .left, pre .1 .0 .3),
+    )
 
 -- src/look.rt:281:13
 returns-3 : tie.Need-returns-3 Inv-loop μ-loop
-returns-3 c = (λ z. look-never _ _ _ _ _ (c .before .before .before .before .before .before .before .before .before .before .before .before .before .pre .0 .setting) _ (short-next _ _ _ _ _ (c .before .before .before .before .before .before .before .before .before .before .before .before .before .pre .0 .setting) _ (c .before .before .before .before .before .before .before .loop .inv .0) (c .before .before .before .before .look-at .ensures .0) (c .before .if2 .left) .fewer) (short-next _ _ _ _ _ (c .before .before .before .before .before .before .before .before .before .before .before .before .before .pre .0 .setting) _ (c .before .before .before .before .before .before .before .loop .inv .0) (c .before .before .before .before .look-at .ensures .0) (c .before .if2 .left) .from) (c .if3 .taken) refl, omega (arith, c .before .before .before .before .look-at .ensures .1, c .before .before .before .before .before .if1 .left, c .before .before .before .before .before .before .before .before .before .before .before .before .before .pre .1 .0 .3))
+returns-3 c =
+    let if2 = c .before .if2 in
+    let look-at = c .before .before .before .before .look-at in
+    let if1 = c .before .before .before .before .before .if1 in
+    let loop = c .before .before .before .before .before .before .before .loop in
+    let pre = c .before .before .before .before .before .before .before .before .before .before .before .before .before .pre in (
+      λ z. look-never _ _ _ _ _ (pre .0 .setting) _
+          (short-next _ _ _ _ _ (pre .0 .setting) _ (loop .inv .0) (look-at .ensures .0) (if2 .left) .fewer)
+          (short-next _ _ _ _ _ (pre .0 .setting) _ (loop .inv .0) (look-at .ensures .0) (if2 .left) .from)
+          (c .if3 .taken) refl,
+      omega (arith, look-at .ensures .1, if1 .left, pre .1 .0 .3),
+    )
 
 -- src/look.rt:287:20
 add-both : tie.Need-add-both Inv-loop μ-loop
-add-both c = omega (arith, c .before .before .before .before .before .look-at .ensures .2)
+add-both c =
+    let look-at = c .before .before .before .before .before .look-at in
+    omega (arith, look-at .ensures .2)
 
 -- src/look.rt:291:24
 add-t21 : tie.Need-add-t21 Inv-loop μ-loop
-add-t21 c = omega (arith, c .before .before .before .before .before .before .look-at .ensures .2)
+add-t21 c =
+    let look-at = c .before .before .before .before .before .before .look-at in
+    omega (arith, look-at .ensures .2)
 
 -- src/look.rt:291:24
 sub-t22 : tie.Need-sub-t22 Inv-loop μ-loop
@@ -65,38 +116,61 @@ sub-t22 c = omega (arith, c .if4 .taken)
 
 -- src/look.rt:289:13
 returns-4 : tie.Need-returns-4 Inv-loop μ-loop
-returns-4 c = (λ z. look-then _ _ _ _ _ (c .before .before .before .before .before .before .before .before .before .before .before .before .before .before .before .pre .0 .setting) _ (c .before .before .before .before .before .before .before .before .before .loop .inv .0 .fewer) (c .before .before .before .before .before .before .before .before .before .loop .inv .0 .from) (c .before .before .before .before .before .before .look-at .ensures .0) (c .before .before .before .if2 .left) (c .before .before .if3 .left) (c .if4 .taken) refl, omega (arith, c .before .before .before .before .before .before .look-at .ensures .1, c .before .before .before .before .before .before .before .if1 .left, c .before .before .before .before .before .before .before .before .before .before .before .before .before .before .before .pre .1 .0 .3))
+returns-4 c =
+    let if3 = c .before .before .if3 in
+    let if2 = c .before .before .before .if2 in
+    let look-at = c .before .before .before .before .before .before .look-at in
+    let if1 = c .before .before .before .before .before .before .before .if1 in
+    let loop = c .before .before .before .before .before .before .before .before .before .loop in
+    let pre = c .before .before .before .before .before .before .before .before .before .before .before .before .before .before .before .pre in (
+      λ z. look-then _ _ _ _ _ (pre .0 .setting) _ (loop .inv .0 .fewer) (loop .inv .0 .from) (look-at .ensures .0)
+          (if2 .left) (if3 .left) (c .if4 .taken) refl,
+      omega (arith, look-at .ensures .1, if1 .left, pre .1 .0 .3),
+    )
 
 -- src/look.rt:249:5
 loop-less : tie.Need-loop-less Inv-loop μ-loop
-loop-less c = omega (arith, look-next _ _ _ _ _ (c .before .before .before .before .before .before .before .before .before .before .before .before .before .before .before .pre .0 .setting) _ (c .before .before .before .before .before .before .before .before .before .loop .inv .0 .fewer) (c .before .before .before .before .before .before .look-at .ensures .0) (c .before .before .before .if2 .left) .1, c .before .before .before .before .before .before .before .before .loop-test .taken)
+loop-less c =
+    let if2 = c .before .before .before .if2 in
+    let look-at = c .before .before .before .before .before .before .look-at in
+    let loop-test = c .before .before .before .before .before .before .before .before .loop-test in
+    let loop = c .before .before .before .before .before .before .before .before .before .loop in
+    let pre = c .before .before .before .before .before .before .before .before .before .before .before .before .before .before .before .pre in
+    omega (
+      arith,
+      look-next _ _ _ _ _ (pre .0 .setting) _ (loop .inv .0 .fewer) (look-at .ensures .0) (if2 .left) .1,
+      loop-test .taken,
+    )
 
 -- src/look.rt:249:5
 loop-again : tie.Need-loop-again Inv-loop μ-loop
-loop-again c = (short-next _ _ _ _ _ (c .before .before .before .before .before .before .before .before .before .before .before .before .before .before .before .pre .0 .setting) _ (c .before .before .before .before .before .before .before .before .before .loop .inv .0) (c .before .before .before .before .before .before .look-at .ensures .0) (c .before .before .before .if2 .left), omega (arith, c .before .before .before .before .before .before .look-at .ensures .1, c .before .before .before .before .before .before .before .if1 .left))
+loop-again c =
+    let if2 = c .before .before .before .if2 in
+    let look-at = c .before .before .before .before .before .before .look-at in
+    let if1 = c .before .before .before .before .before .before .before .if1 in
+    let loop = c .before .before .before .before .before .before .before .before .before .loop in
+    let pre = c .before .before .before .before .before .before .before .before .before .before .before .before .before .before .before .pre in (
+      short-next _ _ _ _ _ (pre .0 .setting) _ (loop .inv .0) (look-at .ensures .0) (if2 .left),
+      omega (arith, look-at .ensures .1, if1 .left),
+    )
 
 -- src/look.rt:227:1
 returns-5 : tie.Need-returns-5 Inv-loop μ-loop
-returns-5 c = (λ z. look-never _ _ _ _ _ (c .before .before .before .before .before .before .before .pre .0 .setting) _ (c .before .loop .inv .0 .fewer) (c .before .loop .inv .0 .from) (⊎-elim (λ h. absurd (omega (arith, h, c .loop-test .left, c .before .before .before .before .before .before .before .pre .0 .setting .fits))) (λ h. h) (c .before .loop .inv .0 .day)) refl, omega (arith, c .before .loop .inv .1, c .before .before .before .before .before .before .before .pre .1 .0 .3))
+returns-5 c =
+    let loop = c .before .loop in
+    let pre = c .before .before .before .before .before .before .before .pre in (
+      λ z. look-never _ _ _ _ _ (pre .0 .setting) _ (loop .inv .0 .fewer) (loop .inv .0 .from)
+          (
+          ⊎-elim (λ h. absurd (omega (arith, h, c .loop-test .left, pre .0 .setting .fits))) (λ h. h)
+          (loop .inv .0 .day)
+          ) refl,
+      omega (arith, loop .inv .1, pre .1 .0 .3),
+    )
 
 pub look-spec : {M : Type 1} → statement M
 look-spec =
     tie.close
-    (tie.spec
-    Inv-loop
-    μ-loop
-    loop-holds
-    returns
-    look-at-requires
-    add-walked
-    add-t19
-    sub-t20
-    returns-2
-    returns-3
-    add-both
-    add-t21
-    sub-t22
-    returns-4
-    loop-less
-    loop-again
-    returns-5)
+    (
+    tie.spec Inv-loop μ-loop loop-holds returns look-at-requires add-walked add-t19 sub-t20 returns-2 returns-3
+    add-both add-t21 sub-t22 returns-4 loop-less loop-again returns-5
+    )

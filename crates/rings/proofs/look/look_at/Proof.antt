@@ -28,27 +28,62 @@ abbrev μ-loop : tie.MeasureT-loop
 
 -- src/look.rt:95:9
 entry-requires : tie.Need-entry-requires Inv-loop μ-loop
-entry-requires c κs = omega (arith, c .before .before .before .before .before .pre .1 .0, c .before .before .before .before .before .pre .0 .shelves .long)
+entry-requires c κs =
+    let pre = c .before .before .before .before .before .pre in
+    omega (arith, pre .1 .0, pre .0 .shelves .long)
 
 -- src/look.rt:100:5
 loop-holds : tie.Need-loop-holds Inv-loop μ-loop
-loop-holds c = (refl, c .entry .ensures, glance-start _ _ _ _ _ (c .before .before .before .before .before .before .pre .0) _ (c .before .before .before .before .before .before .pre .1 .1) (c .before .before .before .before .before .before .pre .1 .2) (c .before .before .before .before .before .before .pre .1 .0) (c .before .before .before .before .before .before .pre .1 .3) (c .before .before .before .before .before .before .pre .1 .5) (c .before .before .before .before .before .before .pre .1 .4), le-refl _, omega (arith, c .before .before .before .before .before .before .pre .1 .4 .to, c .before .before .before .before .before .before .pre .0 .shelves .shelf _ (c .before .before .before .before .before .before .pre .1 .0) .to, c .before .before .before .before .before .before .pre .0 .sound .most))
+loop-holds c =
+    let pre = c .before .before .before .before .before .before .pre in (
+      refl,
+      c .entry .ensures,
+      glance-start _ _ _ _ _ (pre .0) _ (pre .1 .1) (pre .1 .2) (pre .1 .0) (pre .1 .3) (pre .1 .5) (pre .1 .4),
+      le-refl _,
+      omega (arith, pre .1 .4 .to, pre .0 .shelves .shelf _ (pre .1 .0) .to, pre .0 .sound .most),
+    )
 
 -- src/look.rt:101:30
 add-entry : tie.Need-add-entry Inv-loop μ-loop
-add-entry c = omega (arith, reading-few _ _ _ _ (c .before .before .before .before .before .before .before .before .pre .0 .sound) (c .before .before .before .before .before .before .before .before .pre .0 .shelves) (c .before .before .before .before .before .before .before .before .pre .1 .0) (c .before .loop .inv .2 .reading) (c .before .loop .inv .1) (c .loop-test .taken))
+add-entry c =
+    let loop = c .before .loop in
+    let pre = c .before .before .before .before .before .before .before .before .pre in
+    omega (
+      arith,
+      reading-few _ _ _ _ (pre .0 .sound) (pre .0 .shelves) (pre .1 .0) (loop .inv .2 .reading) (loop .inv .1)
+          (c .loop-test .taken),
+    )
 
 -- src/look.rt:101:13
 entry-requires-2 : tie.Need-entry-requires-2 Inv-loop μ-loop
-entry-requires-2 c κs = reading-place _ _ _ _ (c .before .before .before .before .before .before .before .before .pre .0 .sound) (c .before .before .before .before .before .before .before .before .pre .0 .shelves) (c .before .before .before .before .before .before .before .before .pre .1 .0) (c .before .loop .inv .2 .reading) (c .before .loop .inv .1) (c .loop-test .taken)
+entry-requires-2 c κs =
+    let loop = c .before .loop in
+    let pre = c .before .before .before .before .before .before .before .before .pre in
+    reading-place _ _ _ _ (pre .0 .sound) (pre .0 .shelves) (pre .1 .0) (loop .inv .2 .reading) (loop .inv .1)
+    (c .loop-test .taken)
 
 -- src/look.rt:102:19
 mul-day : tie.Need-mul-day Inv-loop μ-loop
-mul-day c = omega (arith, reading-row _ _ _ _ (c .before .before .before .before .before .before .before .before .before .pre .0 .sound) (c .before .before .before .before .before .before .before .before .before .pre .0 .shelves) (c .before .before .before .before .before .before .before .before .before .pre .1 .0) (c .before .before .loop .inv .2 .reading) (c .before .before .loop .inv .1) (c .before .loop-test .taken) (c .entry2 .ensures), c .before .before .before .before .before .before .before .before .before .pre .0 .sound .most)
+mul-day c =
+    let loop-test = c .before .loop-test in
+    let loop = c .before .before .loop in
+    let pre = c .before .before .before .before .before .before .before .before .before .pre in
+    omega (
+      arith,
+      reading-row _ _ _ _ (pre .0 .sound) (pre .0 .shelves) (pre .1 .0) (loop .inv .2 .reading) (loop .inv .1)
+          (loop-test .taken) (c .entry2 .ensures),
+      pre .0 .sound .most,
+    )
 
 -- src/look.rt:102:19
 shared-slice-read-day : tie.Need-shared-slice-read-day Inv-loop μ-loop
-shared-slice-read-day c = reading-row _ _ _ _ (c .before .before .before .before .before .before .before .before .before .before .pre .0 .sound) (c .before .before .before .before .before .before .before .before .before .before .pre .0 .shelves) (c .before .before .before .before .before .before .before .before .before .before .pre .1 .0) (c .before .before .before .loop .inv .2 .reading) (c .before .before .before .loop .inv .1) (c .before .before .loop-test .taken) (c .before .entry2 .ensures)
+shared-slice-read-day c =
+    let entry2 = c .before .entry2 in
+    let loop-test = c .before .before .loop-test in
+    let loop = c .before .before .before .loop in
+    let pre = c .before .before .before .before .before .before .before .before .before .before .pre in
+    reading-row _ _ _ _ (pre .0 .sound) (pre .0 .shelves) (pre .1 .0) (loop .inv .2 .reading) (loop .inv .1)
+    (loop-test .taken) (entry2 .ensures)
 
 -- src/look.rt:103:12
 is-over-requires : tie.Need-is-over-requires Inv-loop μ-loop
@@ -56,39 +91,127 @@ is-over-requires c κs = search needs
 
 -- src/look.rt:108:25
 sub-t32 : tie.Need-sub-t32 Inv-loop μ-loop
-sub-t32 c = omega (arith, c .before .before .before .before .before .loop .inv .3)
+sub-t32 c =
+    let loop = c .before .before .before .before .before .loop in
+    omega (arith, loop .inv .3)
 
 -- src/look.rt:104:13
 returns : tie.Need-returns Inv-loop μ-loop
-returns c = (glance-over _ _ _ _ _ (c .before .before .before .before .before .before .before .before .before .before .before .before .pre .0) _ (c .before .before .before .before .before .before .before .before .before .before .before .before .pre .1 .1) (c .before .before .before .before .before .before .before .before .before .before .before .before .pre .1 .2) (c .before .before .before .before .before .before .before .before .before .before .before .before .pre .1 .0) (c .before .before .before .before .before .before .before .before .before .before .before .before .pre .1 .3) (c .before .before .before .before .before .before .before .before .before .before .before .before .pre .1 .5) (c .before .before .before .before .before .loop .inv .2) (c .before .before .before .before .before .loop .inv .1) (c .before .before .before .before .loop-test .taken) (c .before .before .before .entry2 .ensures) refl (c .before .is-over .ensures .yes (c .if1 .taken)), omega (arith, c .before .before .before .before .before .loop .inv .4), glance-most _ _ _ _ _ (c .before .before .before .before .before .before .before .before .before .before .before .before .pre .0) _ (c .before .before .before .before .before .before .before .before .before .before .before .before .pre .1 .1) (c .before .before .before .before .before .before .before .before .before .before .before .before .pre .1 .2) (c .before .before .before .before .before .before .before .before .before .before .before .before .pre .1 .0) (c .before .before .before .before .before .before .before .before .before .before .before .before .pre .1 .3) (c .before .before .before .before .before .before .before .before .before .before .before .before .pre .1 .5) (c .before .before .before .before .before .loop .inv .2) (c .before .before .before .before .before .loop .inv .1))
+returns c =
+    let is-over = c .before .is-over in
+    let entry2 = c .before .before .before .entry2 in
+    let loop-test = c .before .before .before .before .loop-test in
+    let loop = c .before .before .before .before .before .loop in
+    let pre = c .before .before .before .before .before .before .before .before .before .before .before .before .pre in (
+      glance-over _ _ _ _ _ (pre .0) _ (pre .1 .1) (pre .1 .2) (pre .1 .0) (pre .1 .3) (pre .1 .5) (loop .inv .2)
+          (loop .inv .1) (loop-test .taken) (entry2 .ensures) refl (is-over .ensures .yes (c .if1 .taken)),
+      omega (arith, loop .inv .4),
+      glance-most _ _ _ _ _ (pre .0) _ (pre .1 .1) (pre .1 .2) (pre .1 .0) (pre .1 .3) (pre .1 .5) (loop .inv .2)
+          (loop .inv .1),
+    )
 
 -- src/look.rt:111:9
 add-p : tie.Need-add-p Inv-loop μ-loop
-add-p c = omega (arith, reading-few _ _ _ _ (c .before .before .before .before .before .before .before .before .before .before .before .before .pre .0 .sound) (c .before .before .before .before .before .before .before .before .before .before .before .before .pre .0 .shelves) (c .before .before .before .before .before .before .before .before .before .before .before .before .pre .1 .0) (c .before .before .before .before .before .loop .inv .2 .reading) (c .before .before .before .before .before .loop .inv .1) (c .before .before .before .before .loop-test .taken))
+add-p c =
+    let loop-test = c .before .before .before .before .loop-test in
+    let loop = c .before .before .before .before .before .loop in
+    let pre = c .before .before .before .before .before .before .before .before .before .before .before .before .pre in
+    omega (
+      arith,
+      reading-few _ _ _ _ (pre .0 .sound) (pre .0 .shelves) (pre .1 .0) (loop .inv .2 .reading) (loop .inv .1)
+          (loop-test .taken),
+    )
 
 -- src/look.rt:112:13
 is-first-requires : tie.Need-is-first-requires Inv-loop μ-loop
-is-first-requires c κs = rw (c .before .before .before .before .before .loop .inv .0) (let a = reading-fresh-place _ _ _ _ (c .before .before .before .before .before .before .before .before .before .before .before .before .pre .0 .sound) (c .before .before .before .before .before .before .before .before .before .before .before .before .pre .0 .shelves) (c .before .before .before .before .before .before .before .before .before .before .before .before .pre .1 .0) (c .before .before .before .before .before .loop .inv .2 .reading) (c .before .before .before .before .before .loop .inv .1) (c .before .before .before .before .loop-test .taken) (c .before .before .before .entry2 .ensures) in (a .0, a .1, a .2, glance-late _ _ _ _ _ (c .before .before .before .before .before .before .before .before .before .before .before .before .pre .0) _ (c .before .before .before .before .before .before .before .before .before .before .before .before .pre .1 .1) (c .before .before .before .before .before .before .before .before .before .before .before .before .pre .1 .2) (c .before .before .before .before .before .before .before .before .before .before .before .before .pre .1 .0) (c .before .before .before .before .before .before .before .before .before .before .before .before .pre .1 .3) (c .before .before .before .before .before .before .before .before .before .before .before .before .pre .1 .5) (c .before .before .before .before .before .loop .inv .2) (c .before .before .before .before .before .loop .inv .1) (c .before .before .before .before .loop-test .taken) (c .before .before .before .entry2 .ensures)))
+is-first-requires c κs =
+    let entry2 = c .before .before .before .entry2 in
+    let loop-test = c .before .before .before .before .loop-test in
+    let loop = c .before .before .before .before .before .loop in
+    let pre = c .before .before .before .before .before .before .before .before .before .before .before .before .pre in
+    rw (loop .inv .0)
+    (
+    let a = reading-fresh-place _ _ _ _ (pre .0 .sound) (pre .0 .shelves) (pre .1 .0) (loop .inv .2 .reading)
+    (loop .inv .1) (loop-test .taken) (entry2 .ensures) in (
+      a .0,
+      a .1,
+      a .2,
+      glance-late _ _ _ _ _ (pre .0) _ (pre .1 .1) (pre .1 .2) (pre .1 .0) (pre .1 .3) (pre .1 .5) (loop .inv .2)
+          (loop .inv .1) (loop-test .taken) (entry2 .ensures),
+    )
+    )
 
 -- src/look.rt:113:13
 entry-requires-3 : tie.Need-entry-requires-3 Inv-loop μ-loop
-entry-requires-3 c κs = omega (arith, reading-row _ _ _ _ (c .before .before .before .before .before .before .before .before .before .before .before .before .before .pre .0 .sound) (c .before .before .before .before .before .before .before .before .before .before .before .before .before .pre .0 .shelves) (c .before .before .before .before .before .before .before .before .before .before .before .before .before .pre .1 .0) (c .before .before .before .before .before .before .loop .inv .2 .reading) (c .before .before .before .before .before .before .loop .inv .1) (c .before .before .before .before .before .loop-test .taken) (c .before .before .before .before .entry2 .ensures), c .before .before .before .before .before .before .before .before .before .before .before .before .before .pre .0 .sound .firsts)
+entry-requires-3 c κs =
+    let entry2 = c .before .before .before .before .entry2 in
+    let loop-test = c .before .before .before .before .before .loop-test in
+    let loop = c .before .before .before .before .before .before .loop in
+    let pre = c .before .before .before .before .before .before .before .before .before .before .before .before .before .pre in
+    omega (
+      arith,
+      reading-row _ _ _ _ (pre .0 .sound) (pre .0 .shelves) (pre .1 .0) (loop .inv .2 .reading) (loop .inv .1)
+          (loop-test .taken) (entry2 .ensures),
+      pre .0 .sound .firsts,
+    )
 
 -- src/look.rt:114:13
 entry-requires-4 : tie.Need-entry-requires-4 Inv-loop μ-loop
-entry-requires-4 c κs = omega (arith, reading-row _ _ _ _ (c .before .before .before .before .before .before .before .before .before .before .before .before .before .before .pre .0 .sound) (c .before .before .before .before .before .before .before .before .before .before .before .before .before .before .pre .0 .shelves) (c .before .before .before .before .before .before .before .before .before .before .before .before .before .before .pre .1 .0) (c .before .before .before .before .before .before .before .loop .inv .2 .reading) (c .before .before .before .before .before .before .before .loop .inv .1) (c .before .before .before .before .before .before .loop-test .taken) (c .before .before .before .before .before .entry2 .ensures), c .before .before .before .before .before .before .before .before .before .before .before .before .before .before .pre .0 .sound .seconds)
+entry-requires-4 c κs =
+    let entry2 = c .before .before .before .before .before .entry2 in
+    let loop-test = c .before .before .before .before .before .before .loop-test in
+    let loop = c .before .before .before .before .before .before .before .loop in
+    let pre = c .before .before .before .before .before .before .before .before .before .before .before .before .before .before .pre in
+    omega (
+      arith,
+      reading-row _ _ _ _ (pre .0 .sound) (pre .0 .shelves) (pre .1 .0) (loop .inv .2 .reading) (loop .inv .1)
+          (loop-test .taken) (entry2 .ensures),
+      pre .0 .sound .seconds,
+    )
 
 -- src/look.rt:115:13
 other-requires : tie.Need-other-requires Inv-loop μ-loop
-other-requires c κs = reading-ends _ _ _ _ (c .before .before .before .before .before .before .before .before .before .before .before .before .before .before .before .pre .0 .sound) (c .before .before .before .before .before .before .before .before .before .before .before .before .before .before .before .pre .0 .shelves) (c .before .before .before .before .before .before .before .before .before .before .before .before .before .before .before .pre .1 .0) (c .before .before .before .before .before .before .before .before .loop .inv .2 .reading) (c .before .before .before .before .before .before .before .before .loop .inv .1) (c .before .before .before .before .before .before .before .loop-test .taken) (c .before .before .before .before .before .before .entry2 .ensures) (c .before .entry3 .ensures) (c .entry4 .ensures)
+other-requires c κs =
+    let entry3 = c .before .entry3 in
+    let entry2 = c .before .before .before .before .before .before .entry2 in
+    let loop-test = c .before .before .before .before .before .before .before .loop-test in
+    let loop = c .before .before .before .before .before .before .before .before .loop in
+    let pre = c .before .before .before .before .before .before .before .before .before .before .before .before .before .before .before .pre in
+    reading-ends _ _ _ _ (pre .0 .sound) (pre .0 .shelves) (pre .1 .0) (loop .inv .2 .reading) (loop .inv .1)
+    (loop-test .taken) (entry2 .ensures) (entry3 .ensures) (c .entry4 .ensures)
 
 -- src/look.rt:116:25
 mul-greater : tie.Need-mul-greater Inv-loop μ-loop
-mul-greater c = omega (arith, glance-small _ _ _ _ _ (c .before .before .before .before .before .before .before .before .before .before .before .before .before .before .before .before .pre .0) _ (c .before .before .before .before .before .before .before .before .before .before .before .before .before .before .before .before .pre .1 .1) (c .before .before .before .before .before .before .before .before .before .before .before .before .before .before .before .before .pre .1 .2) (c .before .before .before .before .before .before .before .before .before .before .before .before .before .before .before .before .pre .1 .0) (c .before .before .before .before .before .before .before .before .before .before .before .before .before .before .before .before .pre .1 .3) (c .before .before .before .before .before .before .before .before .before .before .before .before .before .before .before .before .pre .1 .5) (c .before .before .before .before .before .before .before .before .before .loop .inv .2) (c .before .before .before .before .before .before .before .before .before .loop .inv .1) (c .before .before .before .before .before .before .before .before .loop-test .taken) (c .before .before .before .before .before .before .before .entry2 .ensures) refl (c .before .before .entry3 .ensures) (c .before .entry4 .ensures) (c .other .ensures))
+mul-greater c =
+    let entry4 = c .before .entry4 in
+    let entry3 = c .before .before .entry3 in
+    let entry2 = c .before .before .before .before .before .before .before .entry2 in
+    let loop-test = c .before .before .before .before .before .before .before .before .loop-test in
+    let loop = c .before .before .before .before .before .before .before .before .before .loop in
+    let pre = c .before .before .before .before .before .before .before .before .before .before .before .before .before .before .before .before .pre in
+    omega (
+      arith,
+      glance-small _ _ _ _ _ (pre .0) _ (pre .1 .1) (pre .1 .2) (pre .1 .0) (pre .1 .3) (pre .1 .5) (loop .inv .2)
+          (loop .inv .1) (loop-test .taken) (entry2 .ensures) refl (entry3 .ensures) (entry4 .ensures)
+          (c .other .ensures),
+    )
 
 -- src/look.rt:116:25
 shared-slice-read-greater : tie.Need-shared-slice-read-greater Inv-loop μ-loop
-shared-slice-read-greater c = omega (arith, glance-small _ _ _ _ _ (c .before .before .before .before .before .before .before .before .before .before .before .before .before .before .before .before .before .pre .0) _ (c .before .before .before .before .before .before .before .before .before .before .before .before .before .before .before .before .before .pre .1 .1) (c .before .before .before .before .before .before .before .before .before .before .before .before .before .before .before .before .before .pre .1 .2) (c .before .before .before .before .before .before .before .before .before .before .before .before .before .before .before .before .before .pre .1 .0) (c .before .before .before .before .before .before .before .before .before .before .before .before .before .before .before .before .before .pre .1 .3) (c .before .before .before .before .before .before .before .before .before .before .before .before .before .before .before .before .before .pre .1 .5) (c .before .before .before .before .before .before .before .before .before .before .loop .inv .2) (c .before .before .before .before .before .before .before .before .before .before .loop .inv .1) (c .before .before .before .before .before .before .before .before .before .loop-test .taken) (c .before .before .before .before .before .before .before .before .entry2 .ensures) refl (c .before .before .before .entry3 .ensures) (c .before .before .entry4 .ensures) (c .before .other .ensures), c .before .before .before .before .before .before .before .before .before .before .before .before .before .before .before .before .before .pre .1 .1)
+shared-slice-read-greater c =
+    let other = c .before .other in
+    let entry4 = c .before .before .entry4 in
+    let entry3 = c .before .before .before .entry3 in
+    let entry2 = c .before .before .before .before .before .before .before .before .entry2 in
+    let loop-test = c .before .before .before .before .before .before .before .before .before .loop-test in
+    let loop = c .before .before .before .before .before .before .before .before .before .before .loop in
+    let pre = c .before .before .before .before .before .before .before .before .before .before .before .before .before .before .before .before .before .pre in
+    omega (
+      arith,
+      glance-small _ _ _ _ _ (pre .0) _ (pre .1 .1) (pre .1 .2) (pre .1 .0) (pre .1 .3) (pre .1 .5) (loop .inv .2)
+          (loop .inv .1) (loop-test .taken) (entry2 .ensures) refl (entry3 .ensures) (entry4 .ensures) (other .ensures),
+      pre .1 .1,
+    )
 
 -- src/look.rt:116:13
 greater-requires : tie.Need-greater-requires Inv-loop μ-loop
@@ -100,50 +223,74 @@ pick-requires c κs = search needs
 
 -- src/look.rt:117:13
 note-requires : tie.Need-note-requires Inv-loop μ-loop
-note-requires c κs = glance-few _ _ _ _ _ (c .before .before .before .before .before .before .before .before .before .before .before .before .before .before .before .before .before .before .before .pre .0) _ (c .before .before .before .before .before .before .before .before .before .before .before .before .before .before .before .before .before .before .before .pre .1 .1) (c .before .before .before .before .before .before .before .before .before .before .before .before .before .before .before .before .before .before .before .pre .1 .2) (c .before .before .before .before .before .before .before .before .before .before .before .before .before .before .before .before .before .before .before .pre .1 .0) (c .before .before .before .before .before .before .before .before .before .before .before .before .before .before .before .before .before .before .before .pre .1 .3) (c .before .before .before .before .before .before .before .before .before .before .before .before .before .before .before .before .before .before .before .pre .1 .5) (c .before .before .before .before .before .before .before .before .before .before .before .before .loop .inv .2) (c .before .before .before .before .before .before .before .before .before .before .before .before .loop .inv .1) (c .before .before .before .before .before .before .before .before .before .before .before .loop-test .taken) (c .before .before .before .before .before .before .before .before .before .before .entry2 .ensures)
+note-requires c κs =
+    let entry2 = c .before .before .before .before .before .before .before .before .before .before .entry2 in
+    let loop-test = c .before .before .before .before .before .before .before .before .before .before .before .loop-test in
+    let loop = c .before .before .before .before .before .before .before .before .before .before .before .before .loop in
+    let pre = c .before .before .before .before .before .before .before .before .before .before .before .before .before .before .before .before .before .before .before .pre in
+    glance-few _ _ _ _ _ (pre .0) _ (pre .1 .1) (pre .1 .2) (pre .1 .0) (pre .1 .3) (pre .1 .5) (loop .inv .2)
+    (loop .inv .1) (loop-test .taken) (entry2 .ensures)
 
 -- src/look.rt:100:5
 loop-less : tie.Need-loop-less Inv-loop μ-loop
-loop-less c = omega (arith, c .before .before .before .before .before .before .before .before .before .before .before .before .loop-test .taken)
+loop-less c =
+    let loop-test = c .before .before .before .before .before .before .before .before .before .before .before .before .loop-test in
+    omega (arith, loop-test .taken)
 
 -- src/look.rt:100:5
 loop-again : tie.Need-loop-again Inv-loop μ-loop
-loop-again c = (c .before .before .before .before .before .before .before .before .before .before .before .before .before .loop .inv .0, c .before .before .before .before .before .before .before .before .before .before .before .before .before .loop .inv .1, glance-mark _ _ _ _ _ (c .before .before .before .before .before .before .before .before .before .before .before .before .before .before .before .before .before .before .before .before .pre .0) _ (c .before .before .before .before .before .before .before .before .before .before .before .before .before .before .before .before .before .before .before .before .pre .1 .1) (c .before .before .before .before .before .before .before .before .before .before .before .before .before .before .before .before .before .before .before .before .pre .1 .2) (c .before .before .before .before .before .before .before .before .before .before .before .before .before .before .before .before .before .before .before .before .pre .1 .0) (c .before .before .before .before .before .before .before .before .before .before .before .before .before .before .before .before .before .before .before .before .pre .1 .3) (c .before .before .before .before .before .before .before .before .before .before .before .before .before .before .before .before .before .before .before .before .pre .1 .5) (c .before .before .before .before .before .before .before .before .before .before .before .before .before .loop .inv .2) (c .before .before .before .before .before .before .before .before .before .before .before .before .before .loop .inv .1) (c .before .before .before .before .before .before .before .before .before .before .before .before .loop-test .taken) (c .before .before .before .before .before .before .before .before .before .before .before .entry2 .ensures) refl (c .before .before .before .before .before .before .entry3 .ensures) (c .before .before .before .before .before .entry4 .ensures) (c .before .before .before .before .other .ensures) (rw (c .before .before .before .before .before .before .before .before .before .before .before .before .before .loop .inv .0) (c .before .before .before .before .before .before .before .is-first .ensures)) (⊎-elim (λ h. omega (arith, h, c .before .before .before .before .before .before .before .before .before .before .before .before .before .before .before .before .before .before .before .before .pre .1 .3)) (λ h. h) (c .before .before .before .before .before .before .before .before .before .is-over .ensures .not (c .before .before .before .before .before .before .before .before .if1 .left))) (c .before .before .greater .ensures) (c .before .pick .ensures) (c .note .ensures), omega (arith, c .before .before .before .before .before .before .before .before .before .before .before .before .before .loop .inv .3), omega (arith, reading-few _ _ _ _ (c .before .before .before .before .before .before .before .before .before .before .before .before .before .before .before .before .before .before .before .before .pre .0 .sound) (c .before .before .before .before .before .before .before .before .before .before .before .before .before .before .before .before .before .before .before .before .pre .0 .shelves) (c .before .before .before .before .before .before .before .before .before .before .before .before .before .before .before .before .before .before .before .before .pre .1 .0) (c .before .before .before .before .before .before .before .before .before .before .before .before .before .loop .inv .2 .reading) (c .before .before .before .before .before .before .before .before .before .before .before .before .before .loop .inv .1) (c .before .before .before .before .before .before .before .before .before .before .before .before .loop-test .taken)))
+loop-again c =
+    let pick = c .before .pick in
+    let greater = c .before .before .greater in
+    let other = c .before .before .before .before .other in
+    let entry4 = c .before .before .before .before .before .entry4 in
+    let entry3 = c .before .before .before .before .before .before .entry3 in
+    let is-first = c .before .before .before .before .before .before .before .is-first in
+    let if1 = c .before .before .before .before .before .before .before .before .if1 in
+    let is-over = c .before .before .before .before .before .before .before .before .before .is-over in
+    let entry2 = c .before .before .before .before .before .before .before .before .before .before .before .entry2 in
+    let loop-test = c .before .before .before .before .before .before .before .before .before .before .before .before .loop-test in
+    let loop = c .before .before .before .before .before .before .before .before .before .before .before .before .before .loop in
+    let pre = c .before .before .before .before .before .before .before .before .before .before .before .before .before .before .before .before .before .before .before .before .pre in (
+      loop .inv .0,
+      loop .inv .1,
+      glance-mark _ _ _ _ _ (pre .0) _ (pre .1 .1) (pre .1 .2) (pre .1 .0) (pre .1 .3) (pre .1 .5) (loop .inv .2)
+          (loop .inv .1) (loop-test .taken) (entry2 .ensures) refl (entry3 .ensures) (entry4 .ensures) (other .ensures)
+          (rw (loop .inv .0) (is-first .ensures))
+          (⊎-elim (λ h. omega (arith, h, pre .1 .3)) (λ h. h) (is-over .ensures .not (if1 .left))) (greater .ensures)
+          (pick .ensures) (c .note .ensures),
+      omega (arith, loop .inv .3),
+      omega (
+        arith,
+        reading-few _ _ _ _ (pre .0 .sound) (pre .0 .shelves) (pre .1 .0) (loop .inv .2 .reading) (loop .inv .1)
+            (loop-test .taken),
+      ),
+    )
 
 -- src/look.rt:126:17
 sub-t34 : tie.Need-sub-t34 Inv-loop μ-loop
-sub-t34 c = omega (arith, c .before .loop .inv .3)
+sub-t34 c =
+    let loop = c .before .loop in
+    omega (arith, loop .inv .3)
 
 -- src/look.rt:76:1
 returns-2 : tie.Need-returns-2 Inv-loop μ-loop
-returns-2 c = (glance-out _ _ _ _ _ (c .before .before .before .before .before .before .before .before .pre .0) _ (c .before .before .before .before .before .before .before .before .pre .1 .1) (c .before .before .before .before .before .before .before .before .pre .1 .2) (c .before .before .before .before .before .before .before .before .pre .1 .0) (c .before .before .before .before .before .before .before .before .pre .1 .3) (c .before .before .before .before .before .before .before .before .pre .1 .5) (c .before .loop .inv .2) (c .before .loop .inv .1) (c .loop-test .left), omega (arith, c .before .loop .inv .4), glance-most _ _ _ _ _ (c .before .before .before .before .before .before .before .before .pre .0) _ (c .before .before .before .before .before .before .before .before .pre .1 .1) (c .before .before .before .before .before .before .before .before .pre .1 .2) (c .before .before .before .before .before .before .before .before .pre .1 .0) (c .before .before .before .before .before .before .before .before .pre .1 .3) (c .before .before .before .before .before .before .before .before .pre .1 .5) (c .before .loop .inv .2) (c .before .loop .inv .1))
+returns-2 c =
+    let loop = c .before .loop in
+    let pre = c .before .before .before .before .before .before .before .before .pre in (
+      glance-out _ _ _ _ _ (pre .0) _ (pre .1 .1) (pre .1 .2) (pre .1 .0) (pre .1 .3) (pre .1 .5) (loop .inv .2)
+          (loop .inv .1) (c .loop-test .left),
+      omega (arith, loop .inv .4),
+      glance-most _ _ _ _ _ (pre .0) _ (pre .1 .1) (pre .1 .2) (pre .1 .0) (pre .1 .3) (pre .1 .5) (loop .inv .2)
+          (loop .inv .1),
+    )
 
 pub look-at-spec : {M : Type 1} → statement M
 look-at-spec =
     tie.close
-    (tie.spec
-    Inv-loop
-    μ-loop
-    entry-requires
-    loop-holds
-    add-entry
-    entry-requires-2
-    mul-day
-    shared-slice-read-day
-    is-over-requires
-    sub-t32
-    returns
-    add-p
-    is-first-requires
-    entry-requires-3
-    entry-requires-4
-    other-requires
-    mul-greater
-    shared-slice-read-greater
-    greater-requires
-    pick-requires
-    note-requires
-    loop-less
-    loop-again
-    sub-t34
-    returns-2)
+    (
+    tie.spec Inv-loop μ-loop entry-requires loop-holds add-entry entry-requires-2 mul-day shared-slice-read-day
+    is-over-requires sub-t32 returns add-p is-first-requires entry-requires-3 entry-requires-4 other-requires
+    mul-greater shared-slice-read-greater greater-requires pick-requires note-requires loop-less loop-again
+    sub-t34 returns-2
+    )

@@ -14,7 +14,9 @@ one-requires c κs = search needs
 
 -- src/look.rt:69:16
 add-t13 : tie.Need-add-t13
-add-t13 c = omega (arith, c .before .pre .0, by-most (c .one .ensures))
+add-t13 c =
+    let pre = c .before .pre in
+    omega (arith, pre .0, by-most (c .one .ensures))
 
 -- src/look.rt:70:16
 pick-requires : tie.Need-pick-requires
@@ -30,7 +32,9 @@ one-requires-3 c κs = search needs
 
 -- src/look.rt:71:40
 add-pick : tie.Need-add-pick
-add-pick c = omega (arith, c .before .before .before .before .pre .1, by-most (c .one3 .ensures))
+add-pick c =
+    let pre = c .before .before .before .before .pre in
+    omega (arith, pre .1, by-most (c .one3 .ensures))
 
 -- src/look.rt:71:15
 pick-requires-2 : tie.Need-pick-requires-2
@@ -38,17 +42,15 @@ pick-requires-2 c κs = search needs
 
 -- src/look.rt:61:1
 returns : tie.Need-returns
-returns c = noted _ _ _ _ _ _ (c .before .before .before .before .before .pre .2) (c .before .before .before .before .one .ensures) (c .before .before .before .pick .ensures) (c .before .before .one2 .ensures) (c .before .one3 .ensures) (c .pick2 .ensures)
+returns c =
+    let one3 = c .before .one3 in
+    let one2 = c .before .before .one2 in
+    let pick = c .before .before .before .pick in
+    let one = c .before .before .before .before .one in
+    let pre = c .before .before .before .before .before .pre in
+    noted _ _ _ _ _ _ (pre .2) (one .ensures) (pick .ensures) (one2 .ensures) (one3 .ensures) (c .pick2 .ensures)
 
 pub note-spec : {M : Type 1} → statement M
 note-spec =
     tie.close
-    (tie.spec
-    one-requires
-    add-t13
-    pick-requires
-    one-requires-2
-    one-requires-3
-    add-pick
-    pick-requires-2
-    returns)
+    (tie.spec one-requires add-t13 pick-requires one-requires-2 one-requires-3 add-pick pick-requires-2 returns)

@@ -12,11 +12,15 @@ returns c = none (c .if1 .taken) refl
 
 -- src/look.rt:221:9
 returns-2 : tie.Need-returns-2
-returns-2 c = few (c .before .if1 .left) (c .if2 .taken) refl
+returns-2 c =
+    let if1 = c .before .if1 in
+    few (if1 .left) (c .if2 .taken) refl
 
 -- src/look.rt:223:5
 add-result : tie.Need-add-result
-add-result c = omega (arith, c .before .before .pre)
+add-result c =
+    let pre = c .before .before .pre in
+    omega (arith, pre)
 
 -- src/look.rt:223:5
 sub-result : tie.Need-sub-result
@@ -24,7 +28,9 @@ sub-result c = omega (arith, c .if2 .left)
 
 -- src/look.rt:213:1
 returns-3 : tie.Need-returns-3
-returns-3 c = some (c .before .if1 .left) (c .if2 .left) refl
+returns-3 c =
+    let if1 = c .before .if1 in
+    some (if1 .left) (c .if2 .left) refl
 
 pub spare-above-spec : {M : Type 1} → statement M
 spare-above-spec = tie.close (tie.spec returns returns-2 add-result sub-result returns-3)

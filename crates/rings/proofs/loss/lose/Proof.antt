@@ -25,7 +25,9 @@ one-requires c κs = search needs
 
 -- src/settle.rt:246:16
 sub-spare : tie.Need-sub-spare
-sub-spare c = under (c .before .before .before .before .args .test) _ (c .one .ensures)
+sub-spare c =
+    let args = c .before .before .before .before .args in
+    under (args .test) _ (c .one .ensures)
 
 -- src/settle.rt:246:5
 mul-spare : tie.Need-mul-spare
@@ -49,7 +51,10 @@ wide-requires c κs = search needs
 
 -- src/settle.rt:248:5
 add-result : tie.Need-add-result
-add-result c = omega (arith, c .before .before .before .before .before .before .before .before .before .before .pre .3, c .wide .ensures, by-most (c .before .one2 .ensures))
+add-result c =
+    let one2 = c .before .one2 in
+    let pre = c .before .before .before .before .before .before .before .before .before .before .pre in
+    omega (arith, pre .3, c .wide .ensures, by-most (one2 .ensures))
 
 -- src/settle.rt:239:1
 same-length : tie.Need-same-length
@@ -61,22 +66,16 @@ same-length-2 c = search needs
 
 -- src/settle.rt:239:1
 returns : tie.Need-returns
-returns c = losing _ _ _ _ _ (c .before .before .before .before .before .before .one .ensures) (c .before .one2 .ensures) refl (c .before .before .before .before .put .ensures) (c .wide .ensures)
+returns c =
+    let one2 = c .before .one2 in
+    let put = c .before .before .before .before .put in
+    let one = c .before .before .before .before .before .before .one in
+    losing _ _ _ _ _ (one .ensures) (one2 .ensures) refl (put .ensures) (c .wide .ensures)
 
 pub lose-spec : {M : Type 1} → statement M
 lose-spec =
     tie.close
-    (tie.spec
-    mul-n
-    slice-read-n
-    one-requires
-    sub-spare
-    mul-spare
-    slice-write-spare
-    put-requires
-    one-requires-2
-    wide-requires
-    add-result
-    same-length
-    same-length-2
-    returns)
+    (
+    tie.spec mul-n slice-read-n one-requires sub-spare mul-spare slice-write-spare put-requires one-requires-2
+    wide-requires add-result same-length same-length-2 returns
+    )

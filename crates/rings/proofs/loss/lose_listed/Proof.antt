@@ -18,52 +18,87 @@ abbrev μ-loop : tie.MeasureT-loop
 
 -- src/loss.rt:51:5
 loop-holds : tie.Need-loop-holds Inv-loop μ-loop
-loop-holds c = (le-refl _, c .before .before .pre .2, losses-start _ _ _ (c .before .before .pre .0) (c .before .before .pre .1))
+loop-holds c =
+    let pre = c .before .before .pre in
+    (le-refl _, pre .2, losses-start _ _ _ (pre .0) (pre .1))
 
 -- src/loss.rt:52:13
 entry-requires : tie.Need-entry-requires Inv-loop μ-loop
-entry-requires c κs = omega (arith, c .before .loop-test .taken, c .before .before .before .before .before .pre .3, c .before .before .loop .inv .2 .queued .long)
+entry-requires c κs =
+    let loop-test = c .before .loop-test in
+    let loop = c .before .before .loop in
+    let pre = c .before .before .before .before .before .pre in
+    omega (arith, loop-test .taken, pre .3, loop .inv .2 .queued .long)
 
 -- src/loss.rt:53:9
 lose-requires : tie.Need-lose-requires Inv-loop μ-loop
-lose-requires c κs = (c .before .before .before .before .before .loop .inv .2 .fewer .long, c .before .before .before .before .before .loop .inv .2 .queued .long, omega (arith, c .before .before .entry .ensures, c .before .before .before .before .before .loop .inv .2 .rest _ (le-refl _), c .before .before .before .before .before .before .before .before .pre .4 _ (c .before .before .before .before .before .loop .inv .0) (c .before .before .before .before .loop-test .taken)), omega (arith, c .before .before .before .before .before .loop .inv .2 .behind, c .before .before .before .before .loop-test .taken, c .before .before .before .before .before .before .before .before .pre .3))
+lose-requires c κs =
+    let entry = c .before .before .entry in
+    let loop-test = c .before .before .before .before .loop-test in
+    let loop = c .before .before .before .before .before .loop in
+    let pre = c .before .before .before .before .before .before .before .before .pre in (
+      loop .inv .2 .fewer .long,
+      loop .inv .2 .queued .long,
+      omega (arith, entry .ensures, loop .inv .2 .rest _ (le-refl _), pre .4 _ (loop .inv .0) (loop-test .taken)),
+      omega (arith, loop .inv .2 .behind, loop-test .taken, pre .3),
+    )
 
 -- src/loss.rt:54:9
 add-p : tie.Need-add-p Inv-loop μ-loop
-add-p c = omega (arith, c .before .before .before .before .before .before .before .before .before .loop-test .taken, c .before .before .before .before .before .before .before .before .before .before .before .before .before .pre .3)
+add-p c =
+    let loop-test = c .before .before .before .before .before .before .before .before .before .loop-test in
+    let pre = c .before .before .before .before .before .before .before .before .before .before .before .before .before .pre in
+    omega (arith, loop-test .taken, pre .3)
 
 -- src/loss.rt:51:5
 loop-less : tie.Need-loop-less Inv-loop μ-loop
-loop-less c = omega (arith, c .before .before .before .before .before .before .before .before .before .loop-test .taken)
+loop-less c =
+    let loop-test = c .before .before .before .before .before .before .before .before .before .loop-test in
+    omega (arith, loop-test .taken)
 
 -- src/loss.rt:51:5
 loop-again : tie.Need-loop-again Inv-loop μ-loop
-loop-again c = (omega (arith, c .before .before .before .before .before .before .before .before .before .before .loop .inv .0), omega (arith, c .before .before .before .before .before .before .before .before .before .loop-test .taken), losses-next (c .before .before .before .before .before .before .before .before .before .before .loop .inv .2) (omega (arith, c .before .before .before .before .before .before .before .before .before .loop-test .taken, c .before .before .before .before .before .before .before .before .before .before .before .before .before .pre .3)) (c .before .before .before .before .before .before .before .entry .ensures) (omega (arith, c .before .before .before .before .before .before .before .entry .ensures, c .before .before .before .before .before .before .before .before .before .before .loop .inv .2 .rest _ (le-refl _), c .before .before .before .before .before .before .before .before .before .before .before .before .before .pre .4 _ (c .before .before .before .before .before .before .before .before .before .before .loop .inv .0) (c .before .before .before .before .before .before .before .before .before .loop-test .taken))) (c .before .before .before .before .lose .ensures))
+loop-again c =
+    let lose = c .before .before .before .before .lose in
+    let entry = c .before .before .before .before .before .before .before .entry in
+    let loop-test = c .before .before .before .before .before .before .before .before .before .loop-test in
+    let loop = c .before .before .before .before .before .before .before .before .before .before .loop in
+    let pre = c .before .before .before .before .before .before .before .before .before .before .before .before .before .pre in (
+      omega (arith, loop .inv .0),
+      omega (arith, loop-test .taken),
+      losses-next (loop .inv .2) (omega (arith, loop-test .taken, pre .3)) (entry .ensures)
+          (omega (arith, entry .ensures, loop .inv .2 .rest _ (le-refl _), pre .4 _ (loop .inv .0) (loop-test .taken)))
+          (lose .ensures),
+    )
 
 -- src/loss.rt:45:1
 same-length : tie.Need-same-length Inv-loop μ-loop
-same-length c = c .before .loop .inv .2 .fewer .long ∙ sym (c .before .before .before .before .pre .0)
+same-length c =
+    let loop = c .before .loop in
+    let pre = c .before .before .before .before .pre in
+    loop .inv .2 .fewer .long ∙ sym (pre .0)
 
 -- src/loss.rt:45:1
 same-length-2 : tie.Need-same-length-2 Inv-loop μ-loop
-same-length-2 c = c .before .loop .inv .2 .queued .long ∙ sym (c .before .before .before .before .pre .1)
+same-length-2 c =
+    let loop = c .before .loop in
+    let pre = c .before .before .before .before .pre in
+    loop .inv .2 .queued .long ∙ sym (pre .1)
 
 -- src/loss.rt:45:1
 returns : tie.Need-returns Inv-loop μ-loop
-returns c = (omega (arith, c .before .loop .inv .1, c .before .loop .inv .2 .behind, c .before .before .before .before .pre .3), c .before .loop .inv .2 .queued, losses-end (c .before .loop .inv .2) (c .loop-test .left))
+returns c =
+    let loop = c .before .loop in
+    let pre = c .before .before .before .before .pre in (
+      omega (arith, loop .inv .1, loop .inv .2 .behind, pre .3),
+      loop .inv .2 .queued,
+      losses-end (loop .inv .2) (c .loop-test .left),
+    )
 
 pub lose-listed-spec : {M : Type 1} → statement M
 lose-listed-spec =
     tie.close
-    (tie.spec
-    Inv-loop
-    μ-loop
-    loop-holds
-    entry-requires
-    lose-requires
-    add-p
-    loop-less
-    loop-again
-    same-length
-    same-length-2
-    returns)
+    (
+    tie.spec Inv-loop μ-loop loop-holds entry-requires lose-requires add-p loop-less loop-again same-length
+    same-length-2 returns
+    )

@@ -29,11 +29,15 @@ abbrev μ-loop : tie.MeasureT-loop
 
 -- src/settle.rt:271:9
 entry-requires : tie.Need-entry-requires Inv-loop μ-loop
-entry-requires c κs = omega (arith, c .before .before .before .before .before .before .before .before .pre .1 .0 .0, c .before .before .before .before .before .before .before .before .pre .0 .shelves .long)
+entry-requires c κs =
+    let pre = c .before .before .before .before .before .before .before .before .pre in
+    omega (arith, pre .1 .0 .0, pre .0 .shelves .long)
 
 -- src/settle.rt:272:29
 add-lesser : tie.Need-add-lesser Inv-loop μ-loop
-add-lesser c = omega (arith, c .before .before .before .before .before .before .before .before .before .pre .0 .setting .fits)
+add-lesser c =
+    let pre = c .before .before .before .before .before .before .before .before .before .pre in
+    omega (arith, pre .0 .setting .fits)
 
 -- src/settle.rt:272:9
 lesser-requires : tie.Need-lesser-requires Inv-loop μ-loop
@@ -41,87 +45,245 @@ lesser-requires c κs = search needs
 
 -- src/settle.rt:276:5
 loop-holds : tie.Need-loop-holds Inv-loop μ-loop
-loop-holds c = (refl, c .before .entry .ensures, refl, surge-start _ _ _ _ _ (c .before .before .before .before .before .before .before .before .before .before .pre .0) _ (c .before .before .before .before .before .before .before .before .before .before .pre .1 .0 .1) (c .before .before .before .before .before .before .before .before .before .before .pre .1 .0 .0) (c .before .before .before .before .before .before .before .before .before .before .pre .1 .0 .5) (c .before .before .before .before .before .before .before .before .before .before .pre .1 .0 .6) _ _ (c .before .before .before .before .before .before .before .before .before .before .pre .1 .0 .7) _ _ _ _ (c .before .before .before .before .before .before .before .before .before .before .pre .1 .0 .2) (c .before .before .before .before .before .before .before .before .before .before .pre .1 .0 .3) (c .before .before .before .before .before .before .before .before .before .before .pre .1 .0 .4) (c .before .before .before .before .before .before .before .before .before .before .pre .1 .1))
+loop-holds c =
+    let entry = c .before .entry in
+    let pre = c .before .before .before .before .before .before .before .before .before .before .pre in (
+      refl,
+      entry .ensures,
+      refl,
+      surge-start _ _ _ _ _ (pre .0) _ (pre .1 .0 .1) (pre .1 .0 .0) (pre .1 .0 .5) (pre .1 .0 .6) _ _ (pre .1 .0 .7) _
+          _ _ _ (pre .1 .0 .2) (pre .1 .0 .3) (pre .1 .0 .4) (pre .1 .1),
+    )
 
 -- src/settle.rt:277:30
 add-entry : tie.Need-add-entry Inv-loop μ-loop
-add-entry c = omega (arith, reading-few _ _ _ _ (c .before .before .before .before .before .before .before .before .before .before .before .before .pre .0 .sound) (c .before .before .before .before .before .before .before .before .before .before .before .before .pre .0 .shelves) (c .before .before .before .before .before .before .before .before .before .before .before .before .pre .1 .0 .0) (c .before .loop .inv .3 .wave .reading) (c .before .loop .inv .1) (c .loop-test .taken))
+add-entry c =
+    let loop = c .before .loop in
+    let pre = c .before .before .before .before .before .before .before .before .before .before .before .before .pre in
+    omega (
+      arith,
+      reading-few _ _ _ _ (pre .0 .sound) (pre .0 .shelves) (pre .1 .0 .0) (loop .inv .3 .wave .reading)
+          (loop .inv .1) (c .loop-test .taken),
+    )
 
 -- src/settle.rt:277:13
 entry-requires-2 : tie.Need-entry-requires-2 Inv-loop μ-loop
-entry-requires-2 c κs = reading-place _ _ _ _ (c .before .before .before .before .before .before .before .before .before .before .before .before .pre .0 .sound) (c .before .before .before .before .before .before .before .before .before .before .before .before .pre .0 .shelves) (c .before .before .before .before .before .before .before .before .before .before .before .before .pre .1 .0 .0) (c .before .loop .inv .3 .wave .reading) (c .before .loop .inv .1) (c .loop-test .taken)
+entry-requires-2 c κs =
+    let loop = c .before .loop in
+    let pre = c .before .before .before .before .before .before .before .before .before .before .before .before .pre in
+    reading-place _ _ _ _ (pre .0 .sound) (pre .0 .shelves) (pre .1 .0 .0) (loop .inv .3 .wave .reading) (loop .inv .1)
+    (c .loop-test .taken)
 
 -- src/settle.rt:278:19
 mul-day : tie.Need-mul-day Inv-loop μ-loop
-mul-day c = omega (arith, reading-row _ _ _ _ (c .before .before .before .before .before .before .before .before .before .before .before .before .before .pre .0 .sound) (c .before .before .before .before .before .before .before .before .before .before .before .before .before .pre .0 .shelves) (c .before .before .before .before .before .before .before .before .before .before .before .before .before .pre .1 .0 .0) (c .before .before .loop .inv .3 .wave .reading) (c .before .before .loop .inv .1) (c .before .loop-test .taken) (c .entry2 .ensures), c .before .before .before .before .before .before .before .before .before .before .before .before .before .pre .0 .sound .most)
+mul-day c =
+    let loop-test = c .before .loop-test in
+    let loop = c .before .before .loop in
+    let pre = c .before .before .before .before .before .before .before .before .before .before .before .before .before .pre in
+    omega (
+      arith,
+      reading-row _ _ _ _ (pre .0 .sound) (pre .0 .shelves) (pre .1 .0 .0) (loop .inv .3 .wave .reading)
+          (loop .inv .1) (loop-test .taken) (c .entry2 .ensures),
+      pre .0 .sound .most,
+    )
 
 -- src/settle.rt:278:19
 shared-slice-read-day : tie.Need-shared-slice-read-day Inv-loop μ-loop
-shared-slice-read-day c = reading-row _ _ _ _ (c .before .before .before .before .before .before .before .before .before .before .before .before .before .before .pre .0 .sound) (c .before .before .before .before .before .before .before .before .before .before .before .before .before .before .pre .0 .shelves) (c .before .before .before .before .before .before .before .before .before .before .before .before .before .before .pre .1 .0 .0) (c .before .before .before .loop .inv .3 .wave .reading) (c .before .before .before .loop .inv .1) (c .before .before .loop-test .taken) (c .before .entry2 .ensures)
+shared-slice-read-day c =
+    let entry2 = c .before .entry2 in
+    let loop-test = c .before .before .loop-test in
+    let loop = c .before .before .before .loop in
+    let pre = c .before .before .before .before .before .before .before .before .before .before .before .before .before .before .pre in
+    reading-row _ _ _ _ (pre .0 .sound) (pre .0 .shelves) (pre .1 .0 .0) (loop .inv .3 .wave .reading) (loop .inv .1)
+    (loop-test .taken) (entry2 .ensures)
 
 -- src/settle.rt:280:13
 pay-counts-requires : tie.Need-pay-counts-requires Inv-loop μ-loop
-pay-counts-requires c κs = λ h. surge-pays (c .before .before .before .before .before .before .before .before .before .before .before .before .before .before .before .before .args .times .now) (c .before .before .before .before .before .before .before .before .before .before .before .before .before .before .before .before .pre .0) (c .before .before .before .before .before .before .before .before .before .before .before .before .before .before .before .before .pre .1 .0 .0) (c .before .before .before .before .before .before .before .before .before .before .before .before .before .before .before .before .pre .1 .0 .6) (c .before .before .before .before .before .before .before .before .before .before .before .before .before .before .before .before .pre .1 .0 .7) (c .before .before .before .before .before .before .before .before .before .before .before .before .before .before .before .before .pre .1 .1 h .top) (surge-stop _ _ _ _ _ (c .before .before .before .before .before .before .before .before .before .before .before .before .before .before .before .before .pre .0) _ (c .before .before .before .before .before .before .before .before .before .before .before .before .before .before .before .before .pre .1 .0 .1) (c .before .before .before .before .before .before .before .before .before .before .before .before .before .before .before .before .pre .1 .0 .0) (c .before .before .before .before .before .before .before .before .before .before .before .before .before .before .before .before .pre .1 .0 .5) (c .before .before .before .before .before .before .before .before .before .before .before .before .before .before .before .before .pre .1 .0 .6) _ _ (c .before .before .before .before .before .before .before .before .before .before .before .before .before .before .before .before .pre .1 .0 .7) _ _ _ _ (c .before .before .before .before .before .loop .inv .3) (c .before .before .before .before .before .loop .inv .1) (c .before .before .before .before .loop-test .taken) (c .before .before .before .entry2 .ensures) refl (c .before .before .before .before .before .before .lesser .ensures) (c .before .if1 .taken) .1 .counted h)
+pay-counts-requires c κs =
+    let if1 = c .before .if1 in
+    let entry2 = c .before .before .before .entry2 in
+    let loop-test = c .before .before .before .before .loop-test in
+    let loop = c .before .before .before .before .before .loop in
+    let lesser = c .before .before .before .before .before .before .lesser in
+    let args = c .before .before .before .before .before .before .before .before .before .before .before .before .before .before .before .before .args in
+    let pre = c .before .before .before .before .before .before .before .before .before .before .before .before .before .before .before .before .pre in
+    λ h. surge-pays (args .times .now) (pre .0) (pre .1 .0 .0) (pre .1 .0 .6) (pre .1 .0 .7) (pre .1 .1 h .top)
+    (
+    surge-stop _ _ _ _ _ (pre .0) _ (pre .1 .0 .1) (pre .1 .0 .0) (pre .1 .0 .5) (pre .1 .0 .6) _ _ (pre .1 .0 .7) _
+    _ _ _ (loop .inv .3) (loop .inv .1) (loop-test .taken) (entry2 .ensures) refl (lesser .ensures)
+    (if1 .taken) .1 .counted h
+    )
 
 -- src/settle.rt:281:13
 same-length : tie.Need-same-length Inv-loop μ-loop
-same-length c = c .before .before .before .before .before .before .before .before .loop .inv .3 .wave .done .long ∙ sym (c .before .before .before .before .before .before .before .before .before .before .before .before .before .before .before .before .before .before .before .pre .1 .0 .2)
+same-length c =
+    let loop = c .before .before .before .before .before .before .before .before .loop in
+    let pre = c .before .before .before .before .before .before .before .before .before .before .before .before .before .before .before .before .before .before .before .pre in
+    loop .inv .3 .wave .done .long ∙ sym (pre .1 .0 .2)
 
 -- src/settle.rt:281:13
 same-length-2 : tie.Need-same-length-2 Inv-loop μ-loop
-same-length-2 c = c .before .before .before .before .before .before .before .before .loop .inv .3 .wave .queued .long ∙ sym (c .before .before .before .before .before .before .before .before .before .before .before .before .before .before .before .before .before .before .before .pre .1 .0 .3)
+same-length-2 c =
+    let loop = c .before .before .before .before .before .before .before .before .loop in
+    let pre = c .before .before .before .before .before .before .before .before .before .before .before .before .before .before .before .before .before .before .before .pre in
+    loop .inv .3 .wave .queued .long ∙ sym (pre .1 .0 .3)
 
 -- src/settle.rt:281:13
 same-length-3 : tie.Need-same-length-3 Inv-loop μ-loop
-same-length-3 c = search (needs, c .before .before .before .before .before .before .before .before .loop .inv .2)
+same-length-3 c =
+    let loop = c .before .before .before .before .before .before .before .before .loop in
+    search (needs, loop .inv .2)
 
 -- src/settle.rt:281:13
 returns : tie.Need-returns Inv-loop μ-loop
-returns c = (λ h. surge-stop _ _ _ _ _ (c .before .before .before .before .before .before .before .before .before .before .before .before .before .before .before .before .before .before .before .pre .0) _ (c .before .before .before .before .before .before .before .before .before .before .before .before .before .before .before .before .before .before .before .pre .1 .0 .1) (c .before .before .before .before .before .before .before .before .before .before .before .before .before .before .before .before .before .before .before .pre .1 .0 .0) (c .before .before .before .before .before .before .before .before .before .before .before .before .before .before .before .before .before .before .before .pre .1 .0 .5) (c .before .before .before .before .before .before .before .before .before .before .before .before .before .before .before .before .before .before .before .pre .1 .0 .6) _ _ (c .before .before .before .before .before .before .before .before .before .before .before .before .before .before .before .before .before .before .before .pre .1 .0 .7) _ _ _ _ (c .before .before .before .before .before .before .before .before .loop .inv .3) (c .before .before .before .before .before .before .before .before .loop .inv .1) (c .before .before .before .before .before .before .before .loop-test .taken) (c .before .before .before .before .before .before .entry2 .ensures) refl (c .before .before .before .before .before .before .before .before .before .lesser .ensures) (c .before .before .before .before .if1 .taken) .0, counted-paid (surge-stop _ _ _ _ _ (c .before .before .before .before .before .before .before .before .before .before .before .before .before .before .before .before .before .before .before .pre .0) _ (c .before .before .before .before .before .before .before .before .before .before .before .before .before .before .before .before .before .before .before .pre .1 .0 .1) (c .before .before .before .before .before .before .before .before .before .before .before .before .before .before .before .before .before .before .before .pre .1 .0 .0) (c .before .before .before .before .before .before .before .before .before .before .before .before .before .before .before .before .before .before .before .pre .1 .0 .5) (c .before .before .before .before .before .before .before .before .before .before .before .before .before .before .before .before .before .before .before .pre .1 .0 .6) _ _ (c .before .before .before .before .before .before .before .before .before .before .before .before .before .before .before .before .before .before .before .pre .1 .0 .7) _ _ _ _ (c .before .before .before .before .before .before .before .before .loop .inv .3) (c .before .before .before .before .before .before .before .before .loop .inv .1) (c .before .before .before .before .before .before .before .loop-test .taken) (c .before .before .before .before .before .before .entry2 .ensures) refl (c .before .before .before .before .before .before .before .before .before .lesser .ensures) (c .before .before .before .before .if1 .taken) .1) (c .before .before .pay-counts .ensures))
+returns c =
+    let pay-counts = c .before .before .pay-counts in
+    let if1 = c .before .before .before .before .if1 in
+    let entry2 = c .before .before .before .before .before .before .entry2 in
+    let loop-test = c .before .before .before .before .before .before .before .loop-test in
+    let loop = c .before .before .before .before .before .before .before .before .loop in
+    let lesser = c .before .before .before .before .before .before .before .before .before .lesser in
+    let pre = c .before .before .before .before .before .before .before .before .before .before .before .before .before .before .before .before .before .before .before .pre in (
+      λ h. surge-stop _ _ _ _ _ (pre .0) _ (pre .1 .0 .1) (pre .1 .0 .0) (pre .1 .0 .5) (pre .1 .0 .6) _ _
+          (pre .1 .0 .7) _ _ _ _ (loop .inv .3) (loop .inv .1) (loop-test .taken) (entry2 .ensures) refl (lesser .ensures)
+          (if1 .taken) .0,
+      counted-paid
+          (
+          surge-stop _ _ _ _ _ (pre .0) _ (pre .1 .0 .1) (pre .1 .0 .0) (pre .1 .0 .5) (pre .1 .0 .6) _ _ (pre .1 .0 .7)
+          _ _ _ _ (loop .inv .3) (loop .inv .1) (loop-test .taken) (entry2 .ensures) refl (lesser .ensures)
+          (if1 .taken) .1
+          ) (pay-counts .ensures),
+    )
 
 -- src/settle.rt:284:13
 same-length-4 : tie.Need-same-length-4 Inv-loop μ-loop
-same-length-4 c = c .before .before .before .before .before .loop .inv .3 .wave .done .long ∙ sym (c .before .before .before .before .before .before .before .before .before .before .before .before .before .before .before .before .pre .1 .0 .2)
+same-length-4 c =
+    let loop = c .before .before .before .before .before .loop in
+    let pre = c .before .before .before .before .before .before .before .before .before .before .before .before .before .before .before .before .pre in
+    loop .inv .3 .wave .done .long ∙ sym (pre .1 .0 .2)
 
 -- src/settle.rt:284:13
 same-length-5 : tie.Need-same-length-5 Inv-loop μ-loop
-same-length-5 c = c .before .before .before .before .before .loop .inv .3 .wave .queued .long ∙ sym (c .before .before .before .before .before .before .before .before .before .before .before .before .before .before .before .before .pre .1 .0 .3)
+same-length-5 c =
+    let loop = c .before .before .before .before .before .loop in
+    let pre = c .before .before .before .before .before .before .before .before .before .before .before .before .before .before .before .before .pre in
+    loop .inv .3 .wave .queued .long ∙ sym (pre .1 .0 .3)
 
 -- src/settle.rt:284:13
 same-length-6 : tie.Need-same-length-6 Inv-loop μ-loop
-same-length-6 c = c .before .before .before .before .before .loop .inv .2
+same-length-6 c =
+    let loop = c .before .before .before .before .before .loop in
+    loop .inv .2
 
 -- src/settle.rt:284:13
 returns-2 : tie.Need-returns-2 Inv-loop μ-loop
-returns-2 c = (λ h. absurd (omega (arith, h)), counted-so (λ y h. absurd (omega (arith, h))) (c .before .before .before .before .before .loop .inv .3 .shift))
+returns-2 c =
+    let loop = c .before .before .before .before .before .loop in
+    (λ h. absurd (omega (arith, h)), counted-so (λ y h. absurd (omega (arith, h))) (loop .inv .3 .shift))
 
 -- src/settle.rt:286:9
 add-p : tie.Need-add-p Inv-loop μ-loop
-add-p c = omega (arith, reading-few _ _ _ _ (c .before .before .before .before .before .before .before .before .before .before .before .before .before .before .before .before .pre .0 .sound) (c .before .before .before .before .before .before .before .before .before .before .before .before .before .before .before .before .pre .0 .shelves) (c .before .before .before .before .before .before .before .before .before .before .before .before .before .before .before .before .pre .1 .0 .0) (c .before .before .before .before .before .loop .inv .3 .wave .reading) (c .before .before .before .before .before .loop .inv .1) (c .before .before .before .before .loop-test .taken))
+add-p c =
+    let loop-test = c .before .before .before .before .loop-test in
+    let loop = c .before .before .before .before .before .loop in
+    let pre = c .before .before .before .before .before .before .before .before .before .before .before .before .before .before .before .before .pre in
+    omega (
+      arith,
+      reading-few _ _ _ _ (pre .0 .sound) (pre .0 .shelves) (pre .1 .0 .0) (loop .inv .3 .wave .reading)
+          (loop .inv .1) (loop-test .taken),
+    )
 
 -- src/settle.rt:287:13
 is-first-requires : tie.Need-is-first-requires Inv-loop μ-loop
-is-first-requires c κs = rw (c .before .before .before .before .before .loop .inv .0) (let a = reading-fresh-place _ _ _ _ (c .before .before .before .before .before .before .before .before .before .before .before .before .before .before .before .before .pre .0 .sound) (c .before .before .before .before .before .before .before .before .before .before .before .before .before .before .before .before .pre .0 .shelves) (c .before .before .before .before .before .before .before .before .before .before .before .before .before .before .before .before .pre .1 .0 .0) (c .before .before .before .before .before .loop .inv .3 .wave .reading) (c .before .before .before .before .before .loop .inv .1) (c .before .before .before .before .loop-test .taken) (c .before .before .before .entry2 .ensures) in (a .0, a .1, a .2, surge-late _ _ _ _ _ (c .before .before .before .before .before .before .before .before .before .before .before .before .before .before .before .before .pre .0) _ (c .before .before .before .before .before .before .before .before .before .before .before .before .before .before .before .before .pre .1 .0 .1) (c .before .before .before .before .before .before .before .before .before .before .before .before .before .before .before .before .pre .1 .0 .0) (c .before .before .before .before .before .before .before .before .before .before .before .before .before .before .before .before .pre .1 .0 .5) (c .before .before .before .before .before .before .before .before .before .before .before .before .before .before .before .before .pre .1 .0 .6) _ _ (c .before .before .before .before .before .before .before .before .before .before .before .before .before .before .before .before .pre .1 .0 .7) _ _ _ _ (c .before .before .before .before .before .loop .inv .3) (c .before .before .before .before .before .loop .inv .1) (c .before .before .before .before .loop-test .taken) (c .before .before .before .entry2 .ensures)))
+is-first-requires c κs =
+    let entry2 = c .before .before .before .entry2 in
+    let loop-test = c .before .before .before .before .loop-test in
+    let loop = c .before .before .before .before .before .loop in
+    let pre = c .before .before .before .before .before .before .before .before .before .before .before .before .before .before .before .before .pre in
+    rw (loop .inv .0)
+    (
+    let a = reading-fresh-place _ _ _ _ (pre .0 .sound) (pre .0 .shelves) (pre .1 .0 .0)
+    (loop .inv .3 .wave .reading) (loop .inv .1) (loop-test .taken) (entry2 .ensures) in (
+      a .0,
+      a .1,
+      a .2,
+      surge-late _ _ _ _ _ (pre .0) _ (pre .1 .0 .1) (pre .1 .0 .0) (pre .1 .0 .5) (pre .1 .0 .6) _ _
+          (pre .1 .0 .7) _ _ _ _ (loop .inv .3) (loop .inv .1) (loop-test .taken) (entry2 .ensures),
+    )
+    )
 
 -- src/settle.rt:288:13
 entry-requires-3 : tie.Need-entry-requires-3 Inv-loop μ-loop
-entry-requires-3 c κs = omega (arith, reading-row _ _ _ _ (c .before .before .before .before .before .before .before .before .before .before .before .before .before .before .before .before .before .pre .0 .sound) (c .before .before .before .before .before .before .before .before .before .before .before .before .before .before .before .before .before .pre .0 .shelves) (c .before .before .before .before .before .before .before .before .before .before .before .before .before .before .before .before .before .pre .1 .0 .0) (c .before .before .before .before .before .before .loop .inv .3 .wave .reading) (c .before .before .before .before .before .before .loop .inv .1) (c .before .before .before .before .before .loop-test .taken) (c .before .before .before .before .entry2 .ensures), c .before .before .before .before .before .before .before .before .before .before .before .before .before .before .before .before .before .pre .0 .sound .firsts)
+entry-requires-3 c κs =
+    let entry2 = c .before .before .before .before .entry2 in
+    let loop-test = c .before .before .before .before .before .loop-test in
+    let loop = c .before .before .before .before .before .before .loop in
+    let pre = c .before .before .before .before .before .before .before .before .before .before .before .before .before .before .before .before .before .pre in
+    omega (
+      arith,
+      reading-row _ _ _ _ (pre .0 .sound) (pre .0 .shelves) (pre .1 .0 .0) (loop .inv .3 .wave .reading)
+          (loop .inv .1) (loop-test .taken) (entry2 .ensures),
+      pre .0 .sound .firsts,
+    )
 
 -- src/settle.rt:289:13
 entry-requires-4 : tie.Need-entry-requires-4 Inv-loop μ-loop
-entry-requires-4 c κs = omega (arith, reading-row _ _ _ _ (c .before .before .before .before .before .before .before .before .before .before .before .before .before .before .before .before .before .before .pre .0 .sound) (c .before .before .before .before .before .before .before .before .before .before .before .before .before .before .before .before .before .before .pre .0 .shelves) (c .before .before .before .before .before .before .before .before .before .before .before .before .before .before .before .before .before .before .pre .1 .0 .0) (c .before .before .before .before .before .before .before .loop .inv .3 .wave .reading) (c .before .before .before .before .before .before .before .loop .inv .1) (c .before .before .before .before .before .before .loop-test .taken) (c .before .before .before .before .before .entry2 .ensures), c .before .before .before .before .before .before .before .before .before .before .before .before .before .before .before .before .before .before .pre .0 .sound .seconds)
+entry-requires-4 c κs =
+    let entry2 = c .before .before .before .before .before .entry2 in
+    let loop-test = c .before .before .before .before .before .before .loop-test in
+    let loop = c .before .before .before .before .before .before .before .loop in
+    let pre = c .before .before .before .before .before .before .before .before .before .before .before .before .before .before .before .before .before .before .pre in
+    omega (
+      arith,
+      reading-row _ _ _ _ (pre .0 .sound) (pre .0 .shelves) (pre .1 .0 .0) (loop .inv .3 .wave .reading)
+          (loop .inv .1) (loop-test .taken) (entry2 .ensures),
+      pre .0 .sound .seconds,
+    )
 
 -- src/settle.rt:290:13
 other-requires : tie.Need-other-requires Inv-loop μ-loop
-other-requires c κs = reading-ends _ _ _ _ (c .before .before .before .before .before .before .before .before .before .before .before .before .before .before .before .before .before .before .before .pre .0 .sound) (c .before .before .before .before .before .before .before .before .before .before .before .before .before .before .before .before .before .before .before .pre .0 .shelves) (c .before .before .before .before .before .before .before .before .before .before .before .before .before .before .before .before .before .before .before .pre .1 .0 .0) (c .before .before .before .before .before .before .before .before .loop .inv .3 .wave .reading) (c .before .before .before .before .before .before .before .before .loop .inv .1) (c .before .before .before .before .before .before .before .loop-test .taken) (c .before .before .before .before .before .before .entry2 .ensures) (c .before .entry3 .ensures) (c .entry4 .ensures)
+other-requires c κs =
+    let entry3 = c .before .entry3 in
+    let entry2 = c .before .before .before .before .before .before .entry2 in
+    let loop-test = c .before .before .before .before .before .before .before .loop-test in
+    let loop = c .before .before .before .before .before .before .before .before .loop in
+    let pre = c .before .before .before .before .before .before .before .before .before .before .before .before .before .before .before .before .before .before .before .pre in
+    reading-ends _ _ _ _ (pre .0 .sound) (pre .0 .shelves) (pre .1 .0 .0) (loop .inv .3 .wave .reading) (loop .inv .1)
+    (loop-test .taken) (entry2 .ensures) (entry3 .ensures) (c .entry4 .ensures)
 
 -- src/settle.rt:291:17
 mul-z : tie.Need-mul-z Inv-loop μ-loop
-mul-z c = omega (arith, wave-small _ _ _ _ _ (c .before .before .before .before .before .before .before .before .before .before .before .before .before .before .before .before .before .before .before .before .pre .0) _ (c .before .before .before .before .before .before .before .before .before .before .before .before .before .before .before .before .before .before .before .before .pre .1 .0 .1) (c .before .before .before .before .before .before .before .before .before .before .before .before .before .before .before .before .before .before .before .before .pre .1 .0 .0) (c .before .before .before .before .before .before .before .before .before .before .before .before .before .before .before .before .before .before .before .before .pre .1 .0 .5) (c .before .before .before .before .before .before .before .before .before .before .before .before .before .before .before .before .before .before .before .before .pre .1 .0 .6) _ _ (c .before .before .before .before .before .before .before .before .before .before .before .before .before .before .before .before .before .before .before .before .pre .1 .0 .7) _ _ _ (c .before .before .before .before .before .before .before .before .before .loop .inv .3 .wave) (c .before .before .before .before .before .before .before .before .before .loop .inv .1) (c .before .before .before .before .before .before .before .before .loop-test .taken) (c .before .before .before .before .before .before .before .entry2 .ensures) refl (c .before .before .entry3 .ensures) (c .before .entry4 .ensures) (c .other .ensures))
+mul-z c =
+    let entry4 = c .before .entry4 in
+    let entry3 = c .before .before .entry3 in
+    let entry2 = c .before .before .before .before .before .before .before .entry2 in
+    let loop-test = c .before .before .before .before .before .before .before .before .loop-test in
+    let loop = c .before .before .before .before .before .before .before .before .before .loop in
+    let pre = c .before .before .before .before .before .before .before .before .before .before .before .before .before .before .before .before .before .before .before .before .pre in
+    omega (
+      arith,
+      wave-small _ _ _ _ _ (pre .0) _ (pre .1 .0 .1) (pre .1 .0 .0) (pre .1 .0 .5) (pre .1 .0 .6) _ _ (pre .1 .0 .7) _
+          _ _ (loop .inv .3 .wave) (loop .inv .1) (loop-test .taken) (entry2 .ensures) refl (entry3 .ensures)
+          (entry4 .ensures) (c .other .ensures),
+    )
 
 -- src/settle.rt:291:17
 shared-slice-read-z : tie.Need-shared-slice-read-z Inv-loop μ-loop
-shared-slice-read-z c = omega (arith, wave-small _ _ _ _ _ (c .before .before .before .before .before .before .before .before .before .before .before .before .before .before .before .before .before .before .before .before .before .pre .0) _ (c .before .before .before .before .before .before .before .before .before .before .before .before .before .before .before .before .before .before .before .before .before .pre .1 .0 .1) (c .before .before .before .before .before .before .before .before .before .before .before .before .before .before .before .before .before .before .before .before .before .pre .1 .0 .0) (c .before .before .before .before .before .before .before .before .before .before .before .before .before .before .before .before .before .before .before .before .before .pre .1 .0 .5) (c .before .before .before .before .before .before .before .before .before .before .before .before .before .before .before .before .before .before .before .before .before .pre .1 .0 .6) _ _ (c .before .before .before .before .before .before .before .before .before .before .before .before .before .before .before .before .before .before .before .before .before .pre .1 .0 .7) _ _ _ (c .before .before .before .before .before .before .before .before .before .before .loop .inv .3 .wave) (c .before .before .before .before .before .before .before .before .before .before .loop .inv .1) (c .before .before .before .before .before .before .before .before .before .loop-test .taken) (c .before .before .before .before .before .before .before .before .entry2 .ensures) refl (c .before .before .before .entry3 .ensures) (c .before .before .entry4 .ensures) (c .before .other .ensures), c .before .before .before .before .before .before .before .before .before .before .before .before .before .before .before .before .before .before .before .before .before .pre .1 .0 .1)
+shared-slice-read-z c =
+    let other = c .before .other in
+    let entry4 = c .before .before .entry4 in
+    let entry3 = c .before .before .before .entry3 in
+    let entry2 = c .before .before .before .before .before .before .before .before .entry2 in
+    let loop-test = c .before .before .before .before .before .before .before .before .before .loop-test in
+    let loop = c .before .before .before .before .before .before .before .before .before .before .loop in
+    let pre = c .before .before .before .before .before .before .before .before .before .before .before .before .before .before .before .before .before .before .before .before .before .pre in
+    omega (
+      arith,
+      wave-small _ _ _ _ _ (pre .0) _ (pre .1 .0 .1) (pre .1 .0 .0) (pre .1 .0 .5) (pre .1 .0 .6) _ _ (pre .1 .0 .7) _
+          _ _ (loop .inv .3 .wave) (loop .inv .1) (loop-test .taken) (entry2 .ensures) refl (entry3 .ensures)
+          (entry4 .ensures) (other .ensures),
+      pre .1 .0 .1,
+    )
 
 -- src/settle.rt:292:13
 greater-requires : tie.Need-greater-requires Inv-loop μ-loop
@@ -129,7 +291,22 @@ greater-requires c κs = search needs
 
 -- src/settle.rt:295:9
 lose-requires : tie.Need-lose-requires Inv-loop μ-loop
-lose-requires c κs = (c .before .before .before .before .before .before .before .before .before .before .before .before .before .loop .inv .3 .wave .done .long, c .before .before .before .before .before .before .before .before .before .before .before .before .before .loop .inv .3 .wave .queued .long, wave-small _ _ _ _ _ (c .before .before .before .before .before .before .before .before .before .before .before .before .before .before .before .before .before .before .before .before .before .before .before .before .pre .0) _ (c .before .before .before .before .before .before .before .before .before .before .before .before .before .before .before .before .before .before .before .before .before .before .before .before .pre .1 .0 .1) (c .before .before .before .before .before .before .before .before .before .before .before .before .before .before .before .before .before .before .before .before .before .before .before .before .pre .1 .0 .0) (c .before .before .before .before .before .before .before .before .before .before .before .before .before .before .before .before .before .before .before .before .before .before .before .before .pre .1 .0 .5) (c .before .before .before .before .before .before .before .before .before .before .before .before .before .before .before .before .before .before .before .before .before .before .before .before .pre .1 .0 .6) _ _ (c .before .before .before .before .before .before .before .before .before .before .before .before .before .before .before .before .before .before .before .before .before .before .before .before .pre .1 .0 .7) _ _ _ (c .before .before .before .before .before .before .before .before .before .before .before .before .before .loop .inv .3 .wave) (c .before .before .before .before .before .before .before .before .before .before .before .before .before .loop .inv .1) (c .before .before .before .before .before .before .before .before .before .before .before .before .loop-test .taken) (c .before .before .before .before .before .before .before .before .before .before .before .entry2 .ensures) refl (c .before .before .before .before .before .before .entry3 .ensures) (c .before .before .before .before .before .entry4 .ensures) (c .before .before .before .before .other .ensures), c .before .before .before .before .before .before .before .before .if2 .left)
+lose-requires c κs =
+    let other = c .before .before .before .before .other in
+    let entry4 = c .before .before .before .before .before .entry4 in
+    let entry3 = c .before .before .before .before .before .before .entry3 in
+    let if2 = c .before .before .before .before .before .before .before .before .if2 in
+    let entry2 = c .before .before .before .before .before .before .before .before .before .before .before .entry2 in
+    let loop-test = c .before .before .before .before .before .before .before .before .before .before .before .before .loop-test in
+    let loop = c .before .before .before .before .before .before .before .before .before .before .before .before .before .loop in
+    let pre = c .before .before .before .before .before .before .before .before .before .before .before .before .before .before .before .before .before .before .before .before .before .before .before .before .pre in (
+      loop .inv .3 .wave .done .long,
+      loop .inv .3 .wave .queued .long,
+      wave-small _ _ _ _ _ (pre .0) _ (pre .1 .0 .1) (pre .1 .0 .0) (pre .1 .0 .5) (pre .1 .0 .6) _ _ (pre .1 .0 .7) _ _
+          _ (loop .inv .3 .wave) (loop .inv .1) (loop-test .taken) (entry2 .ensures) refl (entry3 .ensures)
+          (entry4 .ensures) (other .ensures),
+      if2 .left,
+    )
 
 -- src/settle.rt:296:13
 greater-requires-2 : tie.Need-greater-requires-2 Inv-loop μ-loop
@@ -137,74 +314,112 @@ greater-requires-2 c κs = search needs
 
 -- src/settle.rt:297:9
 take-count-requires : tie.Need-take-count-requires Inv-loop μ-loop
-take-count-requires c κs = λ h. surge-asks _ _ _ _ _ (c .before .before .before .before .before .before .before .before .before .before .before .before .before .before .before .before .before .before .before .before .before .before .before .before .before .before .before .before .before .before .before .pre .0) _ (c .before .before .before .before .before .before .before .before .before .before .before .before .before .before .before .before .before .before .before .before .before .before .before .before .before .before .before .before .before .before .before .pre .1 .0 .1) (c .before .before .before .before .before .before .before .before .before .before .before .before .before .before .before .before .before .before .before .before .before .before .before .before .before .before .before .before .before .before .before .pre .1 .0 .0) (c .before .before .before .before .before .before .before .before .before .before .before .before .before .before .before .before .before .before .before .before .before .before .before .before .before .before .before .before .before .before .before .pre .1 .0 .5) (c .before .before .before .before .before .before .before .before .before .before .before .before .before .before .before .before .before .before .before .before .before .before .before .before .before .before .before .before .before .before .before .pre .1 .0 .6) _ _ (c .before .before .before .before .before .before .before .before .before .before .before .before .before .before .before .before .before .before .before .before .before .before .before .before .before .before .before .before .before .before .before .pre .1 .0 .7) _ _ _ _ (c .before .before .before .before .before .before .before .before .before .before .before .before .before .before .before .before .before .before .before .before .loop .inv .3) (c .before .before .before .before .before .before .before .before .before .before .before .before .before .before .before .before .before .before .before .before .loop .inv .1) (c .before .before .before .before .before .before .before .before .before .before .before .before .before .before .before .before .before .before .before .loop-test .taken) (c .before .before .before .before .before .before .before .before .before .before .before .before .before .before .before .before .before .before .entry2 .ensures) refl (c .before .before .before .before .before .before .before .before .before .before .before .before .before .before .before .before .before .before .before .before .before .lesser .ensures) (c .before .before .before .before .before .before .before .before .before .before .before .before .before .before .before .before .if1 .left) (c .before .before .before .before .before .before .before .before .before .before .before .before .before .entry3 .ensures) (c .before .before .before .before .before .before .before .before .before .before .before .before .entry4 .ensures) (c .before .before .before .before .before .before .before .before .before .before .before .other .ensures) refl (c .before .before .before .before .before .before .before .before .before .greater .ensures) (c .before .greater2 .ensures) refl h
+take-count-requires c κs =
+    let greater2 = c .before .greater2 in
+    let greater = c .before .before .before .before .before .before .before .before .before .greater in
+    let other = c .before .before .before .before .before .before .before .before .before .before .before .other in
+    let entry4 = c .before .before .before .before .before .before .before .before .before .before .before .before .entry4 in
+    let entry3 = c .before .before .before .before .before .before .before .before .before .before .before .before .before .entry3 in
+    let if1 = c .before .before .before .before .before .before .before .before .before .before .before .before .before .before .before .before .if1 in
+    let entry2 = c .before .before .before .before .before .before .before .before .before .before .before .before .before .before .before .before .before .before .entry2 in
+    let loop-test = c .before .before .before .before .before .before .before .before .before .before .before .before .before .before .before .before .before .before .before .loop-test in
+    let loop = c .before .before .before .before .before .before .before .before .before .before .before .before .before .before .before .before .before .before .before .before .loop in
+    let lesser = c .before .before .before .before .before .before .before .before .before .before .before .before .before .before .before .before .before .before .before .before .before .lesser in
+    let pre = c .before .before .before .before .before .before .before .before .before .before .before .before .before .before .before .before .before .before .before .before .before .before .before .before .before .before .before .before .before .before .before .pre in
+    λ h. surge-asks _ _ _ _ _ (pre .0) _ (pre .1 .0 .1) (pre .1 .0 .0) (pre .1 .0 .5) (pre .1 .0 .6) _ _ (pre .1 .0 .7)
+    _ _ _ _ (loop .inv .3) (loop .inv .1) (loop-test .taken) (entry2 .ensures) refl (lesser .ensures) (if1 .left)
+    (entry3 .ensures) (entry4 .ensures) (other .ensures) refl (greater .ensures) (greater2 .ensures) refl h
 
 -- src/settle.rt:276:5
 loop-less : tie.Need-loop-less Inv-loop μ-loop
-loop-less c = omega (arith, c .before .before .before .before .before .before .before .before .before .before .before .before .before .before .before .before .before .before .before .before .before .before .loop-test .taken)
+loop-less c =
+    let loop-test = c .before .before .before .before .before .before .before .before .before .before .before .before .before .before .before .before .before .before .before .before .before .before .loop-test in
+    omega (arith, loop-test .taken)
 
 -- src/settle.rt:276:5
 loop-again : tie.Need-loop-again Inv-loop μ-loop
-loop-again c = (c .before .before .before .before .before .before .before .before .before .before .before .before .before .before .before .before .before .before .before .before .before .before .before .loop .inv .0, c .before .before .before .before .before .before .before .before .before .before .before .before .before .before .before .before .before .before .before .before .before .before .before .loop .inv .1, search (needs, c .before .before .before .before .before .before .before .before .before .before .before .before .before .before .before .before .before .before .before .before .before .before .before .loop .inv .2), surge-next _ _ _ _ _ (c .before .before .before .before .before .before .before .before .before .before .before .before .before .before .before .before .before .before .before .before .before .before .before .before .before .before .before .before .before .before .before .before .before .before .pre .0) _ (c .before .before .before .before .before .before .before .before .before .before .before .before .before .before .before .before .before .before .before .before .before .before .before .before .before .before .before .before .before .before .before .before .before .before .pre .1 .0 .1) (c .before .before .before .before .before .before .before .before .before .before .before .before .before .before .before .before .before .before .before .before .before .before .before .before .before .before .before .before .before .before .before .before .before .before .pre .1 .0 .0) (c .before .before .before .before .before .before .before .before .before .before .before .before .before .before .before .before .before .before .before .before .before .before .before .before .before .before .before .before .before .before .before .before .before .before .pre .1 .0 .5) (c .before .before .before .before .before .before .before .before .before .before .before .before .before .before .before .before .before .before .before .before .before .before .before .before .before .before .before .before .before .before .before .before .before .before .pre .1 .0 .6) _ _ (c .before .before .before .before .before .before .before .before .before .before .before .before .before .before .before .before .before .before .before .before .before .before .before .before .before .before .before .before .before .before .before .before .before .before .pre .1 .0 .7) _ _ _ _ (c .before .before .before .before .before .before .before .before .before .before .before .before .before .before .before .before .before .before .before .before .before .before .before .loop .inv .3) (c .before .before .before .before .before .before .before .before .before .before .before .before .before .before .before .before .before .before .before .before .before .before .before .loop .inv .1) (c .before .before .before .before .before .before .before .before .before .before .before .before .before .before .before .before .before .before .before .before .before .before .loop-test .taken) (c .before .before .before .before .before .before .before .before .before .before .before .before .before .before .before .before .before .before .before .before .before .entry2 .ensures) refl (c .before .before .before .before .before .before .before .before .before .before .before .before .before .before .before .before .before .before .before .before .before .before .before .before .lesser .ensures) (c .before .before .before .before .before .before .before .before .before .before .before .before .before .before .before .before .before .before .before .if1 .left) (c .before .before .before .before .before .before .before .before .before .before .before .before .before .before .before .before .entry3 .ensures) (c .before .before .before .before .before .before .before .before .before .before .before .before .before .before .before .entry4 .ensures) (c .before .before .before .before .before .before .before .before .before .before .before .before .before .before .other .ensures) refl (c .before .before .before .before .before .before .before .before .before .before .before .before .greater .ensures) (c .before .before .before .before .greater2 .ensures) refl {fr = c .before .before .before .before .before .before .before .before .before .before .before .before .before .before .before .before .before .is-first .result} (c .before .before .before .before .before .before .before .before .before .before .before .before .before .before .before .before .before .before .if2 .left) (rw (sym (c .before .before .before .before .before .before .before .before .before .before .before .before .before .before .before .before .before .before .before .before .before .before .before .loop .inv .0)) (c .before .before .before .before .before .before .before .before .before .before .before .before .before .before .before .before .before .is-first .ensures)) refl (c .before .before .before .before .before .before .before .before .before .lose .ensures) (c .before .before .take-count .ensures .0))
+loop-again c =
+    let take-count = c .before .before .take-count in
+    let greater2 = c .before .before .before .before .greater2 in
+    let lose = c .before .before .before .before .before .before .before .before .before .lose in
+    let greater = c .before .before .before .before .before .before .before .before .before .before .before .before .greater in
+    let other = c .before .before .before .before .before .before .before .before .before .before .before .before .before .before .other in
+    let entry4 = c .before .before .before .before .before .before .before .before .before .before .before .before .before .before .before .entry4 in
+    let entry3 = c .before .before .before .before .before .before .before .before .before .before .before .before .before .before .before .before .entry3 in
+    let is-first = c .before .before .before .before .before .before .before .before .before .before .before .before .before .before .before .before .before .is-first in
+    let if2 = c .before .before .before .before .before .before .before .before .before .before .before .before .before .before .before .before .before .before .if2 in
+    let if1 = c .before .before .before .before .before .before .before .before .before .before .before .before .before .before .before .before .before .before .before .if1 in
+    let entry2 = c .before .before .before .before .before .before .before .before .before .before .before .before .before .before .before .before .before .before .before .before .before .entry2 in
+    let loop-test = c .before .before .before .before .before .before .before .before .before .before .before .before .before .before .before .before .before .before .before .before .before .before .loop-test in
+    let loop = c .before .before .before .before .before .before .before .before .before .before .before .before .before .before .before .before .before .before .before .before .before .before .before .loop in
+    let lesser = c .before .before .before .before .before .before .before .before .before .before .before .before .before .before .before .before .before .before .before .before .before .before .before .before .lesser in
+    let pre = c .before .before .before .before .before .before .before .before .before .before .before .before .before .before .before .before .before .before .before .before .before .before .before .before .before .before .before .before .before .before .before .before .before .before .pre in (
+      loop .inv .0,
+      loop .inv .1,
+      search (needs, loop .inv .2),
+      surge-next _ _ _ _ _ (pre .0) _ (pre .1 .0 .1) (pre .1 .0 .0) (pre .1 .0 .5) (pre .1 .0 .6) _ _ (pre .1 .0 .7) _ _
+          _ _ (loop .inv .3) (loop .inv .1) (loop-test .taken) (entry2 .ensures) refl (lesser .ensures) (if1 .left)
+          (entry3 .ensures) (entry4 .ensures) (other .ensures) refl (greater .ensures) (greater2 .ensures) refl
+          {fr = is-first .result} (if2 .left) (rw (sym (loop .inv .0)) (is-first .ensures)) refl (lose .ensures)
+          (take-count .ensures .0),
+    )
 
 -- src/settle.rt:299:5
 pay-counts-requires-2 : tie.Need-pay-counts-requires-2 Inv-loop μ-loop
-pay-counts-requires-2 c κs = λ h. surge-pays (c .before .before .before .before .before .before .before .before .before .before .before .before .before .args .times .now) (c .before .before .before .before .before .before .before .before .before .before .before .before .before .pre .0) (c .before .before .before .before .before .before .before .before .before .before .before .before .before .pre .1 .0 .0) (c .before .before .before .before .before .before .before .before .before .before .before .before .before .pre .1 .0 .6) (c .before .before .before .before .before .before .before .before .before .before .before .before .before .pre .1 .0 .7) (c .before .before .before .before .before .before .before .before .before .before .before .before .before .pre .1 .1 h .top) (surge-out _ _ _ _ _ (c .before .before .before .before .before .before .before .before .before .before .before .before .before .pre .0) _ (c .before .before .before .before .before .before .before .before .before .before .before .before .before .pre .1 .0 .1) (c .before .before .before .before .before .before .before .before .before .before .before .before .before .pre .1 .0 .0) (c .before .before .before .before .before .before .before .before .before .before .before .before .before .pre .1 .0 .5) (c .before .before .before .before .before .before .before .before .before .before .before .before .before .pre .1 .0 .6) _ _ (c .before .before .before .before .before .before .before .before .before .before .before .before .before .pre .1 .0 .7) _ _ _ _ (c .before .before .loop .inv .3) (c .before .before .loop .inv .1) (c .before .loop-test .left) .1 .counted h)
+pay-counts-requires-2 c κs =
+    let loop-test = c .before .loop-test in
+    let loop = c .before .before .loop in
+    let args = c .before .before .before .before .before .before .before .before .before .before .before .before .before .args in
+    let pre = c .before .before .before .before .before .before .before .before .before .before .before .before .before .pre in
+    λ h. surge-pays (args .times .now) (pre .0) (pre .1 .0 .0) (pre .1 .0 .6) (pre .1 .0 .7) (pre .1 .1 h .top)
+    (
+    surge-out _ _ _ _ _ (pre .0) _ (pre .1 .0 .1) (pre .1 .0 .0) (pre .1 .0 .5) (pre .1 .0 .6) _ _ (pre .1 .0 .7) _
+    _ _ _ (loop .inv .3) (loop .inv .1) (loop-test .left) .1 .counted h
+    )
 
 -- src/settle.rt:245:1
 same-length-7 : tie.Need-same-length-7 Inv-loop μ-loop
-same-length-7 c = c .before .before .before .before .before .loop .inv .3 .wave .done .long ∙ sym (c .before .before .before .before .before .before .before .before .before .before .before .before .before .before .before .before .pre .1 .0 .2)
+same-length-7 c =
+    let loop = c .before .before .before .before .before .loop in
+    let pre = c .before .before .before .before .before .before .before .before .before .before .before .before .before .before .before .before .pre in
+    loop .inv .3 .wave .done .long ∙ sym (pre .1 .0 .2)
 
 -- src/settle.rt:245:1
 same-length-8 : tie.Need-same-length-8 Inv-loop μ-loop
-same-length-8 c = c .before .before .before .before .before .loop .inv .3 .wave .queued .long ∙ sym (c .before .before .before .before .before .before .before .before .before .before .before .before .before .before .before .before .pre .1 .0 .3)
+same-length-8 c =
+    let loop = c .before .before .before .before .before .loop in
+    let pre = c .before .before .before .before .before .before .before .before .before .before .before .before .before .before .before .before .pre in
+    loop .inv .3 .wave .queued .long ∙ sym (pre .1 .0 .3)
 
 -- src/settle.rt:245:1
 same-length-9 : tie.Need-same-length-9 Inv-loop μ-loop
-same-length-9 c = search (needs, c .before .before .before .before .before .loop .inv .2)
+same-length-9 c =
+    let loop = c .before .before .before .before .before .loop in
+    search (needs, loop .inv .2)
 
 -- src/settle.rt:245:1
 returns-3 : tie.Need-returns-3 Inv-loop μ-loop
-returns-3 c = (λ h. surge-out _ _ _ _ _ (c .before .before .before .before .before .before .before .before .before .before .before .before .before .before .before .before .pre .0) _ (c .before .before .before .before .before .before .before .before .before .before .before .before .before .before .before .before .pre .1 .0 .1) (c .before .before .before .before .before .before .before .before .before .before .before .before .before .before .before .before .pre .1 .0 .0) (c .before .before .before .before .before .before .before .before .before .before .before .before .before .before .before .before .pre .1 .0 .5) (c .before .before .before .before .before .before .before .before .before .before .before .before .before .before .before .before .pre .1 .0 .6) _ _ (c .before .before .before .before .before .before .before .before .before .before .before .before .before .before .before .before .pre .1 .0 .7) _ _ _ _ (c .before .before .before .before .before .loop .inv .3) (c .before .before .before .before .before .loop .inv .1) (c .before .before .before .before .loop-test .left) .0, counted-paid (surge-out _ _ _ _ _ (c .before .before .before .before .before .before .before .before .before .before .before .before .before .before .before .before .pre .0) _ (c .before .before .before .before .before .before .before .before .before .before .before .before .before .before .before .before .pre .1 .0 .1) (c .before .before .before .before .before .before .before .before .before .before .before .before .before .before .before .before .pre .1 .0 .0) (c .before .before .before .before .before .before .before .before .before .before .before .before .before .before .before .before .pre .1 .0 .5) (c .before .before .before .before .before .before .before .before .before .before .before .before .before .before .before .before .pre .1 .0 .6) _ _ (c .before .before .before .before .before .before .before .before .before .before .before .before .before .before .before .before .pre .1 .0 .7) _ _ _ _ (c .before .before .before .before .before .loop .inv .3) (c .before .before .before .before .before .loop .inv .1) (c .before .before .before .before .loop-test .left) .1) (c .before .before .pay-counts2 .ensures))
+returns-3 c =
+    let pay-counts2 = c .before .before .pay-counts2 in
+    let loop-test = c .before .before .before .before .loop-test in
+    let loop = c .before .before .before .before .before .loop in
+    let pre = c .before .before .before .before .before .before .before .before .before .before .before .before .before .before .before .before .pre in (
+      λ h. surge-out _ _ _ _ _ (pre .0) _ (pre .1 .0 .1) (pre .1 .0 .0) (pre .1 .0 .5) (pre .1 .0 .6) _ _ (pre .1 .0 .7)
+          _ _ _ _ (loop .inv .3) (loop .inv .1) (loop-test .left) .0,
+      counted-paid
+          (
+          surge-out _ _ _ _ _ (pre .0) _ (pre .1 .0 .1) (pre .1 .0 .0) (pre .1 .0 .5) (pre .1 .0 .6) _ _ (pre .1 .0 .7)
+          _ _ _ _ (loop .inv .3) (loop .inv .1) (loop-test .left) .1
+          ) (pay-counts2 .ensures),
+    )
 
 pub lose-others-spec : {M : Type 1} → statement M
 lose-others-spec =
     tie.close
-    (tie.spec
-    Inv-loop
-    μ-loop
-    entry-requires
-    add-lesser
-    lesser-requires
-    loop-holds
-    add-entry
-    entry-requires-2
-    mul-day
-    shared-slice-read-day
-    pay-counts-requires
-    same-length
-    same-length-2
-    same-length-3
-    returns
-    same-length-4
-    same-length-5
-    same-length-6
-    returns-2
-    add-p
-    is-first-requires
-    entry-requires-3
-    entry-requires-4
-    other-requires
-    mul-z
-    shared-slice-read-z
-    greater-requires
-    lose-requires
-    greater-requires-2
-    take-count-requires
-    loop-less
-    loop-again
-    pay-counts-requires-2
-    same-length-7
-    same-length-8
-    same-length-9
-    returns-3)
+    (
+    tie.spec Inv-loop μ-loop entry-requires add-lesser lesser-requires loop-holds add-entry entry-requires-2 mul-day
+    shared-slice-read-day pay-counts-requires same-length same-length-2 same-length-3 returns same-length-4
+    same-length-5 same-length-6 returns-2 add-p is-first-requires entry-requires-3 entry-requires-4 other-requires
+    mul-z shared-slice-read-z greater-requires lose-requires greater-requires-2 take-count-requires loop-less
+    loop-again pay-counts-requires-2 same-length-7 same-length-8 same-length-9 returns-3
+    )

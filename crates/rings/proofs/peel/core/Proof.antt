@@ -20,23 +20,56 @@ clear-requires-2 c κs = search needs
 
 -- src/peel.rt:330:5
 count-neighbours-requires : tie.Need-count-neighbours-requires
-count-neighbours-requires c κs = (c .before .before .before .before .before .before .before .before .before .before .before .before .before .before .before .before .pre .0, ((c .before .before .before .before .before .before .before .before .before .before .before .before .before .before .before .before .pre .1 .0 .ordered, c .before .before .before .before .before .before .before .before .before .before .before .before .before .before .before .before .pre .1 .0 .within), counted-start _ _ _ _ _ (c .before .before .before .before .before .before .before .before .before .before .before .before .before .before .before .before .pre .0) (c .before .before .before .before .before .before .before .before .before .before .before .before .before .before .before .before .args .left .now) (c .before .before .before .before .before .before .before .before .before .before .before .before .before .before .before .before .pre .1 .1 .1) (c .before .before .before .clear2 .ensures)))
+count-neighbours-requires c κs =
+    let clear2 = c .before .before .before .clear2 in
+    let args = c .before .before .before .before .before .before .before .before .before .before .before .before .before .before .before .before .args in
+    let pre = c .before .before .before .before .before .before .before .before .before .before .before .before .before .before .before .before .pre in (
+      pre .0,
+      (
+        (pre .1 .0 .ordered, pre .1 .0 .within),
+        counted-start _ _ _ _ _ (pre .0) (args .left .now) (pre .1 .1 .1) (clear2 .ensures),
+      ),
+    )
 
 -- src/peel.rt:331:9
 weed-requires : tie.Need-weed-requires
-weed-requires c κs = (c .before .before .before .before .before .before .before .before .before .before .before .before .before .before .before .before .before .before .before .before .before .before .pre .0, core-start _ _ _ _ _ (c .before .before .before .before .before .before .before .before .before .before .before .before .before .before .before .before .before .before .before .before .before .before .pre .0) (c .before .before .before .before .before .before .before .before .before .before .before .before .before .before .before .before .before .before .before .before .before .before .pre .1 .0) (c .before .before .before .before .before .before .before .before .before .before .before .before .before .before .before .before .before .before .before .before .before .before .args .times .now) (c .before .before .before .before .before .before .before .before .before .before .before .before .before .before .before .before .before .before .before .before .before .before .pre .1 .1 .0) (c .before .before .before .before .before .before .before .before .before .before .before .before .before .clear .ensures) (c .before .before .before .before .before .count-neighbours .ensures) (c .before .before .before .before .before .before .before .before .before .before .before .before .before .before .before .before .before .before .before .before .before .before .pre .1 .1 .2))
+weed-requires c κs =
+    let count-neighbours = c .before .before .before .before .before .count-neighbours in
+    let clear = c .before .before .before .before .before .before .before .before .before .before .before .before .before .clear in
+    let args = c .before .before .before .before .before .before .before .before .before .before .before .before .before .before .before .before .before .before .before .before .before .before .args in
+    let pre = c .before .before .before .before .before .before .before .before .before .before .before .before .before .before .before .before .before .before .before .before .before .before .pre in (
+      pre .0,
+      core-start _ _ _ _ _ (pre .0) (pre .1 .0) (args .times .now) (pre .1 .1 .0) (clear .ensures)
+          (count-neighbours .ensures) (pre .1 .1 .2),
+    )
 
 -- src/peel.rt:332:5
 drain-requires : tie.Need-drain-requires
-drain-requires c κs = (c .before .before .before .before .before .before .before .before .before .before .before .before .before .before .before .before .before .before .before .before .before .before .before .before .before .before .before .before .before .before .before .before .pre .0, c .before .before .before .before .before .before .before .before .before .weed .ensures)
+drain-requires c κs =
+    let weed = c .before .before .before .before .before .before .before .before .before .weed in
+    let pre = c .before .before .before .before .before .before .before .before .before .before .before .before .before .before .before .before .before .before .before .before .before .before .before .before .before .before .before .before .before .before .before .before .pre in
+    (pre .0, weed .ensures)
 
 -- src/peel.rt:322:1
 same-length : tie.Need-same-length
-same-length c = c .before .before .before .before .before .before .drain .kept .1 .1 .1 .1 .1 .1 .1 .1 .1 .1 .1 .1 .0 ∙ (c .before .before .before .before .before .before .before .before .before .before .before .before .before .before .before .before .weed .kept .1 .1 .1 .1 .1 .1 .1 .1 .1 .0 ∙ c .before .before .before .before .before .before .before .before .before .before .before .before .before .before .before .before .before .before .before .before .before .before .before .before .before .before .before .before .before .before .clear .kept .0)
+same-length c =
+    let drain = c .before .before .before .before .before .before .drain in
+    let weed = c .before .before .before .before .before .before .before .before .before .before .before .before .before .before .before .before .weed in
+    let clear = c .before .before .before .before .before .before .before .before .before .before .before .before .before .before .before .before .before .before .before .before .before .before .before .before .before .before .before .before .before .before .clear in
+    drain .kept .1 .1 .1 .1 .1 .1 .1 .1 .1 .1 .1 .1 .0 ∙ (weed .kept .1 .1 .1 .1 .1 .1 .1 .1 .1 .0 ∙ clear .kept .0)
 
 -- src/peel.rt:322:1
 same-length-2 : tie.Need-same-length-2
-same-length-2 c = c .before .before .before .before .before .before .drain .kept .1 .1 .1 .1 .1 .1 .1 .1 .1 .1 .1 .1 .1 .0 ∙ (c .before .before .before .before .before .before .before .before .before .before .before .before .before .before .before .before .weed .kept .1 .1 .1 .1 .1 .1 .1 .1 .1 .1 .0 ∙ (c .before .before .before .before .before .before .before .before .before .before .before .before .before .before .before .before .before .before .before .before .before .before .count-neighbours .kept .1 .1 .1 .1 .1 .1 .1 .1 .1 .0 ∙ c .before .before .before .before .before .before .before .before .before .before .before .before .before .before .before .before .before .before .before .before .before .before .before .before .before .before .clear2 .kept .0))
+same-length-2 c =
+    let drain = c .before .before .before .before .before .before .drain in
+    let weed = c .before .before .before .before .before .before .before .before .before .before .before .before .before .before .before .before .weed in
+    let count-neighbours = c .before .before .before .before .before .before .before .before .before .before .before .before .before .before .before .before .before .before .before .before .before .before .count-neighbours in
+    let clear2 = c .before .before .before .before .before .before .before .before .before .before .before .before .before .before .before .before .before .before .before .before .before .before .before .before .before .before .clear2 in
+    drain .kept .1 .1 .1 .1 .1 .1 .1 .1 .1 .1 .1 .1 .1 .0 ∙
+    (
+    weed .kept .1 .1 .1 .1 .1 .1 .1 .1 .1 .1 .0 ∙
+    (count-neighbours .kept .1 .1 .1 .1 .1 .1 .1 .1 .1 .0 ∙ clear2 .kept .0)
+    )
 
 -- src/peel.rt:322:1
 same-length-3 : tie.Need-same-length-3
@@ -44,18 +77,14 @@ same-length-3 c = search needs
 
 -- src/peel.rt:322:1
 returns : tie.Need-returns
-returns c = c .before .before .before .before .before .before .drain .ensures
+returns c =
+    let drain = c .before .before .before .before .before .before .drain in
+    drain .ensures
 
 pub core-spec : {M : Type 1} → statement M
 core-spec =
     tie.close
-    (tie.spec
-    clear-requires
-    clear-requires-2
-    count-neighbours-requires
-    weed-requires
-    drain-requires
-    same-length
-    same-length-2
-    same-length-3
-    returns)
+    (
+    tie.spec clear-requires clear-requires-2 count-neighbours-requires weed-requires drain-requires same-length
+    same-length-2 same-length-3 returns
+    )

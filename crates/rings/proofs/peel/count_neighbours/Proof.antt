@@ -23,97 +23,197 @@ abbrev μ-loop : tie.MeasureT-loop
 
 -- src/peel.rt:144:5
 loop-holds : tie.Need-loop-holds Inv-loop μ-loop
-loop-holds c = (refl, refl, c .before .before .before .before .before .pre .1 .0 .0, c .before .before .before .before .before .pre .1 .1)
+loop-holds c =
+    let pre = c .before .before .before .before .before .pre in
+    (refl, refl, pre .1 .0 .0, pre .1 .1)
 
 -- src/peel.rt:145:12
 is-fresh-requires : tie.Need-is-fresh-requires Inv-loop μ-loop
-is-fresh-requires c κs = count-place _ _ _ _ _ (c .before .before .before .before .before .before .before .pre .0) (c .before .loop .inv .3) (c .loop-test .taken) (c .before .before .before .before .before .before .before .pre .1 .0 .1)
+is-fresh-requires c κs =
+    let loop = c .before .loop in
+    let pre = c .before .before .before .before .before .before .before .pre in
+    count-place _ _ _ _ _ (pre .0) (loop .inv .3) (c .loop-test .taken) (pre .1 .0 .1)
 
 -- src/peel.rt:146:17
 entry-requires : tie.Need-entry-requires Inv-loop μ-loop
-entry-requires c κs = omega (arith, c .before .before .loop-test .taken, c .before .before .before .before .before .before .before .before .before .pre .1 .0 .1, c .before .before .before .before .before .before .before .before .before .pre .0 .sound .firsts)
+entry-requires c κs =
+    let loop-test = c .before .before .loop-test in
+    let pre = c .before .before .before .before .before .before .before .before .before .pre in
+    omega (arith, loop-test .taken, pre .1 .0 .1, pre .0 .sound .firsts)
 
 -- src/peel.rt:147:17
 entry-requires-2 : tie.Need-entry-requires-2 Inv-loop μ-loop
-entry-requires-2 c κs = omega (arith, c .before .before .before .loop-test .taken, c .before .before .before .before .before .before .before .before .before .before .pre .1 .0 .1, c .before .before .before .before .before .before .before .before .before .before .pre .0 .sound .seconds)
+entry-requires-2 c κs =
+    let loop-test = c .before .before .before .loop-test in
+    let pre = c .before .before .before .before .before .before .before .before .before .before .pre in
+    omega (arith, loop-test .taken, pre .1 .0 .1, pre .0 .sound .seconds)
 
 -- src/peel.rt:148:17
 entry-requires-3 : tie.Need-entry-requires-3 Inv-loop μ-loop
-entry-requires-3 c κs = count-first _ _ _ _ _ (c .before .before .before .before .before .before .before .before .before .before .before .before .pre .0) (c .before .before .before .before .before .before .loop .inv .3) (c .before .before .before .before .before .loop-test .taken) (c .before .before .before .before .before .before .before .before .before .before .before .before .pre .1 .0 .1) (c .before .before .entry .ensures) refl .0
+entry-requires-3 c κs =
+    let entry = c .before .before .entry in
+    let loop-test = c .before .before .before .before .before .loop-test in
+    let loop = c .before .before .before .before .before .before .loop in
+    let pre = c .before .before .before .before .before .before .before .before .before .before .before .before .pre in
+    count-first _ _ _ _ _ (pre .0) (loop .inv .3) (loop-test .taken) (pre .1 .0 .1) (entry .ensures) refl .0
 
 -- src/peel.rt:149:26
 add-put : tie.Need-add-put Inv-loop μ-loop
-add-put c = omega (arith, count-first _ _ _ _ _ (c .before .before .before .before .before .before .before .before .before .before .before .before .before .before .pre .0) (c .before .before .before .before .before .before .before .before .loop .inv .3) (c .before .before .before .before .before .before .before .loop-test .taken) (c .before .before .before .before .before .before .before .before .before .before .before .before .before .before .pre .1 .0 .1) (c .before .before .before .before .entry .ensures) (c .before .entry3 .ensures))
+add-put c =
+    let entry3 = c .before .entry3 in
+    let entry = c .before .before .before .before .entry in
+    let loop-test = c .before .before .before .before .before .before .before .loop-test in
+    let loop = c .before .before .before .before .before .before .before .before .loop in
+    let pre = c .before .before .before .before .before .before .before .before .before .before .before .before .before .before .pre in
+    omega (
+      arith,
+      count-first _ _ _ _ _ (pre .0) (loop .inv .3) (loop-test .taken) (pre .1 .0 .1) (entry .ensures)
+          (entry3 .ensures),
+    )
 
 -- src/peel.rt:149:13
 put-requires : tie.Need-put-requires Inv-loop μ-loop
-put-requires c κs = (count-first _ _ _ _ _ (c .before .before .before .before .before .before .before .before .before .before .before .before .before .before .pre .0) (c .before .before .before .before .before .before .before .before .loop .inv .3) (c .before .before .before .before .before .before .before .loop-test .taken) (c .before .before .before .before .before .before .before .before .before .before .before .before .before .before .pre .1 .0 .1) (c .before .before .before .before .entry .ensures) refl .0, omega (arith, count-first _ _ _ _ _ (c .before .before .before .before .before .before .before .before .before .before .before .before .before .before .pre .0) (c .before .before .before .before .before .before .before .before .loop .inv .3) (c .before .before .before .before .before .before .before .loop-test .taken) (c .before .before .before .before .before .before .before .before .before .before .before .before .before .before .pre .1 .0 .1) (c .before .before .before .before .entry .ensures) (c .before .entry3 .ensures)))
+put-requires c κs =
+    let entry3 = c .before .entry3 in
+    let entry = c .before .before .before .before .entry in
+    let loop-test = c .before .before .before .before .before .before .before .loop-test in
+    let loop = c .before .before .before .before .before .before .before .before .loop in
+    let pre = c .before .before .before .before .before .before .before .before .before .before .before .before .before .before .pre in (
+      count-first _ _ _ _ _ (pre .0) (loop .inv .3) (loop-test .taken) (pre .1 .0 .1) (entry .ensures) refl .0,
+      omega (
+        arith,
+        count-first _ _ _ _ _ (pre .0) (loop .inv .3) (loop-test .taken) (pre .1 .0 .1) (entry .ensures)
+            (entry3 .ensures),
+      ),
+    )
 
 -- src/peel.rt:150:17
 entry-requires-4 : tie.Need-entry-requires-4 Inv-loop μ-loop
-entry-requires-4 c κs = count-second _ _ _ _ _ (c .before .before .before .before .before .before .before .before .before .before .before .before .before .before .before .before .before .before .pre .0) (c .before .before .before .before .before .before .before .before .before .before .before .before .loop .inv .3) (c .before .before .before .before .before .before .before .before .before .before .before .loop-test .taken) (c .before .before .before .before .before .before .before .before .before .before .before .before .before .before .before .before .before .before .pre .1 .0 .1) (c .before .before .before .before .before .before .before .before .entry .ensures) (c .before .before .before .before .before .before .before .entry2 .ensures) (c .before .before .before .before .before .entry3 .ensures) (c .before .before .before .put .ensures) refl .0
+entry-requires-4 c κs =
+    let put = c .before .before .before .put in
+    let entry3 = c .before .before .before .before .before .entry3 in
+    let entry2 = c .before .before .before .before .before .before .before .entry2 in
+    let entry = c .before .before .before .before .before .before .before .before .entry in
+    let loop-test = c .before .before .before .before .before .before .before .before .before .before .before .loop-test in
+    let loop = c .before .before .before .before .before .before .before .before .before .before .before .before .loop in
+    let pre = c .before .before .before .before .before .before .before .before .before .before .before .before .before .before .before .before .before .before .pre in
+    count-second _ _ _ _ _ (pre .0) (loop .inv .3) (loop-test .taken) (pre .1 .0 .1) (entry .ensures) (entry2 .ensures)
+    (entry3 .ensures) (put .ensures) refl .0
 
 -- src/peel.rt:151:26
 add-put-2 : tie.Need-add-put-2 Inv-loop μ-loop
-add-put-2 c = omega (arith, count-second _ _ _ _ _ (c .before .before .before .before .before .before .before .before .before .before .before .before .before .before .before .before .before .before .before .before .pre .0) (c .before .before .before .before .before .before .before .before .before .before .before .before .before .before .loop .inv .3) (c .before .before .before .before .before .before .before .before .before .before .before .before .before .loop-test .taken) (c .before .before .before .before .before .before .before .before .before .before .before .before .before .before .before .before .before .before .before .before .pre .1 .0 .1) (c .before .before .before .before .before .before .before .before .before .before .entry .ensures) (c .before .before .before .before .before .before .before .before .before .entry2 .ensures) (c .before .before .before .before .before .before .before .entry3 .ensures) (c .before .before .before .before .before .put .ensures) (c .before .entry4 .ensures))
+add-put-2 c =
+    let entry4 = c .before .entry4 in
+    let put = c .before .before .before .before .before .put in
+    let entry3 = c .before .before .before .before .before .before .before .entry3 in
+    let entry2 = c .before .before .before .before .before .before .before .before .before .entry2 in
+    let entry = c .before .before .before .before .before .before .before .before .before .before .entry in
+    let loop-test = c .before .before .before .before .before .before .before .before .before .before .before .before .before .loop-test in
+    let loop = c .before .before .before .before .before .before .before .before .before .before .before .before .before .before .loop in
+    let pre = c .before .before .before .before .before .before .before .before .before .before .before .before .before .before .before .before .before .before .before .before .pre in
+    omega (
+      arith,
+      count-second _ _ _ _ _ (pre .0) (loop .inv .3) (loop-test .taken) (pre .1 .0 .1) (entry .ensures)
+          (entry2 .ensures) (entry3 .ensures) (put .ensures) (entry4 .ensures),
+    )
 
 -- src/peel.rt:151:13
 put-requires-2 : tie.Need-put-requires-2 Inv-loop μ-loop
-put-requires-2 c κs = (count-second _ _ _ _ _ (c .before .before .before .before .before .before .before .before .before .before .before .before .before .before .before .before .before .before .before .before .pre .0) (c .before .before .before .before .before .before .before .before .before .before .before .before .before .before .loop .inv .3) (c .before .before .before .before .before .before .before .before .before .before .before .before .before .loop-test .taken) (c .before .before .before .before .before .before .before .before .before .before .before .before .before .before .before .before .before .before .before .before .pre .1 .0 .1) (c .before .before .before .before .before .before .before .before .before .before .entry .ensures) (c .before .before .before .before .before .before .before .before .before .entry2 .ensures) (c .before .before .before .before .before .before .before .entry3 .ensures) (c .before .before .before .before .before .put .ensures) refl .0, omega (arith, count-second _ _ _ _ _ (c .before .before .before .before .before .before .before .before .before .before .before .before .before .before .before .before .before .before .before .before .pre .0) (c .before .before .before .before .before .before .before .before .before .before .before .before .before .before .loop .inv .3) (c .before .before .before .before .before .before .before .before .before .before .before .before .before .loop-test .taken) (c .before .before .before .before .before .before .before .before .before .before .before .before .before .before .before .before .before .before .before .before .pre .1 .0 .1) (c .before .before .before .before .before .before .before .before .before .before .entry .ensures) (c .before .before .before .before .before .before .before .before .before .entry2 .ensures) (c .before .before .before .before .before .before .before .entry3 .ensures) (c .before .before .before .before .before .put .ensures) (c .before .entry4 .ensures)))
+put-requires-2 c κs =
+    let entry4 = c .before .entry4 in
+    let put = c .before .before .before .before .before .put in
+    let entry3 = c .before .before .before .before .before .before .before .entry3 in
+    let entry2 = c .before .before .before .before .before .before .before .before .before .entry2 in
+    let entry = c .before .before .before .before .before .before .before .before .before .before .entry in
+    let loop-test = c .before .before .before .before .before .before .before .before .before .before .before .before .before .loop-test in
+    let loop = c .before .before .before .before .before .before .before .before .before .before .before .before .before .before .loop in
+    let pre = c .before .before .before .before .before .before .before .before .before .before .before .before .before .before .before .before .before .before .before .before .pre in (
+      count-second _ _ _ _ _ (pre .0) (loop .inv .3) (loop-test .taken) (pre .1 .0 .1) (entry .ensures)
+          (entry2 .ensures) (entry3 .ensures) (put .ensures) refl .0,
+      omega (
+        arith,
+        count-second _ _ _ _ _ (pre .0) (loop .inv .3) (loop-test .taken) (pre .1 .0 .1) (entry .ensures)
+            (entry2 .ensures) (entry3 .ensures) (put .ensures) (entry4 .ensures),
+      ),
+    )
 
 -- src/peel.rt:152:13
 add-j : tie.Need-add-j Inv-loop μ-loop
-add-j c = omega (arith, c .before .before .before .before .before .before .before .before .before .before .before .before .before .before .before .before .loop-test .taken, c .before .before .before .before .before .before .before .before .before .before .before .before .before .before .before .before .before .before .before .before .before .before .before .pre .1 .0 .1, c .before .before .before .before .before .before .before .before .before .before .before .before .before .before .before .before .before .before .before .before .before .before .before .pre .0 .sound .most)
+add-j c =
+    let loop-test = c .before .before .before .before .before .before .before .before .before .before .before .before .before .before .before .before .loop-test in
+    let pre = c .before .before .before .before .before .before .before .before .before .before .before .before .before .before .before .before .before .before .before .before .before .before .before .pre in
+    omega (arith, loop-test .taken, pre .1 .0 .1, pre .0 .sound .most)
 
 -- src/peel.rt:144:5
 loop-less : tie.Need-loop-less Inv-loop μ-loop
-loop-less c = omega (arith, c .before .before .before .before .before .before .before .before .before .before .before .before .before .before .before .before .loop-test .taken)
+loop-less c =
+    let loop-test = c .before .before .before .before .before .before .before .before .before .before .before .before .before .before .before .before .loop-test in
+    omega (arith, loop-test .taken)
 
 -- src/peel.rt:144:5
 loop-again : tie.Need-loop-again Inv-loop μ-loop
-loop-again c = (refl, c .before .before .put2 .kept .0 ∙ (c .before .before .before .before .before .before .before .before .put .kept .0 ∙ c .before .before .before .before .before .before .before .before .before .before .before .before .before .before .before .before .before .loop .inv .1), omega (arith, c .before .before .before .before .before .before .before .before .before .before .before .before .before .before .before .before .loop-test .taken), count-row _ _ _ _ _ (c .before .before .before .before .before .before .before .before .before .before .before .before .before .before .before .before .before .before .before .before .before .before .before .pre .0) (c .before .before .before .before .before .before .before .before .before .before .before .before .before .before .before .before .before .loop .inv .3) (c .before .before .before .before .before .before .before .before .before .before .before .before .before .before .before .before .loop-test .taken) (c .before .before .before .before .before .before .before .before .before .before .before .before .before .before .before .before .before .before .before .before .before .before .before .pre .1 .0 .1) (c .before .before .before .before .before .before .before .before .before .before .before .before .before .before .before .is-fresh .ensures) (c .before .before .before .before .before .before .before .before .before .before .before .before .before .before .if1 .taken) (c .before .before .before .before .before .before .before .before .before .before .before .before .before .entry .ensures) (c .before .before .before .before .before .before .before .before .before .before .before .before .entry2 .ensures) (c .before .before .before .before .before .before .before .before .before .before .entry3 .ensures) (c .before .before .before .before .before .before .before .before .put .ensures) (c .before .before .before .before .entry4 .ensures) (c .before .before .put2 .ensures))
+loop-again c =
+    let put2 = c .before .before .put2 in
+    let entry4 = c .before .before .before .before .entry4 in
+    let put = c .before .before .before .before .before .before .before .before .put in
+    let entry3 = c .before .before .before .before .before .before .before .before .before .before .entry3 in
+    let entry2 = c .before .before .before .before .before .before .before .before .before .before .before .before .entry2 in
+    let entry = c .before .before .before .before .before .before .before .before .before .before .before .before .before .entry in
+    let if1 = c .before .before .before .before .before .before .before .before .before .before .before .before .before .before .if1 in
+    let is-fresh = c .before .before .before .before .before .before .before .before .before .before .before .before .before .before .before .is-fresh in
+    let loop-test = c .before .before .before .before .before .before .before .before .before .before .before .before .before .before .before .before .loop-test in
+    let loop = c .before .before .before .before .before .before .before .before .before .before .before .before .before .before .before .before .before .loop in
+    let pre = c .before .before .before .before .before .before .before .before .before .before .before .before .before .before .before .before .before .before .before .before .before .before .before .pre in (
+      refl,
+      put2 .kept .0 ∙ (put .kept .0 ∙ loop .inv .1),
+      omega (arith, loop-test .taken),
+      count-row _ _ _ _ _ (pre .0) (loop .inv .3) (loop-test .taken) (pre .1 .0 .1) (is-fresh .ensures) (if1 .taken)
+          (entry .ensures) (entry2 .ensures) (entry3 .ensures) (put .ensures) (entry4 .ensures) (put2 .ensures),
+    )
 
 -- src/peel.rt:155:9
 add-j-2 : tie.Need-add-j-2 Inv-loop μ-loop
-add-j-2 c = omega (arith, c .before .before .loop-test .taken, c .before .before .before .before .before .before .before .before .before .pre .1 .0 .1, c .before .before .before .before .before .before .before .before .before .pre .0 .sound .most)
+add-j-2 c =
+    let loop-test = c .before .before .loop-test in
+    let pre = c .before .before .before .before .before .before .before .before .before .pre in
+    omega (arith, loop-test .taken, pre .1 .0 .1, pre .0 .sound .most)
 
 -- src/peel.rt:144:5
 loop-less-2 : tie.Need-loop-less-2 Inv-loop μ-loop
-loop-less-2 c = omega (arith, c .before .before .loop-test .taken)
+loop-less-2 c =
+    let loop-test = c .before .before .loop-test in
+    omega (arith, loop-test .taken)
 
 -- src/peel.rt:144:5
 loop-again-2 : tie.Need-loop-again-2 Inv-loop μ-loop
-loop-again-2 c = (refl, c .before .before .before .loop .inv .1, omega (arith, c .before .before .loop-test .taken), count-skip _ _ _ _ _ (c .before .before .before .before .before .before .before .before .before .pre .0) (c .before .before .before .loop .inv .3) (c .before .before .loop-test .taken) (c .before .before .before .before .before .before .before .before .before .pre .1 .0 .1) (c .before .is-fresh .ensures) (c .if1 .left))
+loop-again-2 c =
+    let is-fresh = c .before .is-fresh in
+    let loop-test = c .before .before .loop-test in
+    let loop = c .before .before .before .loop in
+    let pre = c .before .before .before .before .before .before .before .before .before .pre in (
+      refl,
+      loop .inv .1,
+      omega (arith, loop-test .taken),
+      count-skip _ _ _ _ _ (pre .0) (loop .inv .3) (loop-test .taken) (pre .1 .0 .1) (is-fresh .ensures) (c .if1 .left),
+    )
 
 -- src/peel.rt:136:1
 same-length : tie.Need-same-length Inv-loop μ-loop
-same-length c = c .before .loop .inv .1
+same-length c =
+    let loop = c .before .loop in
+    loop .inv .1
 
 -- src/peel.rt:136:1
 returns : tie.Need-returns Inv-loop μ-loop
-returns c = count-end (c .before .loop .inv .3) (c .before .loop .inv .2) (c .loop-test .left)
+returns c =
+    let loop = c .before .loop in
+    count-end (loop .inv .3) (loop .inv .2) (c .loop-test .left)
 
 pub count-neighbours-spec : {M : Type 1} → statement M
 count-neighbours-spec =
     tie.close
-    (tie.spec
-    Inv-loop
-    μ-loop
-    loop-holds
-    is-fresh-requires
-    entry-requires
-    entry-requires-2
-    entry-requires-3
-    add-put
-    put-requires
-    entry-requires-4
-    add-put-2
-    put-requires-2
-    add-j
-    loop-less
-    loop-again
-    add-j-2
-    loop-less-2
-    loop-again-2
-    same-length
-    returns)
+    (
+    tie.spec Inv-loop μ-loop loop-holds is-fresh-requires entry-requires entry-requires-2 entry-requires-3 add-put
+    put-requires entry-requires-4 add-put-2 put-requires-2 add-j loop-less loop-again add-j-2 loop-less-2
+    loop-again-2 same-length returns
+    )

@@ -18,7 +18,9 @@ abbrev μ-loop : tie.MeasureT-loop
 
 -- src/peel.rt:127:5
 loop-holds : tie.Need-loop-holds Inv-loop μ-loop
-loop-holds c = ((refl, refl, refl), c .before .before .before .before .before .before .before .pre .1)
+loop-holds c =
+    let pre = c .before .before .before .before .before .before .before .pre in
+    ((refl, refl, refl), pre .1)
 
 -- src/peel.rt:128:17
 sub-j : tie.Need-sub-j Inv-loop μ-loop
@@ -26,54 +28,83 @@ sub-j c = omega (arith, c .loop-test .taken)
 
 -- src/peel.rt:129:17
 mul-e : tie.Need-mul-e Inv-loop μ-loop
-mul-e c = omega (arith, c .loop-test .taken, fade-row _ _ _ _ _ (c .before .before .before .before .before .before .before .before .before .pre .0) (c .before .loop .inv .1) (c .loop-test .taken), c .before .before .before .before .before .before .before .before .before .pre .0 .sound .most)
+mul-e c =
+    let loop = c .before .loop in
+    let pre = c .before .before .before .before .before .before .before .before .before .pre in
+    omega (
+      arith,
+      c .loop-test .taken,
+      fade-row _ _ _ _ _ (pre .0) (loop .inv .1) (c .loop-test .taken),
+      pre .0 .sound .most,
+    )
 
 -- src/peel.rt:129:17
 shared-slice-read-e : tie.Need-shared-slice-read-e Inv-loop μ-loop
-shared-slice-read-e c = fade-row _ _ _ _ _ (c .before .before .before .before .before .before .before .before .before .before .pre .0) (c .before .before .loop .inv .1) (c .before .loop-test .taken)
+shared-slice-read-e c =
+    let loop-test = c .before .loop-test in
+    let loop = c .before .before .loop in
+    let pre = c .before .before .before .before .before .before .before .before .before .before .pre in
+    fade-row _ _ _ _ _ (pre .0) (loop .inv .1) (loop-test .taken)
 
 -- src/peel.rt:130:9
 leave-requires : tie.Need-leave-requires Inv-loop μ-loop
-leave-requires c κs = (c .before .before .before .before .before .before .before .before .before .before .before .before .before .pre .0, ((fade-row _ _ _ _ _ (c .before .before .before .before .before .before .before .before .before .before .before .before .before .pre .0) (c .before .before .before .before .before .loop .inv .1) (c .before .before .before .before .loop-test .taken), refl), fade-next _ _ _ _ _ (c .before .before .before .before .before .before .before .before .before .before .before .before .before .pre .0) (c .before .before .before .before .before .loop .inv .1) (c .before .before .before .before .loop-test .taken) refl))
+leave-requires c κs =
+    let loop-test = c .before .before .before .before .loop-test in
+    let loop = c .before .before .before .before .before .loop in
+    let pre = c .before .before .before .before .before .before .before .before .before .before .before .before .before .pre in (
+      pre .0,
+      (
+        (fade-row _ _ _ _ _ (pre .0) (loop .inv .1) (loop-test .taken), refl),
+        fade-next _ _ _ _ _ (pre .0) (loop .inv .1) (loop-test .taken) refl,
+      ),
+    )
 
 -- src/peel.rt:127:5
 loop-less : tie.Need-loop-less Inv-loop μ-loop
-loop-less c = omega (arith, c .before .before .before .before .before .before .before .before .before .before .before .loop-test .taken)
+loop-less c =
+    let loop-test = c .before .before .before .before .before .before .before .before .before .before .before .loop-test in
+    omega (arith, loop-test .taken)
 
 -- src/peel.rt:127:5
 loop-again : tie.Need-loop-again Inv-loop μ-loop
-loop-again c = ((c .before .before .before .before .before .before .leave .kept .1 .1 .1 .1 .1 .1 .1 .1 .1 .1 .1 .0 ∙ c .before .before .before .before .before .before .before .before .before .before .before .before .loop .inv .0 .0, c .before .before .before .before .before .before .leave .kept .1 .1 .1 .1 .1 .1 .1 .1 .1 .1 .1 .1 .0 ∙ c .before .before .before .before .before .before .before .before .before .before .before .before .loop .inv .0 .1, c .before .before .before .before .before .before .leave .kept .1 .1 .1 .1 .1 .1 .1 .1 .1 .1 .1 .1 .1 .0 ∙ c .before .before .before .before .before .before .before .before .before .before .before .before .loop .inv .0 .2), fade-left _ _ _ _ _ (c .before .before .before .before .before .before .before .before .before .before .before .before .before .before .before .before .before .before .before .before .pre .0) (c .before .before .before .before .before .before .before .before .before .before .before .before .loop .inv .1) (c .before .before .before .before .before .before .before .before .before .before .before .loop-test .taken) refl (c .before .before .before .before .before .before .leave .ensures))
+loop-again c =
+    let leave = c .before .before .before .before .before .before .leave in
+    let loop-test = c .before .before .before .before .before .before .before .before .before .before .before .loop-test in
+    let loop = c .before .before .before .before .before .before .before .before .before .before .before .before .loop in
+    let pre = c .before .before .before .before .before .before .before .before .before .before .before .before .before .before .before .before .before .before .before .before .pre in (
+      (leave .kept .1 .1 .1 .1 .1 .1 .1 .1 .1 .1 .1 .0 ∙ loop .inv .0 .0, leave .kept .1 .1 .1 .1 .1 .1 .1 .1 .1 .1 .1 .1 .0 ∙ loop .inv .0 .1, leave .kept .1 .1 .1 .1 .1 .1 .1 .1 .1 .1 .1 .1 .1 .0 ∙ loop .inv .0 .2),
+      fade-left _ _ _ _ _ (pre .0) (loop .inv .1) (loop-test .taken) refl (leave .ensures),
+    )
 
 -- src/peel.rt:120:1
 same-length : tie.Need-same-length Inv-loop μ-loop
-same-length c = c .before .loop .inv .0 .0
+same-length c =
+    let loop = c .before .loop in
+    loop .inv .0 .0
 
 -- src/peel.rt:120:1
 same-length-2 : tie.Need-same-length-2 Inv-loop μ-loop
-same-length-2 c = c .before .loop .inv .0 .1
+same-length-2 c =
+    let loop = c .before .loop in
+    loop .inv .0 .1
 
 -- src/peel.rt:120:1
 same-length-3 : tie.Need-same-length-3 Inv-loop μ-loop
-same-length-3 c = c .before .loop .inv .0 .2
+same-length-3 c =
+    let loop = c .before .loop in
+    loop .inv .0 .2
 
 -- src/peel.rt:120:1
 returns : tie.Need-returns Inv-loop μ-loop
-returns c = fade-end _ _ _ _ _ (c .before .before .before .before .before .before .before .before .before .pre .0) (c .before .loop .inv .1) (c .loop-test .left)
+returns c =
+    let loop = c .before .loop in
+    let pre = c .before .before .before .before .before .before .before .before .before .pre in
+    fade-end _ _ _ _ _ (pre .0) (loop .inv .1) (c .loop-test .left)
 
 pub fade-spec : {M : Type 1} → statement M
 fade-spec =
     tie.close
-    (tie.spec
-    Inv-loop
-    μ-loop
-    loop-holds
-    sub-j
-    mul-e
-    shared-slice-read-e
-    leave-requires
-    loop-less
-    loop-again
-    same-length
-    same-length-2
-    same-length-3
-    returns)
+    (
+    tie.spec Inv-loop μ-loop loop-holds sub-j mul-e shared-slice-read-e leave-requires loop-less loop-again
+    same-length same-length-2 same-length-3 returns
+    )

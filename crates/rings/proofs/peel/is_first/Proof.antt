@@ -31,7 +31,11 @@ entry-requires c κs = search needs
 -- src/peel.rt:27:1
 returns : tie.Need-returns
 unfolding _and_
-returns c = sym (ap (λ (y : Bool). y and leb (c .entry .result) (c .before .before .args .lo)) (le-leb _ _ (c .before .before .pre .3))) ∙ ap (λ (e : ℕ). leb (c .before .before .args .lo) (c .before .before .args .j) and leb e (c .before .before .args .lo)) (c .entry .ensures)
+returns c =
+    let args = c .before .before .args in
+    let pre = c .before .before .pre in
+    sym (ap (λ (y : Bool). y and leb (c .entry .result) (args .lo)) (le-leb _ _ (pre .3))) ∙ ap
+    (λ (e : ℕ). leb (args .lo) (args .j) and leb e (args .lo)) (c .entry .ensures)
 
 pub is-first-spec : {M : Type 1} → statement M
 is-first-spec = tie.close (tie.spec mul-entry add-entry add-entry-2 entry-requires returns)

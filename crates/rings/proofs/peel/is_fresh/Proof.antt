@@ -24,7 +24,9 @@ entry-requires c κs = search needs
 
 -- src/peel.rt:18:1
 returns : tie.Need-returns
-returns c = fresh-is (c .before .before .args .lo) (c .before .before .args .j) (c .entry .ensures)
+returns c =
+    let args = c .before .before .args in
+    fresh-is (args .lo) (args .j) (c .entry .ensures)
 
 pub is-fresh-spec : {M : Type 1} → statement M
 is-fresh-spec = tie.close (tie.spec mul-entry add-entry add-entry-2 entry-requires returns)

@@ -12,19 +12,29 @@ use Rattle.rings.proofs.peel.lose.Reads as lose-reads
 
 -- src/peel.rt:103:8
 is-fresh-requires : tie.Need-is-fresh-requires
-is-fresh-requires c κs = leave-place _ _ _ _ _ (c .before .before .before .before .before .before .before .pre .0) (c .before .before .before .before .before .before .before .pre .1 .0 .0) (c .before .before .before .before .before .before .before .pre .1 .0 .1) (c .before .before .before .before .before .before .before .pre .1 .1)
+is-fresh-requires c κs =
+    let pre = c .before .before .before .before .before .before .before .pre in
+    leave-place _ _ _ _ _ (pre .0) (pre .1 .0 .0) (pre .1 .0 .1) (pre .1 .1)
 
 -- src/peel.rt:104:13
 entry-requires : tie.Need-entry-requires
-entry-requires c κs = omega (arith, c .before .before .before .before .before .before .before .before .before .pre .1 .0 .0, c .before .before .before .before .before .before .before .before .before .pre .0 .sound .firsts)
+entry-requires c κs =
+    let pre = c .before .before .before .before .before .before .before .before .before .pre in
+    omega (arith, pre .1 .0 .0, pre .0 .sound .firsts)
 
 -- src/peel.rt:105:13
 entry-requires-2 : tie.Need-entry-requires-2
-entry-requires-2 c κs = omega (arith, c .before .before .before .before .before .before .before .before .before .before .pre .1 .0 .0, c .before .before .before .before .before .before .before .before .before .before .pre .0 .sound .seconds)
+entry-requires-2 c κs =
+    let pre = c .before .before .before .before .before .before .before .before .before .before .pre in
+    omega (arith, pre .1 .0 .0, pre .0 .sound .seconds)
 
 -- src/peel.rt:106:12
 entry-requires-3 : tie.Need-entry-requires-3
-entry-requires-3 c κs = leave-accounts _ _ _ _ _ (c .before .before .before .before .before .before .before .before .before .before .before .before .pre .0) (c .before .before .before .before .before .before .before .before .before .before .before .before .pre .1 .0 .0) (c .before .before .before .before .before .before .before .before .before .before .before .before .pre .1 .0 .1) (c .before .before .before .before .before .before .before .before .before .before .before .before .pre .1 .1) (c .before .before .entry .ensures) (c .before .entry2 .ensures) .0
+entry-requires-3 c κs =
+    let entry2 = c .before .entry2 in
+    let entry = c .before .before .entry in
+    let pre = c .before .before .before .before .before .before .before .before .before .before .before .before .pre in
+    leave-accounts _ _ _ _ _ (pre .0) (pre .1 .0 .0) (pre .1 .0 .1) (pre .1 .1) (entry .ensures) (entry2 .ensures) .0
 
 -- src/peel.rt:107:13
 same-length : tie.Need-same-length
@@ -32,11 +42,20 @@ same-length c = search needs
 
 -- src/peel.rt:107:13
 returns : tie.Need-returns
-returns c = leave-a-fell _ _ _ _ _ (c .before .before .before .before .before .before .before .before .before .before .before .before .before .before .pre .0) (c .before .before .before .before .before .before .before .before .before .before .before .before .before .before .pre .1 .0 .0) (c .before .before .before .before .before .before .before .before .before .before .before .before .before .before .pre .1 .0 .1) (c .before .before .before .before .before .before .before .before .before .before .before .before .before .before .pre .1 .1) (c .before .before .before .before .entry .ensures) (c .before .entry3 .ensures) (c .if2 .taken)
+returns c =
+    let entry3 = c .before .entry3 in
+    let entry = c .before .before .before .before .entry in
+    let pre = c .before .before .before .before .before .before .before .before .before .before .before .before .before .before .pre in
+    leave-a-fell _ _ _ _ _ (pre .0) (pre .1 .0 .0) (pre .1 .0 .1) (pre .1 .1) (entry .ensures) (entry3 .ensures)
+    (c .if2 .taken)
 
 -- src/peel.rt:109:12
 entry-requires-4 : tie.Need-entry-requires-4
-entry-requires-4 c κs = leave-accounts _ _ _ _ _ (c .before .before .before .before .before .before .before .before .before .before .before .before .before .before .before .pre .0) (c .before .before .before .before .before .before .before .before .before .before .before .before .before .before .before .pre .1 .0 .0) (c .before .before .before .before .before .before .before .before .before .before .before .before .before .before .before .pre .1 .0 .1) (c .before .before .before .before .before .before .before .before .before .before .before .before .before .before .before .pre .1 .1) (c .before .before .before .before .before .entry .ensures) (c .before .before .before .before .entry2 .ensures) .1
+entry-requires-4 c κs =
+    let entry2 = c .before .before .before .before .entry2 in
+    let entry = c .before .before .before .before .before .entry in
+    let pre = c .before .before .before .before .before .before .before .before .before .before .before .before .before .before .before .pre in
+    leave-accounts _ _ _ _ _ (pre .0) (pre .1 .0 .0) (pre .1 .0 .1) (pre .1 .1) (entry .ensures) (entry2 .ensures) .1
 
 -- src/peel.rt:110:13
 same-length-2 : tie.Need-same-length-2
@@ -44,19 +63,65 @@ same-length-2 c = search needs
 
 -- src/peel.rt:110:13
 returns-2 : tie.Need-returns-2
-returns-2 c = leave-b-fell _ _ _ _ _ (c .before .before .before .before .before .before .before .before .before .before .before .before .before .before .before .before .before .pre .0) (c .before .before .before .before .before .before .before .before .before .before .before .before .before .before .before .before .before .pre .1 .0 .0) (c .before .before .before .before .before .before .before .before .before .before .before .before .before .before .before .before .before .pre .1 .0 .1) (c .before .before .before .before .before .before .before .before .before .before .before .before .before .before .before .before .before .pre .1 .1) (c .before .before .before .before .before .before .entry2 .ensures) (c .before .entry4 .ensures) (c .if3 .taken)
+returns-2 c =
+    let entry4 = c .before .entry4 in
+    let entry2 = c .before .before .before .before .before .before .entry2 in
+    let pre = c .before .before .before .before .before .before .before .before .before .before .before .before .before .before .before .before .before .pre in
+    leave-b-fell _ _ _ _ _ (pre .0) (pre .1 .0 .0) (pre .1 .0 .1) (pre .1 .1) (entry2 .ensures) (entry4 .ensures)
+    (c .if3 .taken)
 
 -- src/peel.rt:112:13
 lose-requires : tie.Need-lose-requires
-lose-requires c κs = leave-room-a _ _ _ _ _ (c .before .before .before .before .before .before .before .before .before .before .before .before .before .before .before .before .before .before .before .before .pre .0) (c .before .before .before .before .before .before .before .before .before .before .before .before .before .before .before .before .before .before .before .before .pre .1 .0 .0) (c .before .before .before .before .before .before .before .before .before .before .before .before .before .before .before .before .before .before .before .before .pre .1 .0 .1) (c .before .before .before .before .before .before .before .before .before .before .before .before .before .before .before .before .before .before .before .before .pre .1 .1) (c .before .before .before .before .before .before .before .before .before .before .before .before .is-fresh .ensures) (c .before .before .before .before .before .before .before .before .before .before .before .if1 .taken) (c .before .before .before .before .before .before .before .before .before .before .entry .ensures) (c .before .before .before .before .before .before .before .before .before .entry2 .ensures) (c .before .before .before .before .before .before .before .entry3 .ensures) (c .before .before .before .before .entry4 .ensures) (c .before .before .before .before .before .before .if2 .left) (c .before .before .before .if3 .left)
+lose-requires c κs =
+    let if3 = c .before .before .before .if3 in
+    let entry4 = c .before .before .before .before .entry4 in
+    let if2 = c .before .before .before .before .before .before .if2 in
+    let entry3 = c .before .before .before .before .before .before .before .entry3 in
+    let entry2 = c .before .before .before .before .before .before .before .before .before .entry2 in
+    let entry = c .before .before .before .before .before .before .before .before .before .before .entry in
+    let if1 = c .before .before .before .before .before .before .before .before .before .before .before .if1 in
+    let is-fresh = c .before .before .before .before .before .before .before .before .before .before .before .before .is-fresh in
+    let pre = c .before .before .before .before .before .before .before .before .before .before .before .before .before .before .before .before .before .before .before .before .pre in
+    leave-room-a _ _ _ _ _ (pre .0) (pre .1 .0 .0) (pre .1 .0 .1) (pre .1 .1) (is-fresh .ensures) (if1 .taken)
+    (entry .ensures) (entry2 .ensures) (entry3 .ensures) (entry4 .ensures) (if2 .left) (if3 .left)
 
 -- src/peel.rt:113:13
 lose-requires-2 : tie.Need-lose-requires-2
-lose-requires-2 c κs = leave-room-b _ _ _ _ _ (c .before .before .before .before .before .before .before .before .before .before .before .before .before .before .before .before .before .before .before .before .before .before .before .before .before .before .before .before .before .before .pre .0) (c .before .before .before .before .before .before .before .before .before .before .before .before .before .before .before .before .before .before .before .before .before .before .before .before .before .before .before .before .before .before .pre .1 .0 .0) (c .before .before .before .before .before .before .before .before .before .before .before .before .before .before .before .before .before .before .before .before .before .before .before .before .before .before .before .before .before .before .pre .1 .0 .1) (c .before .before .before .before .before .before .before .before .before .before .before .before .before .before .before .before .before .before .before .before .before .before .before .before .before .before .before .before .before .before .pre .1 .1) (c .before .before .before .before .before .before .before .before .before .before .before .before .before .before .before .before .before .before .before .before .before .before .is-fresh .ensures) (c .before .before .before .before .before .before .before .before .before .before .before .before .before .before .before .before .before .before .before .before .before .if1 .taken) (c .before .before .before .before .before .before .before .before .before .before .before .before .before .before .before .before .before .before .before .before .entry .ensures) (c .before .before .before .before .before .before .before .before .before .before .before .before .before .before .before .before .before .before .before .entry2 .ensures) (c .before .before .before .before .before .before .before .before .before .before .before .before .before .before .before .before .before .entry3 .ensures) (c .before .before .before .before .before .before .before .before .before .before .before .before .before .before .entry4 .ensures) (c .before .before .before .before .before .before .before .before .before .before .before .before .before .before .before .before .if2 .left) (c .before .before .before .before .before .before .before .before .before .before .before .before .before .if3 .left) (c .before .before .before .before .before .before .before .before .before .lose .kept .1 .1 .1 .1 .0) (c .before .before .before .before .before .before .before .before .before .lose .kept .1 .1 .1 .1 .1 .0) (c .before .before .before .before .before .before .before .before .before .lose .kept .1 .1 .1 .1 .1 .1 .0) (c .before .before .before .before .before .before .before .before .before .lose .ensures)
+lose-requires-2 c κs =
+    let lose = c .before .before .before .before .before .before .before .before .before .lose in
+    let if3 = c .before .before .before .before .before .before .before .before .before .before .before .before .before .if3 in
+    let entry4 = c .before .before .before .before .before .before .before .before .before .before .before .before .before .before .entry4 in
+    let if2 = c .before .before .before .before .before .before .before .before .before .before .before .before .before .before .before .before .if2 in
+    let entry3 = c .before .before .before .before .before .before .before .before .before .before .before .before .before .before .before .before .before .entry3 in
+    let entry2 = c .before .before .before .before .before .before .before .before .before .before .before .before .before .before .before .before .before .before .before .entry2 in
+    let entry = c .before .before .before .before .before .before .before .before .before .before .before .before .before .before .before .before .before .before .before .before .entry in
+    let if1 = c .before .before .before .before .before .before .before .before .before .before .before .before .before .before .before .before .before .before .before .before .before .if1 in
+    let is-fresh = c .before .before .before .before .before .before .before .before .before .before .before .before .before .before .before .before .before .before .before .before .before .before .is-fresh in
+    let pre = c .before .before .before .before .before .before .before .before .before .before .before .before .before .before .before .before .before .before .before .before .before .before .before .before .before .before .before .before .before .before .pre in
+    leave-room-b _ _ _ _ _ (pre .0) (pre .1 .0 .0) (pre .1 .0 .1) (pre .1 .1) (is-fresh .ensures) (if1 .taken)
+    (entry .ensures) (entry2 .ensures) (entry3 .ensures) (entry4 .ensures) (if2 .left) (if3 .left)
+    (lose .kept .1 .1 .1 .1 .0) (lose .kept .1 .1 .1 .1 .1 .0) (lose .kept .1 .1 .1 .1 .1 .1 .0) (lose .ensures)
 
 -- src/peel.rt:114:9
 drain-requires : tie.Need-drain-requires
-drain-requires c κs = (c .before .before .before .before .before .before .before .before .before .before .before .before .before .before .before .before .before .before .before .before .before .before .before .before .before .before .before .before .before .before .before .before .before .before .before .before .before .before .before .before .pre .0, leave-now _ _ _ _ _ (c .before .before .before .before .before .before .before .before .before .before .before .before .before .before .before .before .before .before .before .before .before .before .before .before .before .before .before .before .before .before .before .before .before .before .before .before .before .before .before .before .pre .0) (c .before .before .before .before .before .before .before .before .before .before .before .before .before .before .before .before .before .before .before .before .before .before .before .before .before .before .before .before .before .before .before .before .before .before .before .before .before .before .before .before .pre .1 .0 .0) (c .before .before .before .before .before .before .before .before .before .before .before .before .before .before .before .before .before .before .before .before .before .before .before .before .before .before .before .before .before .before .before .before .before .before .before .before .before .before .before .before .pre .1 .0 .1) (c .before .before .before .before .before .before .before .before .before .before .before .before .before .before .before .before .before .before .before .before .before .before .before .before .before .before .before .before .before .before .before .before .before .before .before .before .before .before .before .before .pre .1 .1) (c .before .before .before .before .before .before .before .before .before .before .before .before .before .before .before .before .before .before .before .before .before .before .before .before .before .before .before .before .before .before .before .before .is-fresh .ensures) (c .before .before .before .before .before .before .before .before .before .before .before .before .before .before .before .before .before .before .before .before .before .before .before .before .before .before .before .before .before .before .before .if1 .taken) (c .before .before .before .before .before .before .before .before .before .before .before .before .before .before .before .before .before .before .before .before .before .before .before .before .before .before .before .before .before .before .entry .ensures) (c .before .before .before .before .before .before .before .before .before .before .before .before .before .before .before .before .before .before .before .before .before .before .before .before .before .before .before .before .before .entry2 .ensures) (c .before .before .before .before .before .before .before .before .before .before .before .before .before .before .before .before .before .before .before .before .before .before .before .before .before .before .before .entry3 .ensures) (c .before .before .before .before .before .before .before .before .before .before .before .before .before .before .before .before .before .before .before .before .before .before .before .before .entry4 .ensures) (c .before .before .before .before .before .before .before .before .before .before .before .before .before .before .before .before .before .before .before .before .before .before .before .before .before .before .if2 .left) (c .before .before .before .before .before .before .before .before .before .before .before .before .before .before .before .before .before .before .before .before .before .before .before .if3 .left) (c .before .before .before .before .before .before .before .before .before .before .before .before .before .before .before .before .before .before .before .lose .kept .1 .1 .1 .1 .0) (c .before .before .before .before .before .before .before .before .before .before .before .before .before .before .before .before .before .before .before .lose .kept .1 .1 .1 .1 .1 .0) (c .before .before .before .before .before .before .before .before .before .before .before .before .before .before .before .before .before .before .before .lose .kept .1 .1 .1 .1 .1 .1 .0) (c .before .before .before .before .before .before .before .before .before .before .before .before .before .before .before .before .before .before .before .lose .ensures) (c .before .before .before .before .before .before .before .before .before .lose2 .ensures))
+drain-requires c κs =
+    let lose2 = c .before .before .before .before .before .before .before .before .before .lose2 in
+    let lose = c .before .before .before .before .before .before .before .before .before .before .before .before .before .before .before .before .before .before .before .lose in
+    let if3 = c .before .before .before .before .before .before .before .before .before .before .before .before .before .before .before .before .before .before .before .before .before .before .before .if3 in
+    let entry4 = c .before .before .before .before .before .before .before .before .before .before .before .before .before .before .before .before .before .before .before .before .before .before .before .before .entry4 in
+    let if2 = c .before .before .before .before .before .before .before .before .before .before .before .before .before .before .before .before .before .before .before .before .before .before .before .before .before .before .if2 in
+    let entry3 = c .before .before .before .before .before .before .before .before .before .before .before .before .before .before .before .before .before .before .before .before .before .before .before .before .before .before .before .entry3 in
+    let entry2 = c .before .before .before .before .before .before .before .before .before .before .before .before .before .before .before .before .before .before .before .before .before .before .before .before .before .before .before .before .before .entry2 in
+    let entry = c .before .before .before .before .before .before .before .before .before .before .before .before .before .before .before .before .before .before .before .before .before .before .before .before .before .before .before .before .before .before .entry in
+    let if1 = c .before .before .before .before .before .before .before .before .before .before .before .before .before .before .before .before .before .before .before .before .before .before .before .before .before .before .before .before .before .before .before .if1 in
+    let is-fresh = c .before .before .before .before .before .before .before .before .before .before .before .before .before .before .before .before .before .before .before .before .before .before .before .before .before .before .before .before .before .before .before .before .is-fresh in
+    let pre = c .before .before .before .before .before .before .before .before .before .before .before .before .before .before .before .before .before .before .before .before .before .before .before .before .before .before .before .before .before .before .before .before .before .before .before .before .before .before .before .before .pre in (
+      pre .0,
+      leave-now _ _ _ _ _ (pre .0) (pre .1 .0 .0) (pre .1 .0 .1) (pre .1 .1) (is-fresh .ensures) (if1 .taken)
+          (entry .ensures) (entry2 .ensures) (entry3 .ensures) (entry4 .ensures) (if2 .left) (if3 .left)
+          (lose .kept .1 .1 .1 .1 .0) (lose .kept .1 .1 .1 .1 .1 .0) (lose .kept .1 .1 .1 .1 .1 .1 .0) (lose .ensures)
+          (lose2 .ensures),
+    )
 
 -- src/peel.rt:114:9
 same-length-3 : tie.Need-same-length-3
@@ -76,26 +141,16 @@ returns-3 c = search needs
 
 -- src/peel.rt:96:1
 returns-4 : tie.Need-returns-4
-returns-4 c = leave-old _ _ _ _ _ (c .before .before .before .before .before .before .before .before .before .pre .0) (c .before .before .before .before .before .before .before .before .before .pre .1 .0 .0) (c .before .before .before .before .before .before .before .before .before .pre .1 .0 .1) (c .before .before .before .before .before .before .before .before .before .pre .1 .1) (c .before .is-fresh .ensures) (c .if1 .left)
+returns-4 c =
+    let is-fresh = c .before .is-fresh in
+    let pre = c .before .before .before .before .before .before .before .before .before .pre in
+    leave-old _ _ _ _ _ (pre .0) (pre .1 .0 .0) (pre .1 .0 .1) (pre .1 .1) (is-fresh .ensures) (c .if1 .left)
 
 pub leave-spec : {M : Type 1} → statement M
 leave-spec =
     tie.close
-    (tie.spec
-    is-fresh-requires
-    entry-requires
-    entry-requires-2
-    entry-requires-3
-    same-length
-    returns
-    entry-requires-4
-    same-length-2
-    returns-2
-    lose-requires
-    lose-requires-2
-    drain-requires
-    same-length-3
-    same-length-4
-    same-length-5
-    returns-3
-    returns-4)
+    (
+    tie.spec is-fresh-requires entry-requires entry-requires-2 entry-requires-3 same-length returns entry-requires-4
+    same-length-2 returns-2 lose-requires lose-requires-2 drain-requires same-length-3 same-length-4 same-length-5
+    returns-3 returns-4
+    )

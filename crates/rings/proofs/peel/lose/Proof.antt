@@ -49,15 +49,21 @@ cast-queue c = search needs
 
 -- src/peel.rt:55:5
 mul-queue : tie.Need-mul-queue
-mul-queue c = omega (arith, c .before .before .pre .1 .1 (c .if1 .left))
+mul-queue c =
+    let pre = c .before .before .pre in
+    omega (arith, pre .1 .1 (c .if1 .left))
 
 -- src/peel.rt:55:5
 slice-write-queue : tie.Need-slice-write-queue
-slice-write-queue c = omega (arith, c .before .before .pre .1 .1 (c .if1 .left), c .before .before .pre .0 .3)
+slice-write-queue c =
+    let pre = c .before .before .pre in
+    omega (arith, pre .1 .1 (c .if1 .left), pre .0 .3)
 
 -- src/peel.rt:56:5
 add-result : tie.Need-add-result
-add-result c = omega (arith, c .before .before .pre .1 .1 (c .if1 .left))
+add-result c =
+    let pre = c .before .before .pre in
+    omega (arith, pre .1 .1 (c .if1 .left))
 
 -- src/peel.rt:36:1
 same-length-2 : tie.Need-same-length-2
@@ -78,21 +84,7 @@ returns-2 c = Lost.falls (c .if1 .left) refl refl refl refl
 pub lose-spec : {M : Type 1} → statement M
 lose-spec =
     tie.close
-    (tie.spec
-    mul-n
-    slice-read-n
-    sub-left
-    mul-left
-    slice-write-left
-    same-length
-    returns
-    mul-times
-    slice-write-times
-    cast-queue
-    mul-queue
-    slice-write-queue
-    add-result
-    same-length-2
-    same-length-3
-    same-length-4
-    returns-2)
+    (
+    tie.spec mul-n slice-read-n sub-left mul-left slice-write-left same-length returns mul-times slice-write-times
+    cast-queue mul-queue slice-write-queue add-result same-length-2 same-length-3 same-length-4 returns-2
+    )

@@ -9,11 +9,16 @@ use Rattle.rings.proofs.peel.fade.Reads as fade-reads
 
 -- src/peel.rt:342:9
 core-requires : tie.Need-core-requires
-core-requires c κs = c .before .before .before .before .before .before .before .before .before .before .pre
+core-requires c κs =
+    let pre = c .before .before .before .before .before .before .before .before .before .before .pre in
+    pre
 
 -- src/peel.rt:343:5
 fade-requires : tie.Need-fade-requires
-fade-requires c κs = (c .before .before .before .before .before .before .before .before .before .before .before .before .before .before .before .before .before .before .before .before .pre .0, fade-start _ _ _ _ _ (c .before .before .before .before .before .before .before .before .before .before .before .before .before .before .before .before .before .before .before .before .pre .0) (c .before .before .before .before .before .before .before .before .before .before .before .before .before .before .before .before .before .before .before .before .pre .1 .0) (c .before .before .before .before .before .before .before .before .before .core .ensures))
+fade-requires c κs =
+    let core = c .before .before .before .before .before .before .before .before .before .core in
+    let pre = c .before .before .before .before .before .before .before .before .before .before .before .before .before .before .before .before .before .before .before .before .pre in
+    (pre .0, fade-start _ _ _ _ _ (pre .0) (pre .1 .0) (core .ensures))
 
 -- src/peel.rt:336:1
 same-length : tie.Need-same-length
@@ -29,7 +34,9 @@ same-length-3 c = search needs
 
 -- src/peel.rt:336:1
 returns : tie.Need-returns
-returns c = c .before .before .before .before .before .before .fade .ensures
+returns c =
+    let fade = c .before .before .before .before .before .before .fade in
+    fade .ensures
 
 pub peel-spec : {M : Type 1} → statement M
 peel-spec =

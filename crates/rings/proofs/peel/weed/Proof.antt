@@ -19,7 +19,9 @@ abbrev μ-loop : tie.MeasureT-loop
 
 -- src/peel.rt:167:5
 loop-holds : tie.Need-loop-holds Inv-loop μ-loop
-loop-holds c = ((refl, refl), omega arith, weed-start _ _ _ _ _ (c .before .before .before .before .before .before .before .pre .0) (c .before .before .before .before .before .before .before .pre .1))
+loop-holds c =
+    let pre = c .before .before .before .before .before .before .before .pre in
+    ((refl, refl), omega arith, weed-start _ _ _ _ _ (pre .0) (pre .1))
 
 -- src/peel.rt:168:12
 mul-if1 : tie.Need-mul-if1 Inv-loop μ-loop
@@ -27,74 +29,111 @@ mul-if1 c = omega (arith, c .loop-test .taken)
 
 -- src/peel.rt:168:12
 slice-read-if1 : tie.Need-slice-read-if1 Inv-loop μ-loop
-slice-read-if1 c = omega (arith, c .before .loop-test .taken, c .before .before .before .before .before .before .before .before .before .before .pre .1 .len-d)
+slice-read-if1 c =
+    let loop-test = c .before .loop-test in
+    let pre = c .before .before .before .before .before .before .before .before .before .before .pre in
+    omega (arith, loop-test .taken, pre .1 .len-d)
 
 -- src/peel.rt:169:13
 put-requires : tie.Need-put-requires Inv-loop μ-loop
-put-requires c κs = (weed-room _ _ _ _ _ (c .before .before .before .before .before .before .before .before .before .before .before .before .pre .0) (c .before .before .before .before .loop .inv .2) (c .before .before .before .loop-test .taken) .1, omega arith)
+put-requires c κs =
+    let loop-test = c .before .before .before .loop-test in
+    let loop = c .before .before .before .before .loop in
+    let pre = c .before .before .before .before .before .before .before .before .before .before .before .before .pre in
+    (weed-room _ _ _ _ _ (pre .0) (loop .inv .2) (loop-test .taken) .1, omega arith)
 
 -- src/peel.rt:170:13
 put-requires-2 : tie.Need-put-requires-2 Inv-loop μ-loop
-put-requires-2 c κs = (weed-room _ _ _ _ _ (c .before .before .before .before .before .before .before .before .before .before .before .before .before .before .before .before .pre .0) (c .before .before .before .before .before .before .before .before .loop .inv .2) (c .before .before .before .before .before .before .before .loop-test .taken) .0, omega (arith, c .before .before .before .before .before .before .before .loop-test .taken))
+put-requires-2 c κs =
+    let loop-test = c .before .before .before .before .before .before .before .loop-test in
+    let loop = c .before .before .before .before .before .before .before .before .loop in
+    let pre = c .before .before .before .before .before .before .before .before .before .before .before .before .before .before .before .before .pre in
+    (weed-room _ _ _ _ _ (pre .0) (loop .inv .2) (loop-test .taken) .0, omega (arith, loop-test .taken))
 
 -- src/peel.rt:171:13
 add-last : tie.Need-add-last Inv-loop μ-loop
-add-last c = omega (arith, weed-room _ _ _ _ _ (c .before .before .before .before .before .before .before .before .before .before .before .before .before .before .before .before .before .before .before .pre .0) (c .before .before .before .before .before .before .before .before .before .before .before .loop .inv .2) (c .before .before .before .before .before .before .before .before .before .before .loop-test .taken), c .before .before .before .before .before .before .before .before .before .before .before .loop .inv .2 .state .len-w)
+add-last c =
+    omega (
+      arith,
+      weed-room _ _ _ _ _
+          (c .before .before .before .before .before .before .before .before .before .before .before .before .before .before .before .before .before .before .before .pre .0)
+          (c .before .before .before .before .before .before .before .before .before .before .before .loop .inv .2)
+          (c .before .before .before .before .before .before .before .before .before .before .loop-test .taken),
+      c .before .before .before .before .before .before .before .before .before .before .before .loop .inv .2 .state .len-w,
+    )
 
 -- src/peel.rt:172:13
 add-u : tie.Need-add-u Inv-loop μ-loop
-add-u c = omega (arith, c .before .before .before .before .before .before .before .before .before .before .loop-test .taken)
+add-u c =
+    let loop-test = c .before .before .before .before .before .before .before .before .before .before .loop-test in
+    omega (arith, loop-test .taken)
 
 -- src/peel.rt:167:5
 loop-less : tie.Need-loop-less Inv-loop μ-loop
-loop-less c = omega (arith, c .before .before .before .before .before .before .before .before .before .before .loop-test .taken)
+loop-less c =
+    let loop-test = c .before .before .before .before .before .before .before .before .before .before .loop-test in
+    omega (arith, loop-test .taken)
 
 -- src/peel.rt:167:5
 loop-again : tie.Need-loop-again Inv-loop μ-loop
-loop-again c = ((c .before .before .before .before .before .before .put .kept .0 ∙ c .before .before .before .before .before .before .before .before .before .before .before .loop .inv .0 .0, c .before .before .put2 .kept .0 ∙ c .before .before .before .before .before .before .before .before .before .before .before .loop .inv .0 .1), omega (arith, c .before .before .before .before .before .before .before .before .before .before .loop-test .taken), weed-fall _ _ _ _ _ (c .before .before .before .before .before .before .before .before .before .before .before .before .before .before .before .before .before .before .before .pre .0) (c .before .before .before .before .before .before .before .before .before .before .before .loop .inv .2) (c .before .before .before .before .before .before .before .before .before .before .loop-test .taken) (c .before .before .before .before .before .before .before .before .if1 .taken) (c .before .before .before .before .before .before .put .ensures) (c .before .before .put2 .ensures))
+loop-again c =
+    let put2 = c .before .before .put2 in
+    let put = c .before .before .before .before .before .before .put in
+    let if1 = c .before .before .before .before .before .before .before .before .if1 in
+    let loop-test = c .before .before .before .before .before .before .before .before .before .before .loop-test in
+    let loop = c .before .before .before .before .before .before .before .before .before .before .before .loop in
+    let pre = c .before .before .before .before .before .before .before .before .before .before .before .before .before .before .before .before .before .before .before .pre in (
+      (put .kept .0 ∙ loop .inv .0 .0, put2 .kept .0 ∙ loop .inv .0 .1),
+      omega (arith, loop-test .taken),
+      weed-fall _ _ _ _ _ (pre .0) (loop .inv .2) (loop-test .taken) (if1 .taken) (put .ensures) (put2 .ensures),
+    )
 
 -- src/peel.rt:175:9
 add-u-2 : tie.Need-add-u-2 Inv-loop μ-loop
-add-u-2 c = omega (arith, c .before .before .loop-test .taken)
+add-u-2 c =
+    let loop-test = c .before .before .loop-test in
+    omega (arith, loop-test .taken)
 
 -- src/peel.rt:167:5
 loop-less-2 : tie.Need-loop-less-2 Inv-loop μ-loop
-loop-less-2 c = omega (arith, c .before .before .loop-test .taken)
+loop-less-2 c =
+    let loop-test = c .before .before .loop-test in
+    omega (arith, loop-test .taken)
 
 -- src/peel.rt:167:5
 loop-again-2 : tie.Need-loop-again-2 Inv-loop μ-loop
-loop-again-2 c = (c .before .before .before .loop .inv .0, omega (arith, c .before .before .loop-test .taken), weed-keep _ _ _ _ _ (c .before .before .before .before .before .before .before .before .before .before .before .pre .0) (c .before .before .before .loop .inv .2) (c .before .before .loop-test .taken) (c .if1 .left))
+loop-again-2 c =
+    let loop-test = c .before .before .loop-test in
+    let loop = c .before .before .before .loop in
+    let pre = c .before .before .before .before .before .before .before .before .before .before .before .pre in (
+      loop .inv .0,
+      omega (arith, loop-test .taken),
+      weed-keep _ _ _ _ _ (pre .0) (loop .inv .2) (loop-test .taken) (c .if1 .left),
+    )
 
 -- src/peel.rt:160:1
 same-length : tie.Need-same-length Inv-loop μ-loop
-same-length c = c .before .loop .inv .0 .0
+same-length c =
+    let loop = c .before .loop in
+    loop .inv .0 .0
 
 -- src/peel.rt:160:1
 same-length-2 : tie.Need-same-length-2 Inv-loop μ-loop
-same-length-2 c = c .before .loop .inv .0 .1
+same-length-2 c =
+    let loop = c .before .loop in
+    loop .inv .0 .1
 
 -- src/peel.rt:160:1
 returns : tie.Need-returns Inv-loop μ-loop
-returns c = weed-end _ _ _ _ _ (c .before .before .before .before .before .before .before .before .before .pre .0) (c .before .loop .inv .2) (c .before .loop .inv .1) (c .loop-test .left)
+returns c =
+    let loop = c .before .loop in
+    let pre = c .before .before .before .before .before .before .before .before .before .pre in
+    weed-end _ _ _ _ _ (pre .0) (loop .inv .2) (loop .inv .1) (c .loop-test .left)
 
 pub weed-spec : {M : Type 1} → statement M
 weed-spec =
     tie.close
-    (tie.spec
-    Inv-loop
-    μ-loop
-    loop-holds
-    mul-if1
-    slice-read-if1
-    put-requires
-    put-requires-2
-    add-last
-    add-u
-    loop-less
-    loop-again
-    add-u-2
-    loop-less-2
-    loop-again-2
-    same-length
-    same-length-2
-    returns)
+    (
+    tie.spec Inv-loop μ-loop loop-holds mul-if1 slice-read-if1 put-requires put-requires-2 add-last add-u loop-less
+    loop-again add-u-2 loop-less-2 loop-again-2 same-length same-length-2 returns
+    )

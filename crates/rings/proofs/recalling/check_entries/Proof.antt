@@ -30,11 +30,17 @@ entry-requires c κs = omega (arith, c .loop-test .taken)
 
 -- src/recalling.rt:109:13
 entry-requires-2 : tie.Need-entry-requires-2 Inv-loop μ-loop
-entry-requires-2 c κs = omega (arith, c .before .loop-test .taken, c .before .before .before .before .before .before .before .pre .0)
+entry-requires-2 c κs =
+    let loop-test = c .before .loop-test in
+    let pre = c .before .before .before .before .before .before .before .pre in
+    omega (arith, loop-test .taken, pre .0)
 
 -- src/recalling.rt:110:13
 entry-requires-3 : tie.Need-entry-requires-3 Inv-loop μ-loop
-entry-requires-3 c κs = omega (arith, c .before .before .loop-test .taken, c .before .before .before .before .before .before .before .before .pre .1)
+entry-requires-3 c κs =
+    let loop-test = c .before .before .loop-test in
+    let pre = c .before .before .before .before .before .before .before .before .pre in
+    omega (arith, loop-test .taken, pre .1)
 
 -- src/recalling.rt:111:13
 day-at-requires : tie.Need-day-at-requires Inv-loop μ-loop
@@ -50,7 +56,17 @@ enum-known-found c = search needs
 
 -- src/recalling.rt:115:17
 returns : tie.Need-returns Inv-loop μ-loop
-returns c = judge-refused _ _ _ _ (c .before .before .before .before .before .before .before .before .before .loop .inv) (c .before .before .before .before .before .before .before .before .loop-test .taken) (c .before .before .before .before .before .before .before .entry .ensures) (c .before .before .before .before .before .before .entry2 .ensures) (c .before .before .before .before .before .entry3 .ensures) (c .before .before .before .before .day-at .ensures) (sym (c .before .found .given .1) ∙ c .before .before .before .check-entry .ensures)
+returns c =
+    let found = c .before .found in
+    let check-entry = c .before .before .before .check-entry in
+    let day-at = c .before .before .before .before .day-at in
+    let entry3 = c .before .before .before .before .before .entry3 in
+    let entry2 = c .before .before .before .before .before .before .entry2 in
+    let entry = c .before .before .before .before .before .before .before .entry in
+    let loop-test = c .before .before .before .before .before .before .before .before .loop-test in
+    let loop = c .before .before .before .before .before .before .before .before .before .loop in
+    judge-refused _ _ _ _ (loop .inv) (loop-test .taken) (entry .ensures) (entry2 .ensures) (entry3 .ensures)
+    (day-at .ensures) (sym (found .given .1) ∙ check-entry .ensures)
 
 -- src/recalling.rt:118:17
 enum-told : tie.Need-enum-told Inv-loop μ-loop
@@ -58,36 +74,39 @@ enum-told c = search needs
 
 -- src/recalling.rt:121:17
 add-j : tie.Need-add-j Inv-loop μ-loop
-add-j c = omega (arith, c .before .before .before .before .before .before .before .loop-test .taken)
+add-j c =
+    let loop-test = c .before .before .before .before .before .before .before .loop-test in
+    omega (arith, loop-test .taken)
 
 -- src/recalling.rt:107:5
 loop-less : tie.Need-loop-less Inv-loop μ-loop
-loop-less c = omega (arith, c .before .before .before .before .before .before .before .loop-test .taken)
+loop-less c =
+    let loop-test = c .before .before .before .before .before .before .before .loop-test in
+    omega (arith, loop-test .taken)
 
 -- src/recalling.rt:107:5
 loop-again : tie.Need-loop-again Inv-loop μ-loop
-loop-again c = judge-next _ _ _ _ (c .before .before .before .before .before .before .before .before .loop .inv) (c .before .before .before .before .before .before .before .loop-test .taken) (c .before .before .before .before .before .before .entry .ensures) (c .before .before .before .before .before .entry2 .ensures) (c .before .before .before .before .entry3 .ensures) (c .before .before .before .day-at .ensures) (sym (c .enum-told .given .1) ∙ c .before .before .check-entry .ensures)
+loop-again c =
+    let check-entry = c .before .before .check-entry in
+    let day-at = c .before .before .before .day-at in
+    let entry3 = c .before .before .before .before .entry3 in
+    let entry2 = c .before .before .before .before .before .entry2 in
+    let entry = c .before .before .before .before .before .before .entry in
+    let loop-test = c .before .before .before .before .before .before .before .loop-test in
+    let loop = c .before .before .before .before .before .before .before .before .loop in
+    judge-next _ _ _ _ (loop .inv) (loop-test .taken) (entry .ensures) (entry2 .ensures) (entry3 .ensures)
+    (day-at .ensures) (sym (c .enum-told .given .1) ∙ check-entry .ensures)
 
 -- src/recalling.rt:99:1
 returns-2 : tie.Need-returns-2 Inv-loop μ-loop
-returns-2 c = judge-end _ _ _ _ (c .before .loop .inv) (c .loop-test .left)
+returns-2 c =
+    let loop = c .before .loop in
+    judge-end _ _ _ _ (loop .inv) (c .loop-test .left)
 
 pub check-entries-spec : {M : Type 1} → statement M
 check-entries-spec =
     tie.close
-    (tie.spec
-    Inv-loop
-    μ-loop
-    loop-holds
-    entry-requires
-    entry-requires-2
-    entry-requires-3
-    day-at-requires
-    check-entry-requires
-    enum-known-found
-    returns
-    enum-told
-    add-j
-    loop-less
-    loop-again
-    returns-2)
+    (
+    tie.spec Inv-loop μ-loop loop-holds entry-requires entry-requires-2 entry-requires-3 day-at-requires
+    check-entry-requires enum-known-found returns enum-told add-j loop-less loop-again returns-2
+    )

@@ -16,17 +16,25 @@ returns c = simp (ne-eqb _ _ (c .if1 .taken))
 -- src/recalling.rt:27:9
 returns-2 : tie.Need-returns-2
 unfolding _when_ _and_ no
-returns-2 c = simp (eq-eqb _ _ (c .before .if1 .left), ne-eqb _ _ (c .if2 .taken))
+returns-2 c =
+    let if1 = c .before .if1 in
+    simp (eq-eqb _ _ (if1 .left), ne-eqb _ _ (c .if2 .taken))
 
 -- src/recalling.rt:30:9
 returns-3 : tie.Need-returns-3
 unfolding _when_ _and_ no
-returns-3 c = simp (eq-eqb _ _ (c .before .before .if1 .left), eq-eqb _ _ (c .before .if2 .left), ne-eqb _ _ (c .if3 .taken))
+returns-3 c =
+    let if2 = c .before .if2 in
+    let if1 = c .before .before .if1 in
+    simp (eq-eqb _ _ (if1 .left), eq-eqb _ _ (if2 .left), ne-eqb _ _ (c .if3 .taken))
 
 -- src/recalling.rt:20:1
 returns-4 : tie.Need-returns-4
 unfolding _when_ _and_ no
-returns-4 c = simp (eq-eqb _ _ (c .before .before .if1 .left), eq-eqb _ _ (c .before .if2 .left), eq-eqb _ _ (c .if3 .left))
+returns-4 c =
+    let if2 = c .before .if2 in
+    let if1 = c .before .before .if1 in
+    simp (eq-eqb _ _ (if1 .left), eq-eqb _ _ (if2 .left), eq-eqb _ _ (c .if3 .left))
 
 pub check-lengths-spec : {M : Type 1} → statement M
 check-lengths-spec = tie.close (tie.spec returns returns-2 returns-3 returns-4)

@@ -22,7 +22,10 @@ enum-known-r c = search needs
 
 -- src/recalling.rt:134:13
 returns : tie.Need-returns
-returns c = answer-table _ _ _ _ _ _ _ _ _ (sym (c .before .r .given .1) ∙ c .before .before .before .check-table .ensures)
+returns c =
+    let r = c .before .r in
+    let check-table = c .before .before .before .check-table in
+    answer-table _ _ _ _ _ _ _ _ _ (sym (r .given .1) ∙ check-table .ensures)
 
 enum-told : tie.Need-enum-told
 enum-told c = search needs
@@ -37,14 +40,24 @@ enum-known-r-2 c = search needs
 
 -- src/recalling.rt:140:13
 returns-2 : tie.Need-returns-2
-returns-2 c = answer-lengths _ _ _ _ _ _ _ _ _ (sym (c .before .before .before .before .enum-told .given .1) ∙ c .before .before .before .before .before .before .check-table .ensures) (sym (c .before .r2 .given .1) ∙ c .before .before .before .check-lengths .ensures)
+returns-2 c =
+    let r2 = c .before .r2 in
+    let check-lengths = c .before .before .before .check-lengths in
+    let enum-told = c .before .before .before .before .enum-told in
+    let check-table = c .before .before .before .before .before .before .check-table in
+    answer-lengths _ _ _ _ _ _ _ _ _ (sym (enum-told .given .1) ∙ check-table .ensures)
+    (sym (r2 .given .1) ∙ check-lengths .ensures)
 
 enum-told-2 : tie.Need-enum-told-2
 enum-told-2 c = search needs
 
 -- src/recalling.rt:144:11
 check-entries-requires : tie.Need-check-entries-requires
-check-entries-requires c κs = let x = lengths-same (c .before .before .before .before .before .before .before .before .before .before .before .before .args .days .now) (c .before .before .before .before .before .before .before .before .before .before .before .before .args .rows .now) (c .before .before .before .before .before .before .before .before .before .before .before .before .args .starts .now) (c .before .before .before .before .before .before .before .before .before .before .before .before .args .ends .now) (c .before .before .before .before .before .before .before .before .before .before .before .before .args .places) (sym (c .enum-told2 .given .1) ∙ c .before .before .check-lengths .ensures) in (x .0, x .1)
+check-entries-requires c κs =
+    let check-lengths = c .before .before .check-lengths in
+    let args = c .before .before .before .before .before .before .before .before .before .before .before .before .args in
+    let x = lengths-same (args .days .now) (args .rows .now) (args .starts .now) (args .ends .now) (args .places)
+    (sym (c .enum-told2 .given .1) ∙ check-lengths .ensures) in (x .0, x .1)
 
 -- src/recalling.rt:145:26
 enum-known-r-3 : tie.Need-enum-known-r-3
@@ -52,7 +65,15 @@ enum-known-r-3 c = search needs
 
 -- src/recalling.rt:146:13
 returns-3 : tie.Need-returns-3
-returns-3 c = answer-entries _ _ _ _ _ _ _ _ _ (sym (c .before .before .before .before .before .before .before .enum-told .given .1) ∙ c .before .before .before .before .before .before .before .before .before .check-table .ensures) (sym (c .before .before .before .before .enum-told2 .given .1) ∙ c .before .before .before .before .before .before .check-lengths .ensures) (sym (c .before .r3 .given .1) ∙ c .before .before .before .check-entries .ensures)
+returns-3 c =
+    let r3 = c .before .r3 in
+    let check-entries = c .before .before .before .check-entries in
+    let enum-told2 = c .before .before .before .before .enum-told2 in
+    let check-lengths = c .before .before .before .before .before .before .check-lengths in
+    let enum-told = c .before .before .before .before .before .before .before .enum-told in
+    let check-table = c .before .before .before .before .before .before .before .before .before .check-table in
+    answer-entries _ _ _ _ _ _ _ _ _ (sym (enum-told .given .1) ∙ check-table .ensures)
+    (sym (enum-told2 .given .1) ∙ check-lengths .ensures) (sym (r3 .given .1) ∙ check-entries .ensures)
 
 enum-told-3 : tie.Need-enum-told-3
 enum-told-3 c = search needs
@@ -63,23 +84,21 @@ check-window-requires c κs = search needs
 
 -- src/recalling.rt:129:1
 returns-4 : tie.Need-returns-4
-returns-4 c = answer-window _ _ _ _ _ _ _ _ _ (sym (c .before .before .before .before .before .before .before .enum-told .given .1) ∙ c .before .before .before .before .before .before .before .before .before .check-table .ensures) (sym (c .before .before .before .before .enum-told2 .given .1) ∙ c .before .before .before .before .before .before .check-lengths .ensures) (sym (c .before .enum-told3 .given .1) ∙ c .before .before .before .check-entries .ensures) (c .check-window .ensures)
+returns-4 c =
+    let enum-told3 = c .before .enum-told3 in
+    let check-entries = c .before .before .before .check-entries in
+    let enum-told2 = c .before .before .before .before .enum-told2 in
+    let check-lengths = c .before .before .before .before .before .before .check-lengths in
+    let enum-told = c .before .before .before .before .before .before .before .enum-told in
+    let check-table = c .before .before .before .before .before .before .before .before .before .check-table in
+    answer-window _ _ _ _ _ _ _ _ _ (sym (enum-told .given .1) ∙ check-table .ensures)
+    (sym (enum-told2 .given .1) ∙ check-lengths .ensures) (sym (enum-told3 .given .1) ∙ check-entries .ensures)
+    (c .check-window .ensures)
 
 pub check-recall-spec : {M : Type 1} → statement M
 check-recall-spec =
     tie.close
-    (tie.spec
-    check-table-requires
-    enum-known-r
-    returns
-    enum-told
-    check-lengths-requires
-    enum-known-r-2
-    returns-2
-    enum-told-2
-    check-entries-requires
-    enum-known-r-3
-    returns-3
-    enum-told-3
-    check-window-requires
-    returns-4)
+    (
+    tie.spec check-table-requires enum-known-r returns enum-told check-lengths-requires enum-known-r-2 returns-2
+    enum-told-2 check-entries-requires enum-known-r-3 returns-3 enum-told-3 check-window-requires returns-4
+    )

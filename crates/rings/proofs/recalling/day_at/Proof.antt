@@ -13,7 +13,9 @@ use Rattle.rings.proofs.links.entry.Reads as entry-reads
 -- src/recalling.rt:56:9
 returns : tie.Need-returns
 unfolding at
-returns c = sym (List·getD-eq-default (c .before .before .args .days .now) 0 (c .if1 .taken))
+returns c =
+    let args = c .before .before .args in
+    sym (List·getD-eq-default (args .days .now) 0 (c .if1 .taken))
 
 -- src/recalling.rt:58:5
 entry-requires : tie.Need-entry-requires

@@ -19,7 +19,9 @@ abbrev μ-loop : tie.MeasureT-loop
 
 -- src/recalling.rt:172:5
 loop-holds : tie.Need-loop-holds Inv-loop μ-loop
-loop-holds c = mark-start _ _ _ _ _ _ (c .before .before .before .before .pre .1 .1)
+loop-holds c =
+    let pre = c .before .before .before .before .pre in
+    mark-start _ _ _ _ _ _ (pre .1 .1)
 
 -- src/recalling.rt:174:16
 add-next : tie.Need-add-next Inv-loop μ-loop
@@ -31,65 +33,90 @@ entry-requires c κs = omega (arith, c .loop-test .taken)
 
 -- src/recalling.rt:176:13
 entry-requires-2 : tie.Need-entry-requires-2 Inv-loop μ-loop
-entry-requires-2 c κs = omega (arith, c .before .loop-test .taken, c .before .before .before .before .before .before .before .pre .0 .0)
+entry-requires-2 c κs =
+    let loop-test = c .before .loop-test in
+    let pre = c .before .before .before .before .before .before .before .pre in
+    omega (arith, loop-test .taken, pre .0 .0)
 
 -- src/recalling.rt:177:13
 entry-requires-3 : tie.Need-entry-requires-3 Inv-loop μ-loop
-entry-requires-3 c κs = omega (arith, c .before .before .loop-test .taken, c .before .before .before .before .before .before .before .before .pre .0 .1)
+entry-requires-3 c κs =
+    let loop-test = c .before .before .loop-test in
+    let pre = c .before .before .before .before .before .before .before .before .pre in
+    omega (arith, loop-test .taken, pre .0 .1)
 
 -- src/recalling.rt:172:5
 loop-less : tie.Need-loop-less Inv-loop μ-loop
-loop-less c = omega (arith, c .before .before .before .before .loop-test .taken)
+loop-less c =
+    let loop-test = c .before .before .before .before .loop-test in
+    omega (arith, loop-test .taken)
 
 -- src/recalling.rt:172:5
 loop-again : tie.Need-loop-again Inv-loop μ-loop
-loop-again c = mark-early _ _ _ _ _ (c .before .before .before .before .before .loop .inv) (c .before .before .before .before .loop-test .taken) (c .before .before .entry2 .ensures) (c .if1 .taken)
+loop-again c =
+    let entry2 = c .before .before .entry2 in
+    let loop-test = c .before .before .before .before .loop-test in
+    let loop = c .before .before .before .before .before .loop in
+    mark-early _ _ _ _ _ (loop .inv) (loop-test .taken) (entry2 .ensures) (c .if1 .taken)
 
 -- src/recalling.rt:172:5
 loop-less-2 : tie.Need-loop-less-2 Inv-loop μ-loop
-loop-less-2 c = omega (arith, c .before .before .before .before .before .loop-test .taken)
+loop-less-2 c =
+    let loop-test = c .before .before .before .before .before .loop-test in
+    omega (arith, loop-test .taken)
 
 -- src/recalling.rt:172:5
 loop-again-2 : tie.Need-loop-again-2 Inv-loop μ-loop
-loop-again-2 c = mark-late _ _ _ _ _ (c .before .before .before .before .before .before .loop .inv) (c .before .before .before .before .before .loop-test .taken) (c .before .before .entry3 .ensures) (c .if2 .taken)
+loop-again-2 c =
+    let entry3 = c .before .before .entry3 in
+    let loop-test = c .before .before .before .before .before .loop-test in
+    let loop = c .before .before .before .before .before .before .loop in
+    mark-late _ _ _ _ _ (loop .inv) (loop-test .taken) (entry3 .ensures) (c .if2 .taken)
 
 -- src/recalling.rt:184:9
 slice-write-marks : tie.Need-slice-write-marks Inv-loop μ-loop
-slice-write-marks c = omega (arith, c .before .before .before .before .entry .ensures, c .before .before .before .before .before .before .before .before .before .before .before .pre .1 .0 .in-table _ (c .before .before .before .before .before .loop-test .taken), c .before .before .before .before .before .before .loop .inv .long)
+slice-write-marks c =
+    let entry = c .before .before .before .before .entry in
+    let loop-test = c .before .before .before .before .before .loop-test in
+    let loop = c .before .before .before .before .before .before .loop in
+    let pre = c .before .before .before .before .before .before .before .before .before .before .before .pre in
+    omega (arith, entry .ensures, pre .1 .0 .in-table _ (loop-test .taken), loop .inv .long)
 
 -- src/recalling.rt:172:5
 loop-less-3 : tie.Need-loop-less-3 Inv-loop μ-loop
-loop-less-3 c = omega (arith, c .before .before .before .before .before .loop-test .taken)
+loop-less-3 c =
+    let loop-test = c .before .before .before .before .before .loop-test in
+    omega (arith, loop-test .taken)
 
 -- src/recalling.rt:172:5
 loop-again-3 : tie.Need-loop-again-3 Inv-loop μ-loop
-loop-again-3 c = mark-hit _ _ _ _ _ (c .before .before .before .before .before .before .loop .inv) (c .before .before .before .before .before .before .before .before .before .before .before .pre .1 .0) (c .before .before .before .before .before .loop-test .taken) (c .before .before .before .before .entry .ensures) (c .before .before .before .entry2 .ensures) (c .before .before .entry3 .ensures) (c .before .if1 .left) (c .if2 .left)
+loop-again-3 c =
+    let if1 = c .before .if1 in
+    let entry3 = c .before .before .entry3 in
+    let entry2 = c .before .before .before .entry2 in
+    let entry = c .before .before .before .before .entry in
+    let loop-test = c .before .before .before .before .before .loop-test in
+    let loop = c .before .before .before .before .before .before .loop in
+    let pre = c .before .before .before .before .before .before .before .before .before .before .before .pre in
+    mark-hit _ _ _ _ _ (loop .inv) (pre .1 .0) (loop-test .taken) (entry .ensures) (entry2 .ensures) (entry3 .ensures)
+    (if1 .left) (c .if2 .left)
 
 -- src/recalling.rt:165:1
 same-length : tie.Need-same-length Inv-loop μ-loop
-same-length c = c .before .loop .inv .long
+same-length c =
+    let loop = c .before .loop in
+    loop .inv .long
 
 -- src/recalling.rt:165:1
 returns : tie.Need-returns Inv-loop μ-loop
-returns c = mark-end _ _ _ _ _ (c .before .loop .inv) (c .loop-test .left)
+returns c =
+    let loop = c .before .loop in
+    mark-end _ _ _ _ _ (loop .inv) (c .loop-test .left)
 
 pub mark-entries-spec : {M : Type 1} → statement M
 mark-entries-spec =
     tie.close
-    (tie.spec
-    Inv-loop
-    μ-loop
-    loop-holds
-    add-next
-    entry-requires
-    entry-requires-2
-    entry-requires-3
-    loop-less
-    loop-again
-    loop-less-2
-    loop-again-2
-    slice-write-marks
-    loop-less-3
-    loop-again-3
-    same-length
-    returns)
+    (
+    tie.spec Inv-loop μ-loop loop-holds add-next entry-requires entry-requires-2 entry-requires-3 loop-less
+    loop-again loop-less-2 loop-again-2 slice-write-marks loop-less-3 loop-again-3 same-length returns
+    )

@@ -23,7 +23,10 @@ enum-known-found c = search needs
 -- src/recalling.rt:195:13
 returns : tie.Need-returns
 unfolding recallMarks
-returns c = (sym (c .before .found .given .1) ∙ c .before .before .before .check-recall .ensures, refl)
+returns c =
+    let found = c .before .found in
+    let check-recall = c .before .before .before .check-recall in
+    (sym (found .given .1) ∙ check-recall .ensures, refl)
 
 -- src/recalling.rt:198:25
 enum-told : tie.Need-enum-told
@@ -35,7 +38,14 @@ clear-marks-requires c κs = search needs
 
 -- src/recalling.rt:199:13
 mark-entries-requires : tie.Need-mark-entries-requires
-mark-entries-requires c κs = marks-ready (c .before .before .before .before .before .before .before .before .before .before .before .before .before .before .before .args .days .now) (c .before .before .before .before .before .before .before .before .before .before .before .before .before .before .before .args .first .now) (c .before .before .before .before .before .before .before .before .before .before .before .before .before .before .before .args .second .now) (c .before .before .before .before .before .before .before .before .before .before .before .before .before .before .before .args .rows .now) (c .before .before .before .before .before .before .before .before .before .before .before .before .before .before .before .args .starts .now) (c .before .before .before .before .before .before .before .before .before .before .before .before .before .before .before .args .ends .now) (c .before .before .before .before .before .before .before .before .before .before .before .before .before .before .before .args .s) (c .before .before .before .before .before .before .before .before .before .before .before .before .before .before .before .args .e) (c .before .before .before .before .before .before .before .before .before .before .before .before .before .before .before .args .marks .now) (sym (c .before .before .before .before .before .enum-told .given .1) ∙ c .before .before .before .before .before .before .before .check-recall .ensures) (c .before .before .before .clear-marks .ensures)
+mark-entries-requires c κs =
+    let clear-marks = c .before .before .before .clear-marks in
+    let enum-told = c .before .before .before .before .before .enum-told in
+    let check-recall = c .before .before .before .before .before .before .before .check-recall in
+    let args = c .before .before .before .before .before .before .before .before .before .before .before .before .before .before .before .args in
+    marks-ready (args .days .now) (args .first .now) (args .second .now) (args .rows .now) (args .starts .now)
+    (args .ends .now) (args .s) (args .e) (args .marks .now) (sym (enum-told .given .1) ∙ check-recall .ensures)
+    (clear-marks .ensures)
 
 -- src/recalling.rt:200:13
 same-length : tie.Need-same-length
@@ -44,17 +54,22 @@ same-length c = search needs
 -- src/recalling.rt:200:13
 returns-2 : tie.Need-returns-2
 unfolding recallMarks
-returns-2 c = (sym (c .before .before .before .before .before .before .before .before .enum-told .given .1) ∙ c .before .before .before .before .before .before .before .before .before .before .check-recall .ensures, marks-right (c .before .before .before .before .before .before .before .before .before .before .before .before .before .before .before .before .before .before .args .days .now) (c .before .before .before .before .before .before .before .before .before .before .before .before .before .before .before .before .before .before .args .first .now) (c .before .before .before .before .before .before .before .before .before .before .before .before .before .before .before .before .before .before .args .second .now) (c .before .before .before .before .before .before .before .before .before .before .before .before .before .before .before .before .before .before .args .rows .now) (c .before .before .before .before .before .before .before .before .before .before .before .before .before .before .before .before .before .before .args .starts .now) (c .before .before .before .before .before .before .before .before .before .before .before .before .before .before .before .before .before .before .args .ends .now) (c .before .before .before .before .before .before .before .before .before .before .before .before .before .before .before .before .before .before .args .s) (c .before .before .before .before .before .before .before .before .before .before .before .before .before .before .before .before .before .before .args .e) (c .before .before .before .before .before .before .before .before .before .before .before .before .before .before .before .before .before .before .args .marks .now) (sym (c .before .before .before .before .before .before .before .before .enum-told .given .1) ∙ c .before .before .before .before .before .before .before .before .before .before .check-recall .ensures) (c .before .before .before .before .before .before .clear-marks .ensures) (c .before .before .mark-entries .ensures))
+returns-2 c =
+    let mark-entries = c .before .before .mark-entries in
+    let clear-marks = c .before .before .before .before .before .before .clear-marks in
+    let enum-told = c .before .before .before .before .before .before .before .before .enum-told in
+    let check-recall = c .before .before .before .before .before .before .before .before .before .before .check-recall in
+    let args = c .before .before .before .before .before .before .before .before .before .before .before .before .before .before .before .before .before .before .args in (
+      sym (enum-told .given .1) ∙ check-recall .ensures,
+      marks-right (args .days .now) (args .first .now) (args .second .now) (args .rows .now) (args .starts .now)
+          (args .ends .now) (args .s) (args .e) (args .marks .now) (sym (enum-told .given .1) ∙ check-recall .ensures)
+          (clear-marks .ensures) (mark-entries .ensures),
+    )
 
 pub recall-spec : {M : Type 1} → statement M
 recall-spec =
     tie.close
-    (tie.spec
-    check-recall-requires
-    enum-known-found
-    returns
-    enum-told
-    clear-marks-requires
-    mark-entries-requires
-    same-length
-    returns-2)
+    (
+    tie.spec check-recall-requires enum-known-found returns enum-told clear-marks-requires mark-entries-requires
+    same-length returns-2
+    )

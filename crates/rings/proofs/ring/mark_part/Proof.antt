@@ -31,7 +31,13 @@ slice-aggregate-core-3 c = search needs
 
 -- src/ring.rt:99:9
 core-requires : tie.Need-core-requires
-core-requires c κs = (ready-of (c .before .before .before .before .before .before .before .before .before .before .before .before .before .pre .0) (linked-later (c .before .before .before .before .before .before .link .ensures) (omega (arith, c .before .before .before .before .before .before .before .before .before .before .before .before .before .pre .1 .0 .1))) (c .before .before .before .before .before .before .before .before .before .before .before .before .before .pre .1 .0 .0) (c .before .before .before .before .before .before .before .before .before .before .before .before .before .pre .1 .0 .2) (c .before .before .before .before .before .before .before .before .before .before .before .before .before .pre .1 .1 .0), (span-of (c .before .before .before .before .before .before .before .before .before .before .before .before .before .pre .1 .0 .1) (c .before .before .before .before .before .before .before .before .before .before .before .before .before .pre .1 .1 .0) (c .before .before .before .before .before .before .before .before .before .before .before .before .before .pre .1 .1 .1), (refl, refl, omega arith)))
+core-requires c κs =
+    let link = c .before .before .before .before .before .before .link in
+    let pre = c .before .before .before .before .before .before .before .before .before .before .before .before .before .pre in (
+      ready-of (pre .0) (linked-later (link .ensures) (omega (arith, pre .1 .0 .1))) (pre .1 .0 .0) (pre .1 .0 .2)
+          (pre .1 .1 .0),
+      (span-of (pre .1 .0 .1) (pre .1 .1 .0) (pre .1 .1 .1), (refl, refl, omega arith)),
+    )
 
 -- src/ring.rt:122:9
 slice-aggregate-mark-rows : tie.Need-slice-aggregate-mark-rows
@@ -47,7 +53,14 @@ slice-aggregate-mark-rows-3 c = search needs
 
 -- src/ring.rt:113:5
 mark-rows-requires : tie.Need-mark-rows-requires
-mark-rows-requires c κs = (ready-of (c .before .before .before .before .before .before .before .before .before .before .before .before .before .before .before .before .before .before .before .before .before .before .pre .0) (linked-later (c .before .before .before .before .before .before .before .before .before .before .before .before .before .before .before .link .ensures) (omega (arith, c .before .before .before .before .before .before .before .before .before .before .before .before .before .before .before .before .before .before .before .before .before .before .pre .1 .0 .1))) (c .before .before .before .before .before .before .before .before .before .before .before .before .before .before .before .before .before .before .before .before .before .before .pre .1 .0 .0) (c .before .before .before .before .before .before .before .before .before .before .before .before .before .before .before .before .before .before .before .before .before .before .pre .1 .0 .2) (c .before .before .before .before .before .before .before .before .before .before .before .before .before .before .before .before .before .before .before .before .before .before .pre .1 .1 .0), ((c .before .before .before .before .before .before .before .before .before .before .before .before .before .before .before .before .before .before .before .before .before .before .pre .1 .0 .1, span-of (c .before .before .before .before .before .before .before .before .before .before .before .before .before .before .before .before .before .before .before .before .before .before .pre .1 .0 .1) (c .before .before .before .before .before .before .before .before .before .before .before .before .before .before .before .before .before .before .before .before .before .before .pre .1 .1 .0) (c .before .before .before .before .before .before .before .before .before .before .before .before .before .before .before .before .before .before .before .before .before .before .pre .1 .1 .1)), (c .before .before .before .before .before .before .before .before .core .ensures, c .before .before .before .before .before .before .before .before .before .before .before .before .before .before .before .before .before .before .before .before .before .before .pre .1 .0 .3)))
+mark-rows-requires c κs =
+    let core = c .before .before .before .before .before .before .before .before .core in
+    let link = c .before .before .before .before .before .before .before .before .before .before .before .before .before .before .before .link in
+    let pre = c .before .before .before .before .before .before .before .before .before .before .before .before .before .before .before .before .before .before .before .before .before .before .pre in (
+      ready-of (pre .0) (linked-later (link .ensures) (omega (arith, pre .1 .0 .1))) (pre .1 .0 .0) (pre .1 .0 .2)
+          (pre .1 .1 .0),
+      ((pre .1 .0 .1, span-of (pre .1 .0 .1) (pre .1 .1 .0) (pre .1 .1 .1)), (core .ensures, pre .1 .0 .3)),
+    )
 
 -- src/ring.rt:79:1
 same-length : tie.Need-same-length
@@ -64,16 +77,8 @@ returns c = search needs
 pub mark-part-spec : {M : Type 1} → statement M
 mark-part-spec =
     tie.close
-    (tie.spec
-    link-requires
-    slice-aggregate-core
-    slice-aggregate-core-2
-    slice-aggregate-core-3
-    core-requires
-    slice-aggregate-mark-rows
-    slice-aggregate-mark-rows-2
-    slice-aggregate-mark-rows-3
-    mark-rows-requires
-    same-length
-    same-length-2
-    returns)
+    (
+    tie.spec link-requires slice-aggregate-core slice-aggregate-core-2 slice-aggregate-core-3 core-requires
+    slice-aggregate-mark-rows slice-aggregate-mark-rows-2 slice-aggregate-mark-rows-3 mark-rows-requires
+    same-length same-length-2 returns
+    )

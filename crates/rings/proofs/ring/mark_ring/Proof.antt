@@ -30,7 +30,10 @@ rows-before-requires-2 c κs = search needs
 
 -- src/ring.rt:156:28
 sub-room : tie.Need-sub-room
-sub-room c = span-of (c .before .before .before .before .before .before .before .pre .1 .1) (c .before .rows-before .ensures) (c .rows-before2 .ensures) .ordered
+sub-room c =
+    let rows-before = c .before .rows-before in
+    let pre = c .before .before .before .before .before .before .before .pre in
+    span-of (pre .1 .1) (rows-before .ensures) (c .rows-before2 .ensures) .ordered
 
 -- src/ring.rt:156:23
 mul-room : tie.Need-mul-room
@@ -50,11 +53,19 @@ mul-mark-part c = search needs
 
 -- src/ring.rt:159:9
 sub-mark-part : tie.Need-sub-mark-part
-sub-mark-part c = span-of (c .before .before .before .before .before .before .before .before .before .before .before .pre .1 .1) (c .before .before .before .before .before .rows-before .ensures) (c .before .before .before .before .rows-before2 .ensures) .ordered
+sub-mark-part c =
+    let rows-before2 = c .before .before .before .before .rows-before2 in
+    let rows-before = c .before .before .before .before .before .rows-before in
+    let pre = c .before .before .before .before .before .before .before .before .before .before .before .pre in
+    span-of (pre .1 .1) (rows-before .ensures) (rows-before2 .ensures) .ordered
 
 -- src/ring.rt:159:9
 part-mark-part-start : tie.Need-part-mark-part-start
-part-mark-part-start c = span-of (c .before .before .before .before .before .before .before .before .before .before .before .pre .1 .1) (c .before .before .before .before .before .rows-before .ensures) (c .before .before .before .before .rows-before2 .ensures) .ordered
+part-mark-part-start c =
+    let rows-before2 = c .before .before .before .before .rows-before2 in
+    let rows-before = c .before .before .before .before .before .rows-before in
+    let pre = c .before .before .before .before .before .before .before .before .before .before .before .pre in
+    span-of (pre .1 .1) (rows-before .ensures) (rows-before2 .ensures) .ordered
 
 -- src/ring.rt:159:9
 part-mark-part-end : tie.Need-part-mark-part-end
@@ -66,11 +77,19 @@ mul-mark-part-2 c = search needs
 
 -- src/ring.rt:160:9
 sub-mark-part-2 : tie.Need-sub-mark-part-2
-sub-mark-part-2 c = span-of (c .before .before .before .before .before .before .before .before .before .before .before .before .pre .1 .1) (c .before .before .before .before .before .before .rows-before .ensures) (c .before .before .before .before .before .rows-before2 .ensures) .ordered
+sub-mark-part-2 c =
+    let rows-before2 = c .before .before .before .before .before .rows-before2 in
+    let rows-before = c .before .before .before .before .before .before .rows-before in
+    let pre = c .before .before .before .before .before .before .before .before .before .before .before .before .pre in
+    span-of (pre .1 .1) (rows-before .ensures) (rows-before2 .ensures) .ordered
 
 -- src/ring.rt:160:9
 part-mark-part-start-2 : tie.Need-part-mark-part-start-2
-part-mark-part-start-2 c = span-of (c .before .before .before .before .before .before .before .before .before .before .before .before .pre .1 .1) (c .before .before .before .before .before .before .rows-before .ensures) (c .before .before .before .before .before .rows-before2 .ensures) .ordered
+part-mark-part-start-2 c =
+    let rows-before2 = c .before .before .before .before .before .rows-before2 in
+    let rows-before = c .before .before .before .before .before .before .rows-before in
+    let pre = c .before .before .before .before .before .before .before .before .before .before .before .before .pre in
+    span-of (pre .1 .1) (rows-before .ensures) (rows-before2 .ensures) .ordered
 
 -- src/ring.rt:160:9
 part-mark-part-end-2 : tie.Need-part-mark-part-end-2
@@ -82,11 +101,19 @@ mul-mark-part-3 c = search needs
 
 -- src/ring.rt:161:9
 sub-mark-part-3 : tie.Need-sub-mark-part-3
-sub-mark-part-3 c = span-of (c .before .before .before .before .before .before .before .before .before .before .before .before .before .pre .1 .1) (c .before .before .before .before .before .before .before .rows-before .ensures) (c .before .before .before .before .before .before .rows-before2 .ensures) .ordered
+sub-mark-part-3 c =
+    let rows-before2 = c .before .before .before .before .before .before .rows-before2 in
+    let rows-before = c .before .before .before .before .before .before .before .rows-before in
+    let pre = c .before .before .before .before .before .before .before .before .before .before .before .before .before .pre in
+    span-of (pre .1 .1) (rows-before .ensures) (rows-before2 .ensures) .ordered
 
 -- src/ring.rt:161:9
 part-mark-part-start-3 : tie.Need-part-mark-part-start-3
-part-mark-part-start-3 c = span-of (c .before .before .before .before .before .before .before .before .before .before .before .before .before .pre .1 .1) (c .before .before .before .before .before .before .before .rows-before .ensures) (c .before .before .before .before .before .before .rows-before2 .ensures) .ordered
+part-mark-part-start-3 c =
+    let rows-before2 = c .before .before .before .before .before .before .rows-before2 in
+    let rows-before = c .before .before .before .before .before .before .before .rows-before in
+    let pre = c .before .before .before .before .before .before .before .before .before .before .before .before .before .pre in
+    span-of (pre .1 .1) (rows-before .ensures) (rows-before2 .ensures) .ordered
 
 -- src/ring.rt:161:9
 part-mark-part-end-3 : tie.Need-part-mark-part-end-3
@@ -94,11 +121,19 @@ part-mark-part-end-3 c = search needs
 
 -- src/ring.rt:165:9
 sub-mark-part-4 : tie.Need-sub-mark-part-4
-sub-mark-part-4 c = span-of (c .before .before .before .before .before .before .before .before .before .before .before .before .before .before .pre .1 .1) (c .before .before .before .before .before .before .before .before .rows-before .ensures) (c .before .before .before .before .before .before .before .rows-before2 .ensures) .ordered
+sub-mark-part-4 c =
+    let rows-before2 = c .before .before .before .before .before .before .before .rows-before2 in
+    let rows-before = c .before .before .before .before .before .before .before .before .rows-before in
+    let pre = c .before .before .before .before .before .before .before .before .before .before .before .before .before .before .pre in
+    span-of (pre .1 .1) (rows-before .ensures) (rows-before2 .ensures) .ordered
 
 -- src/ring.rt:165:9
 part-mark-part-start-4 : tie.Need-part-mark-part-start-4
-part-mark-part-start-4 c = span-of (c .before .before .before .before .before .before .before .before .before .before .before .before .before .before .pre .1 .1) (c .before .before .before .before .before .before .before .before .rows-before .ensures) (c .before .before .before .before .before .before .before .rows-before2 .ensures) .ordered
+part-mark-part-start-4 c =
+    let rows-before2 = c .before .before .before .before .before .before .before .rows-before2 in
+    let rows-before = c .before .before .before .before .before .before .before .before .rows-before in
+    let pre = c .before .before .before .before .before .before .before .before .before .before .before .before .before .before .pre in
+    span-of (pre .1 .1) (rows-before .ensures) (rows-before2 .ensures) .ordered
 
 -- src/ring.rt:165:9
 part-mark-part-end-4 : tie.Need-part-mark-part-end-4
@@ -110,11 +145,36 @@ slice-relend-prefix-mark-part c = search needs
 
 -- src/ring.rt:166:9
 slice-aggregate-mark-part : tie.Need-slice-aggregate-mark-part
-slice-aggregate-mark-part c = let a = c .before .before .before .before .before .before .before .before .before .before .before .before .before .before .before .before .args in let o = span-of (c .before .before .before .before .before .before .before .before .before .before .before .before .before .before .before .before .pre .1 .1) (c .before .before .before .before .before .before .before .before .before .before .rows-before .ensures) (c .before .before .before .before .before .before .before .before .before .rows-before2 .ensures) in room-long (a .days .now) (a .first .now) (a .second .now) _ _ (o .ordered) (o .within) (a .scratch .now) (c .before .before .before .before .before .before .before .before .before .before .before .before .before .before .before .before .pre .1 .4)
+slice-aggregate-mark-part c =
+    let rows-before2 = c .before .before .before .before .before .before .before .before .before .rows-before2 in
+    let rows-before = c .before .before .before .before .before .before .before .before .before .before .rows-before in
+    let args = c .before .before .before .before .before .before .before .before .before .before .before .before .before .before .before .before .args in
+    let pre = c .before .before .before .before .before .before .before .before .before .before .before .before .before .before .before .before .pre in
+    let a = args in
+    let o = span-of (pre .1 .1) (rows-before .ensures) (rows-before2 .ensures) in room-long (a .days .now)
+    (a .first .now) (a .second .now) _ _ (o .ordered) (o .within) (a .scratch .now) (pre .1 .4)
 
 -- src/ring.rt:158:9
 mark-part-requires : tie.Need-mark-part-requires
-mark-part-requires c κs = let a = c .before .before .before .before .before .before .before .before .before .before .before .before .before .before .before .before .args in let l = c .before .before .before .before .before .before .before .before .before .before .rows-before in let r = c .before .before .before .before .before .before .before .before .before .rows-before2 in let o = span-of (c .before .before .before .before .before .before .before .before .before .before .before .before .before .before .before .before .pre .1 .1) (l .ensures) (r .ensures) in (part-sound _ _ _ _ _ (o .ordered) (o .within) (c .before .before .before .before .before .before .before .before .before .before .before .before .before .before .before .before .pre .0), ((c .before .before .before .before .before .before .before .before .before .before .before .before .before .before .before .before .pre .1 .0, c .before .before .before .before .before .before .before .before .before .before .before .before .before .before .before .before .pre .1 .1, c .before .before .before .before .before .before .before .before .before .before .before .before .before .before .before .before .pre .1 .2, part-same _ (a .first .now) (a .second .now) _ _ (o .ordered) (o .within) (c .before .before .before .before .before .before .before .clear-marks .ensures) (c .before .before .before .before .before .before .before .before .before .before .before .before .before .before .before .before .pre .1 .3), part-room _ (a .first .now) (a .second .now) _ _ (o .ordered) (o .within) (a .scratch .now) (c .before .before .before .before .before .before .before .before .before .before .before .before .before .before .before .before .pre .1 .4)), (part-from _ (a .first .now) (a .second .now) _ _ (o .ordered) (o .within) (l .ensures), part-to _ (a .first .now) (a .second .now) _ _ (o .ordered) (o .within) (r .ensures))))
+mark-part-requires c κs =
+    let clear-marks = c .before .before .before .before .before .before .before .clear-marks in
+    let rows-before2 = c .before .before .before .before .before .before .before .before .before .rows-before2 in
+    let rows-before = c .before .before .before .before .before .before .before .before .before .before .rows-before in
+    let args = c .before .before .before .before .before .before .before .before .before .before .before .before .before .before .before .before .args in
+    let pre = c .before .before .before .before .before .before .before .before .before .before .before .before .before .before .before .before .pre in
+    let a = args in
+    let l = rows-before in
+    let r = rows-before2 in
+    let o = span-of (pre .1 .1) (l .ensures) (r .ensures) in (
+      part-sound _ _ _ _ _ (o .ordered) (o .within) (pre .0),
+      (
+        (pre .1 .0, pre .1 .1, pre .1 .2, part-same _ (a .first .now) (a .second .now) _ _ (o .ordered) (o .within) (clear-marks .ensures) (pre .1 .3), part-room _ (a .first .now) (a .second .now) _ _ (o .ordered) (o .within) (a .scratch .now) (pre .1 .4)),
+        (
+          part-from _ (a .first .now) (a .second .now) _ _ (o .ordered) (o .within) (l .ensures),
+          part-to _ (a .first .now) (a .second .now) _ _ (o .ordered) (o .within) (r .ensures),
+        ),
+      ),
+    )
 
 -- src/ring.rt:168:5
 clear-requires : tie.Need-clear-requires
@@ -130,38 +190,35 @@ same-length-2 c = search needs
 
 -- src/ring.rt:140:1
 returns : tie.Need-returns
-returns c = let a = c .before .before .before .before .before .before .before .before .before .before .before .before .before .before .before .before .before .before .before .before .before .before .before .before .before .args in let l = c .before .before .before .before .before .before .before .before .before .before .before .before .before .before .before .before .before .before .before .rows-before in let r = c .before .before .before .before .before .before .before .before .before .before .before .before .before .before .before .before .before .before .rows-before2 in let o = span-of (c .before .before .before .before .before .before .before .before .before .before .before .before .before .before .before .before .before .before .before .before .before .before .before .before .before .pre .1 .1) (l .ensures) (r .ensures) in (part-members (a .days .now) (a .first .now) (a .second .now) (l .result) (r .result) (o .ordered) (o .within) (query (a .k)) (a .s) (a .e) (l .ensures) (r .ensures) (c .before .before .before .before .before .before .before .before .mark-part .ensures .0), part-marks (a .days .now) (a .first .now) (a .second .now) (l .result) (r .result) (o .ordered) (o .within) (query (a .k)) (a .s) (a .e) (l .ensures) (r .ensures) (c .before .before .before .before .before .before .before .before .before .before .before .before .before .before .before .before .clear-marks .ensures) (c .before .before .before .before .before .before .before .before .before .before .before .before .before .before .before .before .before .before .before .before .before .before .before .before .before .pre .1 .3) (c .before .before .before .before .before .before .before .before .mark-part .ensures .1), c .before .before .clear .ensures ∙ ap (λ (m : ℕ). replicate {A = ℕ} m 0) (c .before .before .before .before .before .scratch .given .1))
+returns c =
+    let clear = c .before .before .clear in
+    let scratch = c .before .before .before .before .before .scratch in
+    let mark-part = c .before .before .before .before .before .before .before .before .mark-part in
+    let clear-marks = c .before .before .before .before .before .before .before .before .before .before .before .before .before .before .before .before .clear-marks in
+    let rows-before2 = c .before .before .before .before .before .before .before .before .before .before .before .before .before .before .before .before .before .before .rows-before2 in
+    let rows-before = c .before .before .before .before .before .before .before .before .before .before .before .before .before .before .before .before .before .before .before .rows-before in
+    let args = c .before .before .before .before .before .before .before .before .before .before .before .before .before .before .before .before .before .before .before .before .before .before .before .before .before .args in
+    let pre = c .before .before .before .before .before .before .before .before .before .before .before .before .before .before .before .before .before .before .before .before .before .before .before .before .before .pre in
+    let a = args in
+    let l = rows-before in
+    let r = rows-before2 in
+    let o = span-of (pre .1 .1) (l .ensures) (r .ensures) in (
+      part-members (a .days .now) (a .first .now) (a .second .now) (l .result) (r .result) (o .ordered) (o .within)
+          (query (a .k)) (a .s) (a .e) (l .ensures) (r .ensures) (mark-part .ensures .0),
+      part-marks (a .days .now) (a .first .now) (a .second .now) (l .result) (r .result) (o .ordered) (o .within)
+          (query (a .k)) (a .s) (a .e) (l .ensures) (r .ensures) (clear-marks .ensures) (pre .1 .3)
+          (mark-part .ensures .1),
+      clear .ensures ∙ ap (λ (m : ℕ). replicate {A = ℕ} m 0) (scratch .given .1),
+    )
 
 pub mark-ring-spec : {M : Type 1} → statement M
 mark-ring-spec =
     tie.close
-    (tie.spec
-    rows-before-requires
-    add-rows-before
-    rows-before-requires-2
-    sub-room
-    mul-room
-    add-room
-    clear-marks-requires
-    mul-mark-part
-    sub-mark-part
-    part-mark-part-start
-    part-mark-part-end
-    mul-mark-part-2
-    sub-mark-part-2
-    part-mark-part-start-2
-    part-mark-part-end-2
-    mul-mark-part-3
-    sub-mark-part-3
-    part-mark-part-start-3
-    part-mark-part-end-3
-    sub-mark-part-4
-    part-mark-part-start-4
-    part-mark-part-end-4
-    slice-relend-prefix-mark-part
-    slice-aggregate-mark-part
-    mark-part-requires
-    clear-requires
-    same-length
-    same-length-2
-    returns)
+    (
+    tie.spec rows-before-requires add-rows-before rows-before-requires-2 sub-room mul-room add-room
+    clear-marks-requires mul-mark-part sub-mark-part part-mark-part-start part-mark-part-end mul-mark-part-2
+    sub-mark-part-2 part-mark-part-start-2 part-mark-part-end-2 mul-mark-part-3 sub-mark-part-3
+    part-mark-part-start-3 part-mark-part-end-3 sub-mark-part-4 part-mark-part-start-4 part-mark-part-end-4
+    slice-relend-prefix-mark-part slice-aggregate-mark-part mark-part-requires clear-requires same-length
+    same-length-2 returns
+    )

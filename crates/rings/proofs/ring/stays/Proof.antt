@@ -21,7 +21,12 @@ entry-requires-2 c κs = search needs
 -- src/ring.rt:33:9
 returns : tie.Need-returns
 unfolding _and_
-returns c = let a = c .before .before .before .before .before .before .args in simp (not-zero (a .times .now) (getD (a .first .now) (a .j) 0) (c .before .before .entry .ensures) (c .before .entry2 .ensures) (c .if1 .taken))
+returns c =
+    let entry2 = c .before .entry2 in
+    let entry = c .before .before .entry in
+    let args = c .before .before .before .before .before .before .args in
+    let a = args in
+    simp (not-zero (a .times .now) (getD (a .first .now) (a .j) 0) (entry .ensures) (entry2 .ensures) (c .if1 .taken))
 
 -- src/ring.rt:35:9
 entry-requires-3 : tie.Need-entry-requires-3
@@ -34,21 +39,35 @@ entry-requires-4 c κs = search needs
 -- src/ring.rt:37:9
 returns-2 : tie.Need-returns-2
 unfolding _and_
-returns-2 c = let a = c .before .before .before .before .before .before .before .before .before .args in simp (is-zero (a .times .now) (getD (a .first .now) (a .j) 0) (c .before .before .before .before .before .entry .ensures) (c .before .before .before .before .entry2 .ensures) (c .before .before .before .if1 .left), not-zero (a .times .now) (getD (a .second .now) (a .j) 0) (c .before .before .entry3 .ensures) (c .before .entry4 .ensures) (c .if2 .taken))
+returns-2 c =
+    let entry4 = c .before .entry4 in
+    let entry3 = c .before .before .entry3 in
+    let if1 = c .before .before .before .if1 in
+    let entry2 = c .before .before .before .before .entry2 in
+    let entry = c .before .before .before .before .before .entry in
+    let args = c .before .before .before .before .before .before .before .before .before .args in
+    let a = args in
+    simp (
+      is-zero (a .times .now) (getD (a .first .now) (a .j) 0) (entry .ensures) (entry2 .ensures) (if1 .left),
+      not-zero (a .times .now) (getD (a .second .now) (a .j) 0) (entry3 .ensures) (entry4 .ensures) (c .if2 .taken),
+    )
 
 -- src/ring.rt:27:1
 returns-3 : tie.Need-returns-3
 unfolding _and_
-returns-3 c = let a = c .before .before .before .before .before .before .before .before .before .args in simp (is-zero (a .times .now) (getD (a .first .now) (a .j) 0) (c .before .before .before .before .before .entry .ensures) (c .before .before .before .before .entry2 .ensures) (c .before .before .before .if1 .left), is-zero (a .times .now) (getD (a .second .now) (a .j) 0) (c .before .before .entry3 .ensures) (c .before .entry4 .ensures) (c .if2 .left))
+returns-3 c =
+    let entry4 = c .before .entry4 in
+    let entry3 = c .before .before .entry3 in
+    let if1 = c .before .before .before .if1 in
+    let entry2 = c .before .before .before .before .entry2 in
+    let entry = c .before .before .before .before .before .entry in
+    let args = c .before .before .before .before .before .before .before .before .before .args in
+    let a = args in
+    simp (
+      is-zero (a .times .now) (getD (a .first .now) (a .j) 0) (entry .ensures) (entry2 .ensures) (if1 .left),
+      is-zero (a .times .now) (getD (a .second .now) (a .j) 0) (entry3 .ensures) (entry4 .ensures) (c .if2 .left),
+    )
 
 pub stays-spec : {M : Type 1} → statement M
 stays-spec =
-    tie.close
-    (tie.spec
-    entry-requires
-    entry-requires-2
-    returns
-    entry-requires-3
-    entry-requires-4
-    returns-2
-    returns-3)
+    tie.close (tie.spec entry-requires entry-requires-2 returns entry-requires-3 entry-requires-4 returns-2 returns-3)

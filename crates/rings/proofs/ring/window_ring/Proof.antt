@@ -29,11 +29,32 @@ enum-told c = search needs
 
 -- src/ring.rt:101:17
 mark-ring-requires : tie.Need-mark-ring-requires
-mark-ring-requires c κs = (call-sound _ _ _ _ _ _ _ (sym (c .before .before .before .before .check-call .ensures) ∙ c .before .before .enum-told .given .1), (call-k _ _ _ _ _ _ _ (sym (c .before .before .before .before .check-call .ensures) ∙ c .before .before .enum-told .given .1) .0, window-e (c .before .before .before .before .before .before .before .before .before .before .before .args .s) (c .before .before .before .before .before .before .before .before .before .before .before .args .e) (c .before .before .before .before .before .is-window .ensures) (call-window _ _ _ _ _ _ _ (sym (c .before .before .before .before .check-call .ensures) ∙ c .before .before .enum-told .given .1)) .1, window-e (c .before .before .before .before .before .before .before .before .before .before .before .args .s) (c .before .before .before .before .before .before .before .before .before .before .before .args .e) (c .before .before .before .before .before .is-window .ensures) (call-window _ _ _ _ _ _ _ (sym (c .before .before .before .before .check-call .ensures) ∙ c .before .before .enum-told .given .1)) .2, eqb-true _ _ (call-lengths _ _ _ _ _ _ _ (sym (c .before .before .before .before .check-call .ensures) ∙ c .before .before .enum-told .given .1)), call-scratch _ _ _ _ _ _ _ (sym (c .before .before .before .before .check-call .ensures) ∙ c .before .before .enum-told .given .1)))
+mark-ring-requires c κs =
+    let enum-told = c .before .before .enum-told in
+    let check-call = c .before .before .before .before .check-call in
+    let is-window = c .before .before .before .before .before .is-window in
+    let args = c .before .before .before .before .before .before .before .before .before .before .before .args in (
+      call-sound _ _ _ _ _ _ _ (sym (check-call .ensures) ∙ enum-told .given .1),
+      (
+        call-k _ _ _ _ _ _ _ (sym (check-call .ensures) ∙ enum-told .given .1) .0,
+        window-e (args .s) (args .e) (is-window .ensures)
+            (call-window _ _ _ _ _ _ _ (sym (check-call .ensures) ∙ enum-told .given .1)) .1,
+        window-e (args .s) (args .e) (is-window .ensures)
+            (call-window _ _ _ _ _ _ _ (sym (check-call .ensures) ∙ enum-told .given .1)) .2,
+        eqb-true _ _ (call-lengths _ _ _ _ _ _ _ (sym (check-call .ensures) ∙ enum-told .given .1)),
+        call-scratch _ _ _ _ _ _ _ (sym (check-call .ensures) ∙ enum-told .given .1),
+      ),
+    )
 
 -- src/ring.rt:89:1
 returns : tie.Need-returns
-returns c = ring-refused _ _ _ _ (c .before .before .before .before .before .before .before .before .before .before .args .marks .now) (c .before .before .before .before .before .before .before .before .before .before .args .scratch .now) (c .before .before .before .before .is-window .ensures) (sym (c .before .before .before .check-call .ensures) ∙ c .before .found .given .1)
+returns c =
+    let found = c .before .found in
+    let check-call = c .before .before .before .check-call in
+    let is-window = c .before .before .before .before .is-window in
+    let args = c .before .before .before .before .before .before .before .before .before .before .args in
+    ring-refused _ _ _ _ (args .marks .now) (args .scratch .now) (is-window .ensures)
+    (sym (check-call .ensures) ∙ found .given .1)
 
 -- src/ring.rt:89:1
 same-length : tie.Need-same-length
@@ -45,18 +66,20 @@ same-length-2 c = search needs
 
 -- src/ring.rt:89:1
 returns-2 : tie.Need-returns-2
-returns-2 c = ring-done _ _ _ _ (c .before .before .before .before .before .before .before .before .before .before .before .before .before .before .before .before .args .marks .now) (c .before .before .before .before .before .before .before .before .before .before .before .before .before .before .before .before .args .scratch .now) (c .before .before .before .before .before .before .before .before .before .before .is-window .ensures) (sym (c .before .before .before .before .before .before .before .before .before .check-call .ensures) ∙ c .before .before .before .before .before .before .before .enum-told .given .1) (c .before .before .before .before .mark-ring .ensures .0) (c .before .before .before .before .mark-ring .ensures .1) (c .before .before .before .before .mark-ring .ensures .2)
+returns-2 c =
+    let mark-ring = c .before .before .before .before .mark-ring in
+    let enum-told = c .before .before .before .before .before .before .before .enum-told in
+    let check-call = c .before .before .before .before .before .before .before .before .before .check-call in
+    let is-window = c .before .before .before .before .before .before .before .before .before .before .is-window in
+    let args = c .before .before .before .before .before .before .before .before .before .before .before .before .before .before .before .before .args in
+    ring-done _ _ _ _ (args .marks .now) (args .scratch .now) (is-window .ensures)
+    (sym (check-call .ensures) ∙ enum-told .given .1) (mark-ring .ensures .0) (mark-ring .ensures .1)
+    (mark-ring .ensures .2)
 
 pub window-ring-spec : {M : Type 1} → statement M
 window-ring-spec =
     tie.close
-    (tie.spec
-    is-window-requires
-    check-call-requires
-    enum-known-found
-    enum-told
-    mark-ring-requires
-    returns
-    same-length
-    same-length-2
-    returns-2)
+    (
+    tie.spec is-window-requires check-call-requires enum-known-found enum-told mark-ring-requires returns
+    same-length same-length-2 returns-2
+    )

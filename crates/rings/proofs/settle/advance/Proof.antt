@@ -15,7 +15,17 @@ use Rattle.rings.proofs.settle.step.Reads as step-reads
 
 -- src/settle.rt:673:9
 step-requires : tie.Need-step-requires
-step-requires c κs = (open-of (c .before .before .before .before .before .before .before .before .before .before .before .before .pre .0 .sound) (linked-shelves (c .before .before .before .before .before .before .before .before .before .before .before .before .pre .0 .linked)) (c .before .before .before .before .before .before .before .before .before .before .before .before .pre .0 .setting .some-k) (c .before .before .before .before .before .before .before .before .before .before .before .before .pre .1 .0 .1) (c .before .before .before .before .before .before .before .before .before .before .before .before .pre .1 .0 .3), (c .before .before .before .before .before .before .before .before .before .before .before .before .pre .1 .0, ((c .before .before .before .before .before .before .before .before .before .before .before .before .pre .1 .1 .0, c .before .before .before .before .before .before .before .before .before .before .before .before .pre .1 .1 .1, c .before .before .before .before .before .before .before .before .before .before .before .before .pre .1 .1 .2, linked-covered (c .before .before .before .before .before .before .before .before .before .before .before .before .pre .0 .linked) _ (c .before .before .before .before .before .before .before .before .before .before .before .before .pre .0 .setting .from-lo)), λ y. clash y refl)))
+step-requires c κs =
+    let pre = c .before .before .before .before .before .before .before .before .before .before .before .before .pre in (
+      open-of (pre .0 .sound) (linked-shelves (pre .0 .linked)) (pre .0 .setting .some-k) (pre .1 .0 .1) (pre .1 .0 .3),
+      (
+        pre .1 .0,
+        (
+          (pre .1 .1 .0, pre .1 .1 .1, pre .1 .1 .2, linked-covered (pre .0 .linked) _ (pre .0 .setting .from-lo)),
+          λ y. clash y refl,
+        ),
+      ),
+    )
 
 -- src/settle.rt:691:9
 same-length : tie.Need-same-length
@@ -35,7 +45,9 @@ same-length-4 c = search needs
 
 -- src/settle.rt:691:9
 returns : tie.Need-returns
-returns c = (c .before .before .before .before .before .before .before .before .before .step .ensures .0 (c .if1 .taken), c .before .before .before .before .before .before .before .before .before .step .ensures .1 .same refl)
+returns c =
+    let step = c .before .before .before .before .before .before .before .before .before .step in
+    (step .ensures .0 (c .if1 .taken), step .ensures .1 .same refl)
 
 -- src/settle.rt:699:9
 add-begin : tie.Need-add-begin
@@ -43,11 +55,27 @@ add-begin c = search needs
 
 -- src/settle.rt:693:5
 begin-requires : tie.Need-begin-requires
-begin-requires c κs = (c .before .before .before .before .before .before .before .before .before .before .before .before .before .before .before .before .before .before .before .before .before .before .before .before .before .pre .0, ((span-after (omega (arith, c .before .before .before .before .before .before .before .before .before .before .before .before .before .before .before .before .before .before .before .before .before .before .before .before .before .pre .1 .0 .0)) (c .before .before .before .before .before .before .before .before .before .before .before .before .before .before .before .before .before .before .before .before .before .before .before .before .before .pre .1 .0 .3) (c .before .before .before .before .before .before .before .before .before .before .before .before .before .before .before .before .before .before .before .before .before .before .before .before .before .pre .1 .0 .4)), (c .before .before .before .before .before .before .before .before .before .before .before .before .step .kept .1 .1 .1 .1 .1 .1 .1 .1 .1 .1 .0 ∙ c .before .before .before .before .before .before .before .before .before .before .before .before .before .before .before .before .before .before .before .before .before .before .before .before .before .pre .1 .1 .0 .long, c .before .before .before .before .before .before .before .before .before .before .before .before .step .kept .1 .1 .1 .1 .1 .1 .1 .1 .1 .1 .1 .0 ∙ c .before .before .before .before .before .before .before .before .before .before .before .before .before .before .before .before .before .before .before .before .before .before .before .before .before .pre .1 .1 .1 .long, c .before .before .before .before .before .before .before .before .before .before .before .before .step .kept .1 .1 .1 .1 .1 .1 .1 .1 .1 .1 .1 .1 .0 ∙ c .before .before .before .before .before .before .before .before .before .before .before .before .before .before .before .before .before .before .before .before .before .before .before .before .before .pre .1 .1 .2)))
+begin-requires c κs =
+    let step = c .before .before .before .before .before .before .before .before .before .before .before .before .step in
+    let pre = c .before .before .before .before .before .before .before .before .before .before .before .before .before .before .before .before .before .before .before .before .before .before .before .before .before .pre in (
+      pre .0,
+      (
+        (span-after (omega (arith, pre .1 .0 .0)) (pre .1 .0 .3) (pre .1 .0 .4)),
+        (
+          step .kept .1 .1 .1 .1 .1 .1 .1 .1 .1 .1 .0 ∙ pre .1 .1 .0 .long,
+          step .kept .1 .1 .1 .1 .1 .1 .1 .1 .1 .1 .1 .0 ∙ pre .1 .1 .1 .long,
+          step .kept .1 .1 .1 .1 .1 .1 .1 .1 .1 .1 .1 .1 .0 ∙ pre .1 .1 .2,
+        ),
+      ),
+    )
 
 -- src/settle.rt:707:5
 list-all-requires : tie.Need-list-all-requires
-list-all-requires c κs = c .before .before .before .before .before .before .before .begin .kept .1 .1 .1 .1 .1 .1 .1 .1 .1 .1 .1 .0 ∙ (c .before .before .before .before .before .before .before .before .before .before .before .before .before .before .before .before .before .before .before .before .step .kept .1 .1 .1 .1 .1 .1 .1 .1 .1 .1 .1 .1 .0 ∙ c .before .before .before .before .before .before .before .before .before .before .before .before .before .before .before .before .before .before .before .before .before .before .before .before .before .before .before .before .before .before .before .before .before .pre .1 .1 .2)
+list-all-requires c κs =
+    let begin = c .before .before .before .before .before .before .before .begin in
+    let step = c .before .before .before .before .before .before .before .before .before .before .before .before .before .before .before .before .before .before .before .before .step in
+    let pre = c .before .before .before .before .before .before .before .before .before .before .before .before .before .before .before .before .before .before .before .before .before .before .before .before .before .before .before .before .before .before .before .before .before .pre in
+    begin .kept .1 .1 .1 .1 .1 .1 .1 .1 .1 .1 .1 .0 ∙ (step .kept .1 .1 .1 .1 .1 .1 .1 .1 .1 .1 .1 .1 .0 ∙ pre .1 .1 .2)
 
 -- src/settle.rt:651:1
 same-length-5 : tie.Need-same-length-5
@@ -67,23 +95,18 @@ same-length-8 c = search needs
 
 -- src/settle.rt:651:1
 returns-2 : tie.Need-returns-2
-returns-2 c = ((c .before .before .before .before .before .before .before .before .before .before .begin .ensures .0, c .before .before .before .before .before .before .before .before .before .before .begin .ensures .1, all-risen (c .before .before .list-all .ensures .0) (c .before .before .list-all .ensures .1)), c .before .before .before .before .before .before .before .before .before .before .before .before .before .before .before .before .before .before .before .before .before .before .before .step .ensures .1 .same refl)
+returns-2 c =
+    let list-all = c .before .before .list-all in
+    let begin = c .before .before .before .before .before .before .before .before .before .before .begin in
+    let step = c .before .before .before .before .before .before .before .before .before .before .before .before .before .before .before .before .before .before .before .before .before .before .before .step in (
+      (begin .ensures .0, begin .ensures .1, all-risen (list-all .ensures .0) (list-all .ensures .1)),
+      step .ensures .1 .same refl,
+    )
 
 pub advance-spec : {M : Type 1} → statement M
 advance-spec =
     tie.close
-    (tie.spec
-    step-requires
-    same-length
-    same-length-2
-    same-length-3
-    same-length-4
-    returns
-    add-begin
-    begin-requires
-    list-all-requires
-    same-length-5
-    same-length-6
-    same-length-7
-    same-length-8
-    returns-2)
+    (
+    tie.spec step-requires same-length same-length-2 same-length-3 same-length-4 returns add-begin begin-requires
+    list-all-requires same-length-5 same-length-6 same-length-7 same-length-8 returns-2
+    )

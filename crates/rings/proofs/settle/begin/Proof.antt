@@ -10,7 +10,9 @@ use Rattle.rings.proofs.settle.spare_none.Reads as spare-none-reads
 
 -- src/settle.rt:408:5
 peel-requires : tie.Need-peel-requires
-peel-requires c κs = (c .before .before .before .before .before .before .before .before .before .before .pre .0, (c .before .before .before .before .before .before .before .before .before .before .pre .1 .0, (c .before .before .before .before .before .before .before .before .before .before .pre .1 .1 .0, c .before .before .before .before .before .before .before .before .before .before .pre .1 .1 .1, omega (arith, c .before .before .before .before .before .before .before .before .before .before .pre .1 .1 .2))))
+peel-requires c κs =
+    let pre = c .before .before .before .before .before .before .before .before .before .before .pre in
+    (pre .0, (pre .1 .0, (pre .1 .1 .0, pre .1 .1 .1, omega (arith, pre .1 .1 .2))))
 
 -- src/settle.rt:422:5
 spare-none-requires : tie.Need-spare-none-requires
@@ -30,7 +32,13 @@ same-length-3 c = search needs
 
 -- src/settle.rt:389:1
 returns : tie.Need-returns
-returns c = (c .before .before .before .before .before .before .before .before .before .before .peel .ensures, spare-ones _ _ _ _ _ _ _ (c .before .before .before .before .before .before .before .before .before .before .before .before .before .before .before .before .before .before .before .before .before .pre .0 .setting) (c .before .before .before .before .before .before .before .before .before .before .peel .ensures) (c .before .before .spare-none .ensures .0) (c .before .before .spare-none .ensures .1))
+returns c =
+    let spare-none = c .before .before .spare-none in
+    let peel = c .before .before .before .before .before .before .before .before .before .before .peel in
+    let pre = c .before .before .before .before .before .before .before .before .before .before .before .before .before .before .before .before .before .before .before .before .before .pre in (
+      peel .ensures,
+      spare-ones _ _ _ _ _ _ _ (pre .0 .setting) (peel .ensures) (spare-none .ensures .0) (spare-none .ensures .1),
+    )
 
 pub begin-spec : {M : Type 1} → statement M
 begin-spec =

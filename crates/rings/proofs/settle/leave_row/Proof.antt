@@ -30,19 +30,31 @@ entry-requires-2 c κs = search needs
 
 -- src/settle.rt:479:13
 mul-x : tie.Need-mul-x
-mul-x c = omega (arith, (first-small _ _ _ (c .before .before .before .before .before .before .before .before .before .before .before .pre .0 .sound) (c .before .before .before .before .before .before .before .before .before .before .before .pre .1 .0) (c .before .entry .ensures)))
+mul-x c =
+    let entry = c .before .entry in
+    let pre = c .before .before .before .before .before .before .before .before .before .before .before .pre in
+    omega (arith, (first-small _ _ _ (pre .0 .sound) (pre .1 .0) (entry .ensures)))
 
 -- src/settle.rt:479:13
 shared-slice-read-x : tie.Need-shared-slice-read-x
-shared-slice-read-x c = omega (arith, (first-small _ _ _ (c .before .before .before .before .before .before .before .before .before .before .before .before .pre .0 .sound) (c .before .before .before .before .before .before .before .before .before .before .before .before .pre .1 .0) (c .before .before .entry .ensures)), c .before .before .before .before .before .before .before .before .before .before .before .before .pre .1 .1)
+shared-slice-read-x c =
+    let entry = c .before .before .entry in
+    let pre = c .before .before .before .before .before .before .before .before .before .before .before .before .pre in
+    omega (arith, (first-small _ _ _ (pre .0 .sound) (pre .1 .0) (entry .ensures)), pre .1 .1)
 
 -- src/settle.rt:480:13
 mul-y : tie.Need-mul-y
-mul-y c = omega (arith, (second-small _ _ _ (c .before .before .before .before .before .before .before .before .before .before .before .before .pre .0 .sound) (c .before .before .before .before .before .before .before .before .before .before .before .before .pre .1 .0) (c .before .entry2 .ensures)))
+mul-y c =
+    let entry2 = c .before .entry2 in
+    let pre = c .before .before .before .before .before .before .before .before .before .before .before .before .pre in
+    omega (arith, (second-small _ _ _ (pre .0 .sound) (pre .1 .0) (entry2 .ensures)))
 
 -- src/settle.rt:480:13
 shared-slice-read-y : tie.Need-shared-slice-read-y
-shared-slice-read-y c = omega (arith, (second-small _ _ _ (c .before .before .before .before .before .before .before .before .before .before .before .before .before .pre .0 .sound) (c .before .before .before .before .before .before .before .before .before .before .before .before .before .pre .1 .0) (c .before .before .entry2 .ensures)), c .before .before .before .before .before .before .before .before .before .before .before .before .before .pre .1 .1)
+shared-slice-read-y c =
+    let entry2 = c .before .before .entry2 in
+    let pre = c .before .before .before .before .before .before .before .before .before .before .before .before .before .pre in
+    omega (arith, (second-small _ _ _ (pre .0 .sound) (pre .1 .0) (entry2 .ensures)), pre .1 .1)
 
 -- src/settle.rt:481:15
 mul-day : tie.Need-mul-day
@@ -62,11 +74,25 @@ is-lost-requires-2 c κs = search needs
 
 -- src/settle.rt:484:9
 lose-requires : tie.Need-lose-requires
-lose-requires c κs = (c .before .before .before .before .before .before .before .before .before .before .before .before .before .before .before .before .before .before .pre .1 .3, c .before .before .before .before .before .before .before .before .before .before .before .before .before .before .before .before .before .before .pre .1 .4, (first-small _ _ _ (c .before .before .before .before .before .before .before .before .before .before .before .before .before .before .before .before .before .before .pre .0 .sound) (c .before .before .before .before .before .before .before .before .before .before .before .before .before .before .before .before .before .before .pre .1 .0) (c .before .before .before .before .before .before .before .before .entry .ensures)), omega (arith, c .before .before .before .before .before .before .before .before .before .before .if1 .left))
+lose-requires c κs =
+    let entry = c .before .before .before .before .before .before .before .before .entry in
+    let if1 = c .before .before .before .before .before .before .before .before .before .before .if1 in
+    let pre = c .before .before .before .before .before .before .before .before .before .before .before .before .before .before .before .before .before .before .pre in
+    (pre .1 .3, pre .1 .4, (first-small _ _ _ (pre .0 .sound) (pre .1 .0) (entry .ensures)), omega (arith, if1 .left))
 
 -- src/settle.rt:485:5
 lose-requires-2 : tie.Need-lose-requires-2
-lose-requires-2 c κs = ((losing-less (first-small _ _ _ (c .before .before .before .before .before .before .before .before .before .before .before .before .before .before .before .before .before .before .before .before .before .before .before .before .before .pre .0 .sound) (c .before .before .before .before .before .before .before .before .before .before .before .before .before .before .before .before .before .before .before .before .before .before .before .before .before .pre .1 .0) (c .before .before .before .before .before .before .before .before .before .before .before .before .before .before .before .entry .ensures)) (c .before .before .before .before .before .before .before .before .before .before .before .before .before .before .before .before .before .before .before .before .before .before .before .before .before .pre .1 .3) (c .before .before .before .before .before .before .lose .ensures) .long), (queued-losing (first-small _ _ _ (c .before .before .before .before .before .before .before .before .before .before .before .before .before .before .before .before .before .before .before .before .before .before .before .before .before .pre .0 .sound) (c .before .before .before .before .before .before .before .before .before .before .before .before .before .before .before .before .before .before .before .before .before .before .before .before .before .pre .1 .0) (c .before .before .before .before .before .before .before .before .before .before .before .before .before .before .before .entry .ensures)) (omega (arith, c .before .before .before .before .before .before .before .before .before .before .before .before .before .before .before .before .before .if1 .left)) (c .before .before .before .before .before .before .before .before .before .before .before .before .before .before .before .before .before .before .before .before .before .before .before .before .before .pre .1 .3) (queued-start _ _ _ (c .before .before .before .before .before .before .before .before .before .before .before .before .before .before .before .before .before .before .before .before .before .before .before .before .before .pre .1 .4)) (c .before .before .before .before .before .before .lose .ensures)) .long, (second-small _ _ _ (c .before .before .before .before .before .before .before .before .before .before .before .before .before .before .before .before .before .before .before .before .before .before .before .before .before .pre .0 .sound) (c .before .before .before .before .before .before .before .before .before .before .before .before .before .before .before .before .before .before .before .before .before .before .before .before .before .pre .1 .0) (c .before .before .before .before .before .before .before .before .before .before .before .before .before .before .entry2 .ensures)), (omega (arith, c .before .before .before .before .before .before .before .before .before .before .before .before .before .before .before .before .before .if1 .left, losing-on (c .before .before .before .before .before .before .lose .ensures))))
+lose-requires-2 c κs =
+    let lose = c .before .before .before .before .before .before .lose in
+    let entry2 = c .before .before .before .before .before .before .before .before .before .before .before .before .before .before .entry2 in
+    let entry = c .before .before .before .before .before .before .before .before .before .before .before .before .before .before .before .entry in
+    let if1 = c .before .before .before .before .before .before .before .before .before .before .before .before .before .before .before .before .before .if1 in
+    let pre = c .before .before .before .before .before .before .before .before .before .before .before .before .before .before .before .before .before .before .before .before .before .before .before .before .before .pre in (
+      (losing-less (first-small _ _ _ (pre .0 .sound) (pre .1 .0) (entry .ensures)) (pre .1 .3) (lose .ensures) .long),
+      (queued-losing (first-small _ _ _ (pre .0 .sound) (pre .1 .0) (entry .ensures)) (omega (arith, if1 .left)) (pre .1 .3) (queued-start _ _ _ (pre .1 .4)) (lose .ensures)) .long,
+      (second-small _ _ _ (pre .0 .sound) (pre .1 .0) (entry2 .ensures)),
+      (omega (arith, if1 .left, losing-on (lose .ensures))),
+    )
 
 -- src/settle.rt:453:1
 same-length : tie.Need-same-length
@@ -78,26 +104,43 @@ same-length-2 c = search needs
 
 -- src/settle.rt:453:1
 returns-2 : tie.Need-returns-2
-returns-2 c = λ h. (queued-losing (second-small _ _ _ (c .before .before .before .before .before .before .before .before .before .before .before .before .before .before .before .before .before .before .before .before .before .before .before .before .before .before .before .before .before .before .pre .0 .sound) (c .before .before .before .before .before .before .before .before .before .before .before .before .before .before .before .before .before .before .before .before .before .before .before .before .before .before .before .before .before .before .pre .1 .0) (c .before .before .before .before .before .before .before .before .before .before .before .before .before .before .before .before .before .before .before .entry2 .ensures)) (omega (arith, c .before .before .before .before .before .before .before .before .before .before .before .before .before .before .before .before .before .before .before .before .before .before .if1 .left, losing-on (c .before .before .before .before .before .before .before .before .before .before .before .lose .ensures))) (losing-less (first-small _ _ _ (c .before .before .before .before .before .before .before .before .before .before .before .before .before .before .before .before .before .before .before .before .before .before .before .before .before .before .before .before .before .before .pre .0 .sound) (c .before .before .before .before .before .before .before .before .before .before .before .before .before .before .before .before .before .before .before .before .before .before .before .before .before .before .before .before .before .before .pre .1 .0) (c .before .before .before .before .before .before .before .before .before .before .before .before .before .before .before .before .before .before .before .before .entry .ensures)) (c .before .before .before .before .before .before .before .before .before .before .before .before .before .before .before .before .before .before .before .before .before .before .before .before .before .before .before .before .before .before .pre .1 .3) (c .before .before .before .before .before .before .before .before .before .before .before .lose .ensures) .long) (queued-losing (first-small _ _ _ (c .before .before .before .before .before .before .before .before .before .before .before .before .before .before .before .before .before .before .before .before .before .before .before .before .before .before .before .before .before .before .pre .0 .sound) (c .before .before .before .before .before .before .before .before .before .before .before .before .before .before .before .before .before .before .before .before .before .before .before .before .before .before .before .before .before .before .pre .1 .0) (c .before .before .before .before .before .before .before .before .before .before .before .before .before .before .before .before .before .before .before .before .entry .ensures)) (omega (arith, c .before .before .before .before .before .before .before .before .before .before .before .before .before .before .before .before .before .before .before .before .before .before .if1 .left)) (c .before .before .before .before .before .before .before .before .before .before .before .before .before .before .before .before .before .before .before .before .before .before .before .before .before .before .before .before .before .before .pre .1 .3) (queued-start _ _ _ (c .before .before .before .before .before .before .before .before .before .before .before .before .before .before .before .before .before .before .before .before .before .before .before .before .before .before .before .before .before .before .pre .1 .4)) (c .before .before .before .before .before .before .before .before .before .before .before .lose .ensures)) (c .before .before .before .before .lose2 .ensures), λ sp F. leaving-row _ _ _ _ _ (c .before .before .before .before .before .before .before .before .before .before .before .before .before .before .before .before .before .before .before .before .before .before .before .before .before .before .before .before .before .before .pre .0 .setting) _ (c .before .before .before .before .before .before .before .before .before .before .before .before .before .before .before .before .before .before .before .before .before .before .before .before .before .before .before .before .before .before .pre .1 .1) (c .before .before .before .before .before .before .before .before .before .before .before .before .before .before .before .before .before .before .before .before .before .before .before .before .before .before .before .before .before .before .pre .1 .2) F (c .before .before .before .before .before .before .before .before .before .before .before .before .before .before .before .before .before .before .before .before .before .before .before .before .before .before .before .before .before .before .pre .1 .0) (fresh-reads _ _ _ (c .before .before .before .before .before .before .before .before .before .before .before .before .before .before .before .before .before .before .before .before .before .before .before .before .before .before .before .before .before .before .pre .0 .sound) (c .before .before .before .before .before .before .before .before .before .before .before .before .before .before .before .before .before .before .before .before .before .before .before .before .before .before .before .before .before .before .pre .1 .0) _ (c .before .before .before .before .before .before .before .before .before .before .before .before .before .before .before .before .before .before .before .before .before .before .before .before .before .before .before .before .before .before .args .links .now) (c .before .before .before .before .before .before .before .before .before .before .before .before .before .before .before .before .before .before .before .before .before .before .before .before .before .before .before .before .before .before .pre .0 .paired .pairs) (c .before .before .before .before .before .before .before .before .before .before .before .before .before .before .before .before .before .before .before .before .before .is-fresh .ensures)) (first-is _ _ _ (c .before .before .before .before .before .before .before .before .before .before .before .before .before .before .before .before .before .before .before .before .before .before .before .before .before .before .before .before .before .before .pre .0 .sound) (c .before .before .before .before .before .before .before .before .before .before .before .before .before .before .before .before .before .before .before .before .before .before .before .before .before .before .before .before .before .before .pre .1 .0) (c .before .before .before .before .before .before .before .before .before .before .before .before .before .before .before .before .before .before .before .before .entry .ensures)) (second-is _ _ _ (c .before .before .before .before .before .before .before .before .before .before .before .before .before .before .before .before .before .before .before .before .before .before .before .before .before .before .before .before .before .before .pre .0 .sound) (c .before .before .before .before .before .before .before .before .before .before .before .before .before .before .before .before .before .before .before .before .before .before .before .before .before .before .before .before .before .before .pre .1 .0) (c .before .before .before .before .before .before .before .before .before .before .before .before .before .before .before .before .before .before .before .entry2 .ensures)) (day-of _ _ _ (c .before .before .before .before .before .before .before .before .before .before .before .before .before .before .before .before .before .before .before .before .before .before .before .before .before .before .before .before .before .before .pre .0 .sound) (c .before .before .before .before .before .before .before .before .before .before .before .before .before .before .before .before .before .before .before .before .before .before .before .before .before .before .before .before .before .before .pre .1 .0) refl) refl refl (c .before .before .before .before .before .before .before .before .before .before .before .before .before .before .before .is-lost .ensures) (c .before .before .before .before .before .before .before .before .before .before .before .before .before .before .is-lost2 .ensures) (c .before .before .before .before .before .before .before .before .before .before .before .lose .ensures) (c .before .before .before .before .lose2 .ensures))
+returns-2 c =
+    let lose2 = c .before .before .before .before .lose2 in
+    let lose = c .before .before .before .before .before .before .before .before .before .before .before .lose in
+    let is-lost2 = c .before .before .before .before .before .before .before .before .before .before .before .before .before .before .is-lost2 in
+    let is-lost = c .before .before .before .before .before .before .before .before .before .before .before .before .before .before .before .is-lost in
+    let entry2 = c .before .before .before .before .before .before .before .before .before .before .before .before .before .before .before .before .before .before .before .entry2 in
+    let entry = c .before .before .before .before .before .before .before .before .before .before .before .before .before .before .before .before .before .before .before .before .entry in
+    let is-fresh = c .before .before .before .before .before .before .before .before .before .before .before .before .before .before .before .before .before .before .before .before .before .is-fresh in
+    let if1 = c .before .before .before .before .before .before .before .before .before .before .before .before .before .before .before .before .before .before .before .before .before .before .if1 in
+    let args = c .before .before .before .before .before .before .before .before .before .before .before .before .before .before .before .before .before .before .before .before .before .before .before .before .before .before .before .before .before .before .args in
+    let pre = c .before .before .before .before .before .before .before .before .before .before .before .before .before .before .before .before .before .before .before .before .before .before .before .before .before .before .before .before .before .before .pre in
+    λ h. (
+      queued-losing (second-small _ _ _ (pre .0 .sound) (pre .1 .0) (entry2 .ensures))
+          (omega (arith, if1 .left, losing-on (lose .ensures)))
+          (
+          losing-less (first-small _ _ _ (pre .0 .sound) (pre .1 .0) (entry .ensures)) (pre .1 .3)
+          (lose .ensures) .long
+          )
+          (
+          queued-losing (first-small _ _ _ (pre .0 .sound) (pre .1 .0) (entry .ensures)) (omega (arith, if1 .left))
+          (pre .1 .3) (queued-start _ _ _ (pre .1 .4)) (lose .ensures)
+          ) (lose2 .ensures),
+      λ sp F. leaving-row _ _ _ _ _ (pre .0 .setting) _ (pre .1 .1) (pre .1 .2) F (pre .1 .0)
+          (
+          fresh-reads _ _ _ (pre .0 .sound) (pre .1 .0) _ (args .links .now) (pre .0 .paired .pairs)
+          (is-fresh .ensures)
+          ) (first-is _ _ _ (pre .0 .sound) (pre .1 .0) (entry .ensures))
+          (second-is _ _ _ (pre .0 .sound) (pre .1 .0) (entry2 .ensures))
+          (day-of _ _ _ (pre .0 .sound) (pre .1 .0) refl) refl refl (is-lost .ensures) (is-lost2 .ensures)
+          (lose .ensures) (lose2 .ensures),
+    )
 
 pub leave-row-spec : {M : Type 1} → statement M
 leave-row-spec =
     tie.close
-    (tie.spec
-    returns
-    is-fresh-requires
-    entry-requires
-    entry-requires-2
-    mul-x
-    shared-slice-read-x
-    mul-y
-    shared-slice-read-y
-    mul-day
-    shared-slice-read-day
-    is-lost-requires
-    is-lost-requires-2
-    lose-requires
-    lose-requires-2
-    same-length
-    same-length-2
-    returns-2)
+    (
+    tie.spec returns is-fresh-requires entry-requires entry-requires-2 mul-x shared-slice-read-x mul-y
+    shared-slice-read-y mul-day shared-slice-read-day is-lost-requires is-lost-requires-2 lose-requires
+    lose-requires-2 same-length same-length-2 returns-2
+    )

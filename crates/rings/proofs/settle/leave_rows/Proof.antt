@@ -20,47 +20,77 @@ abbrev μ-loop : tie.MeasureT-loop
 
 -- src/settle.rt:509:5
 loop-holds : tie.Need-loop-holds Inv-loop μ-loop
-loop-holds c = (c .before .before .before .before .before .before .before .pre .1 .0, c .before .before .before .before .before .before .before .pre .1 .4, c .before .before .before .before .before .before .before .pre .1 .5, λ h. (queued-start _ _ _ (c .before .before .before .before .before .before .before .pre .1 .5), leaving-start _ _ _ _ _ (c .before .before .before .before .before .before .before .pre .0 .setting) _ (c .before .before .before .before .before .before .before .pre .1 .2) (c .before .before .before .before .before .before .before .pre .1 .3) _ (c .before .before .before .before .before .before .before .pre .1 .4)))
+loop-holds c =
+    let pre = c .before .before .before .before .before .before .before .pre in (
+      pre .1 .0,
+      pre .1 .4,
+      pre .1 .5,
+      λ h. (
+        queued-start _ _ _ (pre .1 .5),
+        leaving-start _ _ _ _ _ (pre .0 .setting) _ (pre .1 .2) (pre .1 .3) _ (pre .1 .4),
+      ),
+    )
 
 -- src/settle.rt:510:9
 leave-row-requires : tie.Need-leave-row-requires Inv-loop μ-loop
-leave-row-requires c κs = (c .before .before .before .before .before .before .before .before .before .before .before .pre .0, (omega (arith, c .before .before .loop-test .taken, c .before .before .before .before .before .before .before .before .before .before .before .pre .1 .1), c .before .before .before .before .before .before .before .before .before .before .before .pre .1 .2, c .before .before .before .before .before .before .before .before .before .before .before .pre .1 .3, c .before .before .before .loop .inv .1, c .before .before .before .loop .inv .2))
+leave-row-requires c κs =
+    let loop-test = c .before .before .loop-test in
+    let loop = c .before .before .before .loop in
+    let pre = c .before .before .before .before .before .before .before .before .before .before .before .pre in
+    (pre .0, (omega (arith, loop-test .taken, pre .1 .1), pre .1 .2, pre .1 .3, loop .inv .1, loop .inv .2))
 
 -- src/settle.rt:525:9
 add-j : tie.Need-add-j Inv-loop μ-loop
-add-j c = omega (arith, c .before .before .before .before .before .before .before .loop-test .taken, c .before .before .before .before .before .before .before .before .before .before .before .before .before .before .before .before .pre .1 .1, c .before .before .before .before .before .before .before .before .before .before .before .before .before .before .before .before .pre .0 .sound .most)
+add-j c =
+    let loop-test = c .before .before .before .before .before .before .before .loop-test in
+    let pre = c .before .before .before .before .before .before .before .before .before .before .before .before .before .before .before .before .pre in
+    omega (arith, loop-test .taken, pre .1 .1, pre .0 .sound .most)
 
 -- src/settle.rt:509:5
 loop-less : tie.Need-loop-less Inv-loop μ-loop
-loop-less c = omega (arith, c .before .before .before .before .before .before .before .loop-test .taken)
+loop-less c =
+    let loop-test = c .before .before .before .before .before .before .before .loop-test in
+    omega (arith, loop-test .taken)
 
 -- src/settle.rt:509:5
 loop-again : tie.Need-loop-again Inv-loop μ-loop
-loop-again c = (omega (arith, c .before .before .before .before .before .before .before .loop-test .taken), (c .before .before .before .before .leave-row .kept .1 .1 .1 .1 .1 .1 .1 .1 .1 .1 .1 .0 ∙ c .before .before .before .before .before .before .before .before .loop .inv .1), (c .before .before .before .before .leave-row .kept .1 .1 .1 .1 .1 .1 .1 .1 .1 .1 .1 .1 .0 ∙ c .before .before .before .before .before .before .before .before .loop .inv .2), λ h. (queued-then (c .before .before .before .before .before .before .before .before .loop .inv .3 (omega (arith, c .before .before .before .before .leave-row .ensures h .0 .grows h, h)) .0) (c .before .before .before .before .leave-row .ensures h .0), c .before .before .before .before .leave-row .ensures h .1 _ (c .before .before .before .before .before .before .before .before .loop .inv .3 (omega (arith, c .before .before .before .before .leave-row .ensures h .0 .grows h, h)) .1)))
+loop-again c =
+    let leave-row = c .before .before .before .before .leave-row in
+    let loop-test = c .before .before .before .before .before .before .before .loop-test in
+    let loop = c .before .before .before .before .before .before .before .before .loop in (
+      omega (arith, loop-test .taken),
+      (leave-row .kept .1 .1 .1 .1 .1 .1 .1 .1 .1 .1 .1 .0 ∙ loop .inv .1),
+      (leave-row .kept .1 .1 .1 .1 .1 .1 .1 .1 .1 .1 .1 .1 .0 ∙ loop .inv .2),
+      λ h. (
+        queued-then (loop .inv .3 (omega (arith, leave-row .ensures h .0 .grows h, h)) .0) (leave-row .ensures h .0),
+        leave-row .ensures h .1 _ (loop .inv .3 (omega (arith, leave-row .ensures h .0 .grows h, h)) .1),
+      ),
+    )
 
 -- src/settle.rt:489:1
 same-length : tie.Need-same-length Inv-loop μ-loop
-same-length c = c .before .loop .inv .1 ∙ sym (c .before .before .before .before .before .before .before .before .before .pre .1 .4)
+same-length c =
+    let loop = c .before .loop in
+    let pre = c .before .before .before .before .before .before .before .before .before .pre in
+    loop .inv .1 ∙ sym (pre .1 .4)
 
 -- src/settle.rt:489:1
 same-length-2 : tie.Need-same-length-2 Inv-loop μ-loop
-same-length-2 c = c .before .loop .inv .2 ∙ sym (c .before .before .before .before .before .before .before .before .before .pre .1 .5)
+same-length-2 c =
+    let loop = c .before .loop in
+    let pre = c .before .before .before .before .before .before .before .before .before .pre in
+    loop .inv .2 ∙ sym (pre .1 .5)
 
 -- src/settle.rt:489:1
 returns : tie.Need-returns Inv-loop μ-loop
-returns c = λ h. let i = c .before .loop .inv .3 h in (i .0, leaving-last (i .1) (c .before .loop .inv .0) (c .loop-test .left))
+returns c =
+    let loop = c .before .loop in
+    λ h. let i = loop .inv .3 h in (i .0, leaving-last (i .1) (loop .inv .0) (c .loop-test .left))
 
 pub leave-rows-spec : {M : Type 1} → statement M
 leave-rows-spec =
     tie.close
-    (tie.spec
-    Inv-loop
-    μ-loop
-    loop-holds
-    leave-row-requires
-    add-j
-    loop-less
-    loop-again
-    same-length
-    same-length-2
-    returns)
+    (
+    tie.spec Inv-loop μ-loop loop-holds leave-row-requires add-j loop-less loop-again same-length same-length-2
+    returns
+    )

@@ -16,42 +16,50 @@ abbrev μ-loop : tie.MeasureT-loop
 
 -- src/settle.rt:382:5
 loop-holds : tie.Need-loop-holds Inv-loop μ-loop
-loop-holds c = (omega arith, filled-start (λ (i : ℕ). i) _ (c .before .pre))
+loop-holds c =
+    let pre = c .before .pre in
+    (omega arith, filled-start (λ (i : ℕ). i) _ (pre))
 
 -- src/settle.rt:383:9
 put-requires : tie.Need-put-requires Inv-loop μ-loop
-put-requires c κs = (omega (arith, c .before .loop-test .taken, c .before .before .loop .inv .1 .long), omega (arith, c .before .loop-test .taken))
+put-requires c κs =
+    let loop-test = c .before .loop-test in
+    let loop = c .before .before .loop in
+    (omega (arith, loop-test .taken, loop .inv .1 .long), omega (arith, loop-test .taken))
 
 -- src/settle.rt:384:9
 add-u : tie.Need-add-u Inv-loop μ-loop
-add-u c = omega (arith, c .before .before .before .before .loop-test .taken)
+add-u c =
+    let loop-test = c .before .before .before .before .loop-test in
+    omega (arith, loop-test .taken)
 
 -- src/settle.rt:382:5
 loop-less : tie.Need-loop-less Inv-loop μ-loop
-loop-less c = omega (arith, c .before .before .before .before .loop-test .taken)
+loop-less c =
+    let loop-test = c .before .before .before .before .loop-test in
+    omega (arith, loop-test .taken)
 
 -- src/settle.rt:382:5
 loop-again : tie.Need-loop-again Inv-loop μ-loop
-loop-again c = (omega (arith, c .before .before .before .before .loop-test .taken), filled-next (c .before .before .before .before .before .loop .inv .1) (omega (arith, c .before .before .before .before .loop-test .taken)) refl (c .before .before .put .ensures))
+loop-again c =
+    let put = c .before .before .put in
+    let loop-test = c .before .before .before .before .loop-test in
+    let loop = c .before .before .before .before .before .loop in
+    (omega (arith, loop-test .taken), filled-next (loop .inv .1) (omega (arith, loop-test .taken)) refl (put .ensures))
 
 -- src/settle.rt:377:1
 same-length : tie.Need-same-length Inv-loop μ-loop
-same-length c = c .before .loop .inv .1 .long ∙ sym (c .before .before .before .pre)
+same-length c =
+    let loop = c .before .loop in
+    let pre = c .before .before .before .pre in
+    loop .inv .1 .long ∙ sym (pre)
 
 -- src/settle.rt:377:1
 returns : tie.Need-returns Inv-loop μ-loop
-returns c = (c .before .loop .inv .1 .long, λ u h. c .before .loop .inv .1 .filled u (omega (arith, c .loop-test .left, h)))
+returns c =
+    let loop = c .before .loop in
+    (loop .inv .1 .long, λ u h. loop .inv .1 .filled u (omega (arith, c .loop-test .left, h)))
 
 pub list-all-spec : {M : Type 1} → statement M
 list-all-spec =
-    tie.close
-    (tie.spec
-    Inv-loop
-    μ-loop
-    loop-holds
-    put-requires
-    add-u
-    loop-less
-    loop-again
-    same-length
-    returns)
+    tie.close (tie.spec Inv-loop μ-loop loop-holds put-requires add-u loop-less loop-again same-length returns)

@@ -22,7 +22,15 @@ slice-read-old c = search needs
 
 -- src/settle.rt:171:9
 look-requires : tie.Need-look-requires
-look-requires c κs = (c .before .before .before .before .before .before .before .before .before .before .pre .0, (((c .before .before .before .before .before .before .before .before .before .before .pre .1 .0 .7), c .before .before .before .before .before .before .before .before .before .before .pre .1 .0 .4, c .before .before .before .before .before .before .before .before .before .before .pre .1 .0 .10, c .before .before .before .before .before .before .before .before .before .before .pre .1 .0 .0, c .before .before .before .before .before .before .before .before .before .before .pre .1 .0 .9, λ n. c .before .before .before .before .before .before .before .before .before .before .pre .1 .0 .11 .rows _ (c .before .before .before .before .before .before .before .before .before .before .pre .1 .0 .7) (λ e. n (sym (guess-at (c .before .before .before .before .before .before .before .before .before .before .args .times .now) _ (c .before .before .before .before .before .before .before .before .before .before .pre .1 .0 .4) (c .before .before .before .before .before .before .before .before .before .before .pre .1 .0 .7)) ∙ e))), c .before .before .before .before .before .before .before .before .before .before .pre .1 .1 .0))
+look-requires c κs =
+    let args = c .before .before .before .before .before .before .before .before .before .before .args in
+    let pre = c .before .before .before .before .before .before .before .before .before .before .pre in (
+      pre .0,
+      (
+        ((pre .1 .0 .7), pre .1 .0 .4, pre .1 .0 .10, pre .1 .0 .0, pre .1 .0 .9, λ n. pre .1 .0 .11 .rows _ (pre .1 .0 .7) (λ e. n (sym (guess-at (args .times .now) _ (pre .1 .0 .4) (pre .1 .0 .7)) ∙ e))),
+        pre .1 .1 .0,
+      ),
+    )
 
 -- src/settle.rt:188:9
 same-length : tie.Need-same-length
@@ -30,15 +38,23 @@ same-length c = search needs
 
 -- src/settle.rt:188:9
 returns : tie.Need-returns
-returns c = ((c .before .look .ensures .1, λ h. absurd (omega (arith, h))), (λ v e. e, record { counted = λ y h. absurd (omega (arith, h)); same = λ y. refl }))
+returns c =
+    let look = c .before .look in (
+      (look .ensures .1, λ h. absurd (omega (arith, h))),
+      (λ v e. e, record { counted = λ y h. absurd (omega (arith, h)); same = λ y. refl }),
+    )
 
 -- src/settle.rt:194:5
 mul-spare : tie.Need-mul-spare
-mul-spare c = omega (arith, c .before .before .before .before .before .before .before .before .before .before .before .before .pre .1 .0 .7)
+mul-spare c =
+    let pre = c .before .before .before .before .before .before .before .before .before .before .before .before .pre in
+    omega (arith, pre .1 .0 .7)
 
 -- src/settle.rt:194:5
 slice-write-spare : tie.Need-slice-write-spare
-slice-write-spare c = omega (arith, c .before .before .before .before .before .before .before .before .before .before .before .before .pre .1 .0 .7, c .before .before .before .before .before .before .before .before .before .before .before .before .pre .1 .0 .5)
+slice-write-spare c =
+    let pre = c .before .before .before .before .before .before .before .before .before .before .before .before .pre in
+    omega (arith, pre .1 .0 .7, pre .1 .0 .5)
 
 -- src/settle.rt:196:9
 same-length-2 : tie.Need-same-length-2
@@ -50,27 +66,54 @@ same-length-3 c = search needs
 
 -- src/settle.rt:196:9
 returns-2 : tie.Need-returns-2
-returns-2 c = ((c .before .before .look .ensures .1, λ h xs Z. account-same _ _ _ _ _ (c .before .before .before .before .before .before .before .before .before .before .before .before .before .pre .0 .setting) (Z .settling) (c .before .before .before .before .before .before .before .before .before .before .before .before .before .pre .1 .0 .7) (c .before .before .look .ensures .0 (c .before .if1 .left)) (Z .waiting) (c .before .before .before .before .before .before .before .before .before .before .before .before .before .pre .1 .0 .8) (Z .behind) (Z .risen) (c .before .before .before .before .before .before .before .before .before .before .before .before .before .pre .1 .0 .1) (c .before .before .before .before .before .before .before .before .before .before .before .before .before .pre .1 .0 .2) (c .if2 .taken)), (λ v e. e, record { counted = λ y h. c .before .before .before .before .before .before .before .before .before .before .before .before .before .pre .1 .1 .1 y .1; same = λ y. refl }))
+returns-2 c =
+    let if1 = c .before .if1 in
+    let look = c .before .before .look in
+    let pre = c .before .before .before .before .before .before .before .before .before .before .before .before .before .pre in (
+      (look .ensures .1, λ h xs Z. account-same _ _ _ _ _ (pre .0 .setting) (Z .settling) (pre .1 .0 .7) (look .ensures .0 (if1 .left)) (Z .waiting) (pre .1 .0 .8) (Z .behind) (Z .risen) (pre .1 .0 .1) (pre .1 .0 .2) (c .if2 .taken)),
+      (λ v e. e, record { counted = λ y h. pre .1 .1 .1 y .1; same = λ y. refl }),
+    )
 
 -- src/settle.rt:202:5
 mul-times : tie.Need-mul-times
-mul-times c = omega (arith, c .before .before .before .before .before .before .before .before .before .before .before .before .before .pre .1 .0 .7)
+mul-times c =
+    let pre = c .before .before .before .before .before .before .before .before .before .before .before .before .before .pre in
+    omega (arith, pre .1 .0 .7)
 
 -- src/settle.rt:202:5
 slice-write-times : tie.Need-slice-write-times
-slice-write-times c = omega (arith, c .before .before .before .before .before .before .before .before .before .before .before .before .before .pre .1 .0 .7, c .before .before .before .before .before .before .before .before .before .before .before .before .before .pre .1 .0 .4)
+slice-write-times c =
+    let pre = c .before .before .before .before .before .before .before .before .before .before .before .before .before .pre in
+    omega (arith, pre .1 .0 .7, pre .1 .0 .4)
 
 -- src/settle.rt:203:5
 put-requires : tie.Need-put-requires
-put-requires c κs = (omega (arith, c .before .before .before .before .before .before .before .before .before .before .before .before .before .before .pre .1 .0 .1, c .before .before .before .before .before .before .before .before .before .before .before .before .before .before .pre .1 .0 .2, c .before .before .before .before .before .before .before .before .before .before .before .before .before .before .pre .1 .0 .3, c .before .before .before .before .before .before .before .before .before .before .before .before .before .before .pre .1 .0 .6), omega (arith, c .before .before .before .before .before .before .before .before .before .before .before .before .before .before .pre .1 .0 .7))
+put-requires c κs =
+    let pre = c .before .before .before .before .before .before .before .before .before .before .before .before .before .before .pre in
+    (omega (arith, pre .1 .0 .1, pre .1 .0 .2, pre .1 .0 .3, pre .1 .0 .6), omega (arith, pre .1 .0 .7))
 
 -- src/settle.rt:204:9
 lose-others-requires : tie.Need-lose-others-requires
-lose-others-requires c κs = (c .before .before .before .before .before .before .before .before .before .before .before .before .before .before .before .before .before .before .before .before .before .pre .0, (((c .before .before .before .before .before .before .before .before .before .before .before .before .before .before .before .before .before .before .before .before .before .pre .1 .0 .7), search (needs, c .before .before .before .before .before .before .before .before .before .before .before .before .before .before .before .before .before .before .before .before .before .pre .1 .0 .4), search (needs, c .before .before .before .before .before .before .before .before .before .before .before .before .before .before .before .before .before .before .before .before .before .pre .1 .0 .5), c .before .before .before .before .before .before .put .kept .0 ∙ c .before .before .before .before .before .before .before .before .before .before .before .before .before .before .before .before .before .before .before .before .before .pre .1 .0 .6, c .before .before .before .before .before .before .before .before .before .before .before .before .before .before .before .before .before .before .before .before .before .pre .1 .0 .9, account-every (c .before .before .before .before .before .before .before .before .before .before .before .before .before .before .before .before .before .before .before .before .before .args .times .now) (omega (arith, c .before .before .before .before .before .before .before .before .before .before .before .before .before .before .before .before .before .before .before .before .before .pre .0 .setting .fits)) (c .before .before .before .before .before .before .before .before .before .before .before .before .before .before .before .before .before .before .before .before .before .pre .1 .0 .4) (c .before .before .before .before .before .before .before .before .before .before .before .before .before .before .before .before .before .before .before .before .before .pre .1 .0 .7) (c .before .before .before .before .before .before .before .before .before .before .before .before .before .before .before .before .before .before .before .before .before .pre .1 .0 .10) (c .before .before .before .before .before .before .before .before .before .before .look .ensures .0 (c .before .before .before .before .before .before .before .before .before .if1 .left)) (c .before .before .before .before .before .before .before .before .if2 .left) (c .before .before .before .before .before .before .before .before .before .before .before .before .before .before .before .before .before .before .before .before .before .pre .1 .0 .11), account-days (c .before .before .before .before .before .before .before .before .before .before .before .before .before .before .before .before .before .before .before .before .before .args .times .now) (omega (arith, c .before .before .before .before .before .before .before .before .before .before .before .before .before .before .before .before .before .before .before .before .before .pre .0 .setting .fits)) (c .before .before .before .before .before .before .before .before .before .before .before .before .before .before .before .before .before .before .before .before .before .pre .1 .0 .4) (c .before .before .before .before .before .before .before .before .before .before .before .before .before .before .before .before .before .before .before .before .before .pre .1 .0 .7) (c .before .before .before .before .before .before .before .before .before .before .before .before .before .before .before .before .before .before .before .before .before .pre .1 .0 .10) (c .before .before .before .before .before .before .before .before .before .before .look .ensures .0 (c .before .before .before .before .before .before .before .before .before .if1 .left)), account-now (c .before .before .before .before .before .before .before .before .before .before .before .before .before .before .before .before .before .before .before .before .before .args .times .now) (omega (arith, c .before .before .before .before .before .before .before .before .before .before .before .before .before .before .before .before .before .before .before .before .before .pre .0 .setting .fits)) (c .before .before .before .before .before .before .before .before .before .before .before .before .before .before .before .before .before .before .before .before .before .pre .1 .0 .4) (c .before .before .before .before .before .before .before .before .before .before .before .before .before .before .before .before .before .before .before .before .before .pre .1 .0 .7) (c .before .before .before .before .before .before .before .before .before .before .before .before .before .before .before .before .before .before .before .before .before .pre .1 .0 .10) (c .before .before .before .before .before .before .before .before .before .before .look .ensures .0 (c .before .before .before .before .before .before .before .before .before .if1 .left))), λ y. account-raised (c .before .before .before .before .before .before .before .before .before .before .before .before .before .before .before .before .before .before .before .before .before .args .times .now) (omega (arith, c .before .before .before .before .before .before .before .before .before .before .before .before .before .before .before .before .before .before .before .before .before .pre .0 .setting .fits)) (c .before .before .before .before .before .before .before .before .before .before .before .before .before .before .before .before .before .before .before .before .before .pre .1 .0 .4) (c .before .before .before .before .before .before .before .before .before .before .before .before .before .before .before .before .before .before .before .before .before .pre .1 .0 .7) (c .before .before .before .before .before .before .before .before .before .before .before .before .before .before .before .before .before .before .before .before .before .pre .1 .0 .10) (c .before .before .before .before .before .before .before .before .before .before .look .ensures .0 (c .before .before .before .before .before .before .before .before .before .if1 .left)) (c .before .before .before .before .before .before .before .before .if2 .left) (c .before .before .before .before .before .before .before .before .before .before .before .before .before .before .before .before .before .before .before .before .before .pre .1 .1 .1 y .0) (c .before .before .before .before .before .before .before .before .before .before .before .before .before .before .before .before .before .before .before .before .before .pre .1 .1 .1 y .1)))
+lose-others-requires c κs =
+    let put = c .before .before .before .before .before .before .put in
+    let if2 = c .before .before .before .before .before .before .before .before .if2 in
+    let if1 = c .before .before .before .before .before .before .before .before .before .if1 in
+    let look = c .before .before .before .before .before .before .before .before .before .before .look in
+    let args = c .before .before .before .before .before .before .before .before .before .before .before .before .before .before .before .before .before .before .before .before .before .args in
+    let pre = c .before .before .before .before .before .before .before .before .before .before .before .before .before .before .before .before .before .before .before .before .before .pre in (
+      pre .0,
+      (
+        ((pre .1 .0 .7), search (needs, pre .1 .0 .4), search (needs, pre .1 .0 .5), put .kept .0 ∙ pre .1 .0 .6, pre .1 .0 .9, account-every (args .times .now) (omega (arith, pre .0 .setting .fits)) (pre .1 .0 .4) (pre .1 .0 .7) (pre .1 .0 .10) (look .ensures .0 (if1 .left)) (if2 .left) (pre .1 .0 .11), account-days (args .times .now) (omega (arith, pre .0 .setting .fits)) (pre .1 .0 .4) (pre .1 .0 .7) (pre .1 .0 .10) (look .ensures .0 (if1 .left)), account-now (args .times .now) (omega (arith, pre .0 .setting .fits)) (pre .1 .0 .4) (pre .1 .0 .7) (pre .1 .0 .10) (look .ensures .0 (if1 .left))),
+        λ y. account-raised (args .times .now) (omega (arith, pre .0 .setting .fits)) (pre .1 .0 .4) (pre .1 .0 .7)
+            (pre .1 .0 .10) (look .ensures .0 (if1 .left)) (if2 .left) (pre .1 .1 .1 y .0) (pre .1 .1 .1 y .1),
+      ),
+    )
 
 -- src/settle.rt:225:16
 add-t25 : tie.Need-add-t25
-add-t25 c = omega (arith, c .before .before .before .before .before .before .before .before .before .before .before .before .before .before .before .before .before .before .before .before .before .before .before .before .before .before .before .before .pre .1 .0 .1, c .before .before .before .before .before .before .before .before .before .before .before .before .before .before .before .before .before .before .before .before .before .before .before .before .before .before .before .before .pre .1 .0 .2, c .before .before .before .before .before .before .before .before .before .before .before .before .before .before .before .before .before .before .before .before .before .before .before .before .before .before .before .before .pre .1 .0 .3)
+add-t25 c =
+    let pre = c .before .before .before .before .before .before .before .before .before .before .before .before .before .before .before .before .before .before .before .before .before .before .before .before .before .before .before .before .pre in
+    omega (arith, pre .1 .0 .1, pre .1 .0 .2, pre .1 .0 .3)
 
 -- src/settle.rt:140:1
 same-length-4 : tie.Need-same-length-4
@@ -78,7 +121,12 @@ same-length-4 c = search needs
 
 -- src/settle.rt:140:1
 same-length-5 : tie.Need-same-length-5
-same-length-5 c = c .before .before .before .before .before .before .lose-others .kept .1 .1 .1 .1 .1 .1 .1 .1 .1 .1 .1 .1 .1 .1 .0 ∙ length-set (c .before .before .before .before .before .before .before .before .before .before .before .before .before .before .before .before .before .before .before .before .before .before .before .before .before .before .before .before .args .spare .now) (c .before .before .before .before .before .before .before .before .before .before .before .before .before .before .before .before .before .before .before .before .before .before .before .before .before .before .before .before .args .u) (c .before .before .before .before .before .before .before .before .before .before .before .before .before .before .before .before .before .look .result .spare)
+same-length-5 c =
+    let lose-others = c .before .before .before .before .before .before .lose-others in
+    let look = c .before .before .before .before .before .before .before .before .before .before .before .before .before .before .before .before .before .look in
+    let args = c .before .before .before .before .before .before .before .before .before .before .before .before .before .before .before .before .before .before .before .before .before .before .before .before .before .before .before .before .args in
+    lose-others .kept .1 .1 .1 .1 .1 .1 .1 .1 .1 .1 .1 .1 .1 .1 .0 ∙ length-set (args .spare .now) (args .u)
+    (look .result .spare)
 
 -- src/settle.rt:140:1
 same-length-6 : tie.Need-same-length-6
@@ -90,29 +138,26 @@ same-length-7 c = search needs
 
 -- src/settle.rt:140:1
 returns-3 : tie.Need-returns-3
-returns-3 c = ((c .before .before .before .before .before .before .before .before .before .before .before .before .before .before .before .before .before .look .ensures .1, λ h xs Z. account-rise _ _ _ _ _ (c .before .before .before .before .before .before .before .before .before .before .before .before .before .before .before .before .before .before .before .before .before .before .before .before .before .before .before .before .pre .0 .setting) (Z .settling) (c .before .before .before .before .before .before .before .before .before .before .before .before .before .before .before .before .before .before .before .before .before .before .before .before .before .before .before .before .pre .1 .0 .7) (c .before .before .before .before .before .before .before .before .before .before .before .before .before .before .before .before .before .look .ensures .0 (c .before .before .before .before .before .before .before .before .before .before .before .before .before .before .before .before .if1 .left)) (Z .waiting) (c .before .before .before .before .before .before .before .before .before .before .before .before .before .before .before .before .before .before .before .before .before .before .before .before .before .before .before .before .pre .1 .0 .8) (Z .behind) (Z .risen) (c .before .before .before .before .before .before .before .before .before .before .before .before .before .before .before .before .before .before .before .before .before .before .before .before .before .before .before .before .pre .1 .0 .1) (c .before .before .before .before .before .before .before .before .before .before .before .before .before .before .before .before .before .before .before .before .before .before .before .before .before .before .before .before .pre .1 .0 .2) (c .before .before .before .before .before .before .before .before .before .before .before .before .before .put .ensures) (c .before .before .before .before .before .before .lose-others .ensures .0 h .0) (c .before .before .before .before .before .before .lose-others .ensures .0 h .1) h), (account-never (c .before .before .before .before .before .before .before .before .before .before .before .before .before .before .before .before .before .before .before .before .before .before .before .before .before .before .before .before .args .times .now) (omega (arith, c .before .before .before .before .before .before .before .before .before .before .before .before .before .before .before .before .before .before .before .before .before .before .before .before .before .before .before .before .pre .0 .setting .fits)) (c .before .before .before .before .before .before .before .before .before .before .before .before .before .before .before .before .before .before .before .before .before .before .before .before .before .before .before .before .pre .1 .0 .4) (c .before .before .before .before .before .before .before .before .before .before .before .before .before .before .before .before .before .before .before .before .before .before .before .before .before .before .before .before .pre .1 .0 .7) (c .before .before .before .before .before .before .before .before .before .before .before .before .before .before .before .before .before .before .before .before .before .before .before .before .before .before .before .before .pre .1 .0 .10) (c .before .before .before .before .before .before .before .before .before .before .before .before .before .before .before .before .before .look .ensures .0 (c .before .before .before .before .before .before .before .before .before .before .before .before .before .before .before .before .if1 .left)), c .before .before .before .before .before .before .lose-others .ensures .1))
+returns-3 c =
+    let lose-others = c .before .before .before .before .before .before .lose-others in
+    let put = c .before .before .before .before .before .before .before .before .before .before .before .before .before .put in
+    let if1 = c .before .before .before .before .before .before .before .before .before .before .before .before .before .before .before .before .if1 in
+    let look = c .before .before .before .before .before .before .before .before .before .before .before .before .before .before .before .before .before .look in
+    let args = c .before .before .before .before .before .before .before .before .before .before .before .before .before .before .before .before .before .before .before .before .before .before .before .before .before .before .before .before .args in
+    let pre = c .before .before .before .before .before .before .before .before .before .before .before .before .before .before .before .before .before .before .before .before .before .before .before .before .before .before .before .before .pre in (
+      (look .ensures .1, λ h xs Z. account-rise _ _ _ _ _ (pre .0 .setting) (Z .settling) (pre .1 .0 .7) (look .ensures .0 (if1 .left)) (Z .waiting) (pre .1 .0 .8) (Z .behind) (Z .risen) (pre .1 .0 .1) (pre .1 .0 .2) (put .ensures) (lose-others .ensures .0 h .0) (lose-others .ensures .0 h .1) h),
+      (
+        account-never (args .times .now) (omega (arith, pre .0 .setting .fits)) (pre .1 .0 .4) (pre .1 .0 .7)
+            (pre .1 .0 .10) (look .ensures .0 (if1 .left)),
+        lose-others .ensures .1,
+      ),
+    )
 
 pub settle-far-spec : {M : Type 1} → statement M
 settle-far-spec =
     tie.close
-    (tie.spec
-    mul-old
-    slice-read-old
-    look-requires
-    same-length
-    returns
-    mul-spare
-    slice-write-spare
-    same-length-2
-    same-length-3
-    returns-2
-    mul-times
-    slice-write-times
-    put-requires
-    lose-others-requires
-    add-t25
-    same-length-4
-    same-length-5
-    same-length-6
-    same-length-7
-    returns-3)
+    (
+    tie.spec mul-old slice-read-old look-requires same-length returns mul-spare slice-write-spare same-length-2
+    same-length-3 returns-2 mul-times slice-write-times put-requires lose-others-requires add-t25 same-length-4
+    same-length-5 same-length-6 same-length-7 returns-3
+    )

@@ -55,7 +55,14 @@ same-length-2 c = search needs
 
 -- src/shelf.rt:16:1
 returns-2 : tie.Need-returns-2
-returns-2 c = passing-move (c .before .before .before .before .before .before .before .before .before .before .entry .ensures) (c .before .before .before .before .before .before .before .before .entry2 .ensures) (c .before .before .before .before .before .before .before .if1 .left) (c .before .before .before .before .before .entry3 .ensures) (c .before .before .before .before .if2 .taken) (c .before .before .put .ensures)
+returns-2 c =
+    let put = c .before .before .put in
+    let if2 = c .before .before .before .before .if2 in
+    let entry3 = c .before .before .before .before .before .entry3 in
+    let if1 = c .before .before .before .before .before .before .before .if1 in
+    let entry2 = c .before .before .before .before .before .before .before .before .entry2 in
+    let entry = c .before .before .before .before .before .before .before .before .before .before .entry in
+    passing-move (entry .ensures) (entry2 .ensures) (if1 .left) (entry3 .ensures) (if2 .taken) (put .ensures)
 
 -- src/shelf.rt:16:1
 same-length-3 : tie.Need-same-length-3
@@ -68,18 +75,7 @@ returns-3 c = Passing.stays refl
 pub pass-head-spec : {M : Type 1} → statement M
 pass-head-spec =
     tie.close
-    (tie.spec
-    entry-requires
-    add-entry
-    entry-requires-2
-    same-length
-    returns
-    add-entry-2
-    entry-requires-3
-    add-put
-    add-put-2
-    put-requires
-    same-length-2
-    returns-2
-    same-length-3
-    returns-3)
+    (
+    tie.spec entry-requires add-entry entry-requires-2 same-length returns add-entry-2 entry-requires-3 add-put
+    add-put-2 put-requires same-length-2 returns-2 same-length-3 returns-3
+    )

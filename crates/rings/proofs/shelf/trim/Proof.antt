@@ -19,7 +19,9 @@ abbrev μ-loop : tie.MeasureT-loop
 
 -- src/shelf.rt:89:5
 loop-holds : tie.Need-loop-holds Inv-loop μ-loop
-loop-holds c = (refl, trimming-start _ (c .before .before .before .before .before .pre .1 .0))
+loop-holds c =
+    let pre = c .before .before .before .before .before .pre in
+    (refl, trimming-start _ (pre .1 .0))
 
 -- src/shelf.rt:90:12
 mul-if1 : tie.Need-mul-if1 Inv-loop μ-loop
@@ -27,59 +29,75 @@ mul-if1 c = omega (arith, c .loop-test .taken)
 
 -- src/shelf.rt:90:12
 shared-slice-read-if1 : tie.Need-shared-slice-read-if1 Inv-loop μ-loop
-shared-slice-read-if1 c = omega (arith, c .before .loop-test .taken, c .before .before .before .before .before .before .before .before .pre .1 .1)
+shared-slice-read-if1 c =
+    let loop-test = c .before .loop-test in
+    let pre = c .before .before .before .before .before .before .before .before .pre in
+    omega (arith, loop-test .taken, pre .1 .1)
 
 -- src/shelf.rt:91:13
 add-u : tie.Need-add-u Inv-loop μ-loop
-add-u c = omega (arith, c .before .before .loop-test .taken)
+add-u c =
+    let loop-test = c .before .before .loop-test in
+    omega (arith, loop-test .taken)
 
 -- src/shelf.rt:89:5
 loop-less : tie.Need-loop-less Inv-loop μ-loop
-loop-less c = omega (arith, c .before .before .loop-test .taken)
+loop-less c =
+    let loop-test = c .before .before .loop-test in
+    omega (arith, loop-test .taken)
 
 -- src/shelf.rt:89:5
 loop-again : tie.Need-loop-again Inv-loop μ-loop
-loop-again c = (c .before .before .before .loop .inv .0, c .before .before .before .loop .inv .1)
+loop-again c =
+    let loop = c .before .before .before .loop in
+    (loop .inv .0, loop .inv .1)
 
 -- src/shelf.rt:94:9
 trim-account-requires : tie.Need-trim-account-requires Inv-loop μ-loop
-trim-account-requires c κs = (c .before .before .before .before .before .before .before .before .before .before .pre .0, (c .before .before .before .before .loop .inv .1 .shelves, c .before .before .before .before .before .before .before .before .before .before .pre .1 .1, c .before .before .before .loop-test .taken))
+trim-account-requires c κs =
+    let loop-test = c .before .before .before .loop-test in
+    let loop = c .before .before .before .before .loop in
+    let pre = c .before .before .before .before .before .before .before .before .before .before .pre in
+    (pre .0, (loop .inv .1 .shelves, pre .1 .1, loop-test .taken))
 
 -- src/shelf.rt:95:9
 add-u-2 : tie.Need-add-u-2 Inv-loop μ-loop
-add-u-2 c = omega (arith, c .before .before .before .before .before .before .loop-test .taken)
+add-u-2 c =
+    let loop-test = c .before .before .before .before .before .before .loop-test in
+    omega (arith, loop-test .taken)
 
 -- src/shelf.rt:89:5
 loop-less-2 : tie.Need-loop-less-2 Inv-loop μ-loop
-loop-less-2 c = omega (arith, c .before .before .before .before .before .before .loop-test .taken)
+loop-less-2 c =
+    let loop-test = c .before .before .before .before .before .before .loop-test in
+    omega (arith, loop-test .taken)
 
 -- src/shelf.rt:89:5
 loop-again-2 : tie.Need-loop-again-2 Inv-loop μ-loop
-loop-again-2 c = (c .before .before .trim-account .ensures .long ∙ c .before .before .before .before .before .before .before .loop .inv .0, trimming-next (c .before .before .before .before .before .before .before .loop .inv .1) (c .before .before .before .before .before .before .loop-test .taken) (c .before .before .trim-account .ensures))
+loop-again-2 c =
+    let trim-account = c .before .before .trim-account in
+    let loop-test = c .before .before .before .before .before .before .loop-test in
+    let loop = c .before .before .before .before .before .before .before .loop in (
+      trim-account .ensures .long ∙ loop .inv .0,
+      trimming-next (loop .inv .1) (loop-test .taken) (trim-account .ensures),
+    )
 
 -- src/shelf.rt:83:1
 same-length : tie.Need-same-length Inv-loop μ-loop
-same-length c = c .before .loop .inv .0
+same-length c =
+    let loop = c .before .loop in
+    loop .inv .0
 
 -- src/shelf.rt:83:1
 returns : tie.Need-returns Inv-loop μ-loop
-returns c = (c .before .loop .inv .1 .shelves, c .before .loop .inv .1 .covered)
+returns c =
+    let loop = c .before .loop in
+    (loop .inv .1 .shelves, loop .inv .1 .covered)
 
 pub trim-spec : {M : Type 1} → statement M
 trim-spec =
     tie.close
-    (tie.spec
-    Inv-loop
-    μ-loop
-    loop-holds
-    mul-if1
-    shared-slice-read-if1
-    add-u
-    loop-less
-    loop-again
-    trim-account-requires
-    add-u-2
-    loop-less-2
-    loop-again-2
-    same-length
-    returns)
+    (
+    tie.spec Inv-loop μ-loop loop-holds mul-if1 shared-slice-read-if1 add-u loop-less loop-again
+    trim-account-requires add-u-2 loop-less-2 loop-again-2 same-length returns
+    )

@@ -29,55 +29,157 @@ abbrev μ-loop : tie.MeasureT-loop
 
 -- src/shelf.rt:66:9
 entry-requires : tie.Need-entry-requires Inv-loop μ-loop
-entry-requires c κs = omega (arith, c .before .before .before .before .before .before .pre .1 .2, c .before .before .before .before .before .before .pre .1 .0 .long)
+entry-requires c κs =
+    let pre = c .before .before .before .before .before .before .pre in
+    omega (arith, pre .1 .2, pre .1 .0 .long)
 
 -- src/shelf.rt:67:32
 add-entry : tie.Need-add-entry Inv-loop μ-loop
-add-entry c = omega (arith, c .before .before .before .before .before .before .before .before .pre .1 .2)
+add-entry c =
+    let pre = c .before .before .before .before .before .before .before .before .pre in
+    omega (arith, pre .1 .2)
 
 -- src/shelf.rt:67:9
 entry-requires-2 : tie.Need-entry-requires-2 Inv-loop μ-loop
-entry-requires-2 c κs = omega (arith, c .before .before .before .before .before .before .before .before .pre .1 .2, c .before .before .before .before .before .before .before .before .pre .1 .0 .long)
+entry-requires-2 c κs =
+    let pre = c .before .before .before .before .before .before .before .before .pre in
+    omega (arith, pre .1 .2, pre .1 .0 .long)
 
 -- src/shelf.rt:69:5
 loop-holds : tie.Need-loop-holds Inv-loop μ-loop
-loop-holds c = (c .before .before .entry .ensures, sift-start _ (c .before .before .before .before .before .before .before .before .before .pre .1 .0 .shelf _ (c .before .before .before .before .before .before .before .before .before .pre .1 .2)) (c .entry2 .ensures))
+loop-holds c =
+    let entry = c .before .before .entry in
+    let pre = c .before .before .before .before .before .before .before .before .before .pre in
+    (entry .ensures, sift-start _ (pre .1 .0 .shelf _ (pre .1 .2)) (c .entry2 .ensures))
 
 -- src/shelf.rt:70:32
 add-entry-2 : tie.Need-add-entry-2 Inv-loop μ-loop
-add-entry-2 c = omega (arith, sift-few (c .before .before .before .before .before .before .before .before .before .before .before .before .pre .1 .0) (c .before .before .before .before .before .before .before .before .before .before .before .before .pre .1 .2) (c .before .before .loop .inv .1) (c .before .before .before .before .before .before .before .before .before .before .before .before .pre .0 .most))
+add-entry-2 c =
+    let loop = c .before .before .loop in
+    let pre = c .before .before .before .before .before .before .before .before .before .before .before .before .pre in
+    omega (arith, sift-few (pre .1 .0) (pre .1 .2) (loop .inv .1) (pre .0 .most))
 
 -- src/shelf.rt:70:13
 entry-requires-3 : tie.Need-entry-requires-3 Inv-loop μ-loop
-entry-requires-3 c κs = sift-place (c .before .before .before .before .before .before .before .before .before .before .before .before .pre .1 .0) (c .before .before .before .before .before .before .before .before .before .before .before .before .pre .1 .2) (c .before .before .loop .inv .1) (omega (arith, c .before .before .loop .inv .0, c .before .loop-test .taken)) refl .0
+entry-requires-3 c κs =
+    let loop-test = c .before .loop-test in
+    let loop = c .before .before .loop in
+    let pre = c .before .before .before .before .before .before .before .before .before .before .before .before .pre in
+    sift-place (pre .1 .0) (pre .1 .2) (loop .inv .1) (omega (arith, loop .inv .0, loop-test .taken)) refl .0
 
 -- src/shelf.rt:71:13
 entry-requires-4 : tie.Need-entry-requires-4 Inv-loop μ-loop
-entry-requires-4 c κs = omega (arith, sift-row (c .before .before .before .before .before .before .before .before .before .before .before .before .before .pre .1 .0) (c .before .before .before .before .before .before .before .before .before .before .before .before .before .pre .1 .2) (c .before .before .before .loop .inv .1) (omega (arith, c .before .before .before .loop .inv .0, c .before .before .loop-test .taken)) (c .entry3 .ensures), c .before .before .before .before .before .before .before .before .before .before .before .before .before .pre .0 .firsts)
+entry-requires-4 c κs =
+    let loop-test = c .before .before .loop-test in
+    let loop = c .before .before .before .loop in
+    let pre = c .before .before .before .before .before .before .before .before .before .before .before .before .before .pre in
+    omega (
+      arith,
+      sift-row (pre .1 .0) (pre .1 .2) (loop .inv .1) (omega (arith, loop .inv .0, loop-test .taken))
+          (c .entry3 .ensures),
+      pre .0 .firsts,
+    )
 
 -- src/shelf.rt:72:13
 entry-requires-5 : tie.Need-entry-requires-5 Inv-loop μ-loop
-entry-requires-5 c κs = omega (arith, sift-row (c .before .before .before .before .before .before .before .before .before .before .before .before .before .before .pre .1 .0) (c .before .before .before .before .before .before .before .before .before .before .before .before .before .before .pre .1 .2) (c .before .before .before .before .loop .inv .1) (omega (arith, c .before .before .before .before .loop .inv .0, c .before .before .before .loop-test .taken)) (c .before .entry3 .ensures), c .before .before .before .before .before .before .before .before .before .before .before .before .before .before .pre .0 .seconds)
+entry-requires-5 c κs =
+    let entry3 = c .before .entry3 in
+    let loop-test = c .before .before .before .loop-test in
+    let loop = c .before .before .before .before .loop in
+    let pre = c .before .before .before .before .before .before .before .before .before .before .before .before .before .before .pre in
+    omega (
+      arith,
+      sift-row (pre .1 .0) (pre .1 .2) (loop .inv .1) (omega (arith, loop .inv .0, loop-test .taken))
+          (entry3 .ensures),
+      pre .0 .seconds,
+    )
 
 -- src/shelf.rt:73:13
 other-requires : tie.Need-other-requires Inv-loop μ-loop
-other-requires c κs = row-ends _ _ _ (c .before .before .before .before .before .before .before .before .before .before .before .before .before .before .before .pre .0) (sift-row (c .before .before .before .before .before .before .before .before .before .before .before .before .before .before .before .pre .1 .0) (c .before .before .before .before .before .before .before .before .before .before .before .before .before .before .before .pre .1 .2) (c .before .before .before .before .before .loop .inv .1) (omega (arith, c .before .before .before .before .before .loop .inv .0, c .before .before .before .before .loop-test .taken)) (c .before .before .entry3 .ensures)) _ (sift-touch (c .before .before .before .before .before .before .before .before .before .before .before .before .before .before .before .pre .1 .0) (c .before .before .before .before .before .before .before .before .before .before .before .before .before .before .before .pre .1 .2) (c .before .before .before .before .before .loop .inv .1) (omega (arith, c .before .before .before .before .before .loop .inv .0, c .before .before .before .before .loop-test .taken)) (c .before .before .entry3 .ensures)) (c .before .entry4 .ensures) (c .entry5 .ensures)
+other-requires c κs =
+    let entry4 = c .before .entry4 in
+    let entry3 = c .before .before .entry3 in
+    let loop-test = c .before .before .before .before .loop-test in
+    let loop = c .before .before .before .before .before .loop in
+    let pre = c .before .before .before .before .before .before .before .before .before .before .before .before .before .before .before .pre in
+    row-ends _ _ _ (pre .0)
+    (
+    sift-row (pre .1 .0) (pre .1 .2) (loop .inv .1) (omega (arith, loop .inv .0, loop-test .taken))
+    (entry3 .ensures)
+    ) _
+    (
+    sift-touch (pre .1 .0) (pre .1 .2) (loop .inv .1) (omega (arith, loop .inv .0, loop-test .taken))
+    (entry3 .ensures)
+    ) (entry4 .ensures) (c .entry5 .ensures)
 
 -- src/shelf.rt:74:21
 mul-timed : tie.Need-mul-timed Inv-loop μ-loop
-mul-timed c = omega (arith, row-small _ _ _ (c .before .before .before .before .before .before .before .before .before .before .before .before .before .before .before .before .pre .0) (sift-row (c .before .before .before .before .before .before .before .before .before .before .before .before .before .before .before .before .pre .1 .0) (c .before .before .before .before .before .before .before .before .before .before .before .before .before .before .before .before .pre .1 .2) (c .before .before .before .before .before .before .loop .inv .1) (omega (arith, c .before .before .before .before .before .before .loop .inv .0, c .before .before .before .before .before .loop-test .taken)) (c .before .before .before .entry3 .ensures)) _ (sift-touch (c .before .before .before .before .before .before .before .before .before .before .before .before .before .before .before .before .pre .1 .0) (c .before .before .before .before .before .before .before .before .before .before .before .before .before .before .before .before .pre .1 .2) (c .before .before .before .before .before .before .loop .inv .1) (omega (arith, c .before .before .before .before .before .before .loop .inv .0, c .before .before .before .before .before .loop-test .taken)) (c .before .before .before .entry3 .ensures)) (c .before .before .entry4 .ensures) (c .before .entry5 .ensures) (c .other .ensures))
+mul-timed c =
+    let entry5 = c .before .entry5 in
+    let entry4 = c .before .before .entry4 in
+    let entry3 = c .before .before .before .entry3 in
+    let loop-test = c .before .before .before .before .before .loop-test in
+    let loop = c .before .before .before .before .before .before .loop in
+    let pre = c .before .before .before .before .before .before .before .before .before .before .before .before .before .before .before .before .pre in
+    omega (
+      arith,
+      row-small _ _ _ (pre .0)
+          (
+          sift-row (pre .1 .0) (pre .1 .2) (loop .inv .1) (omega (arith, loop .inv .0, loop-test .taken))
+          (entry3 .ensures)
+          ) _
+          (
+          sift-touch (pre .1 .0) (pre .1 .2) (loop .inv .1) (omega (arith, loop .inv .0, loop-test .taken))
+          (entry3 .ensures)
+          ) (entry4 .ensures) (entry5 .ensures) (c .other .ensures),
+    )
 
 -- src/shelf.rt:74:21
 shared-slice-read-timed : tie.Need-shared-slice-read-timed Inv-loop μ-loop
-shared-slice-read-timed c = omega (arith, row-small _ _ _ (c .before .before .before .before .before .before .before .before .before .before .before .before .before .before .before .before .before .pre .0) (sift-row (c .before .before .before .before .before .before .before .before .before .before .before .before .before .before .before .before .before .pre .1 .0) (c .before .before .before .before .before .before .before .before .before .before .before .before .before .before .before .before .before .pre .1 .2) (c .before .before .before .before .before .before .before .loop .inv .1) (omega (arith, c .before .before .before .before .before .before .before .loop .inv .0, c .before .before .before .before .before .before .loop-test .taken)) (c .before .before .before .before .entry3 .ensures)) _ (sift-touch (c .before .before .before .before .before .before .before .before .before .before .before .before .before .before .before .before .before .pre .1 .0) (c .before .before .before .before .before .before .before .before .before .before .before .before .before .before .before .before .before .pre .1 .2) (c .before .before .before .before .before .before .before .loop .inv .1) (omega (arith, c .before .before .before .before .before .before .before .loop .inv .0, c .before .before .before .before .before .before .loop-test .taken)) (c .before .before .before .before .entry3 .ensures)) (c .before .before .before .entry4 .ensures) (c .before .before .entry5 .ensures) (c .before .other .ensures), c .before .before .before .before .before .before .before .before .before .before .before .before .before .before .before .before .before .pre .1 .1)
+shared-slice-read-timed c =
+    let other = c .before .other in
+    let entry5 = c .before .before .entry5 in
+    let entry4 = c .before .before .before .entry4 in
+    let entry3 = c .before .before .before .before .entry3 in
+    let loop-test = c .before .before .before .before .before .before .loop-test in
+    let loop = c .before .before .before .before .before .before .before .loop in
+    let pre = c .before .before .before .before .before .before .before .before .before .before .before .before .before .before .before .before .before .pre in
+    omega (
+      arith,
+      row-small _ _ _ (pre .0)
+          (
+          sift-row (pre .1 .0) (pre .1 .2) (loop .inv .1) (omega (arith, loop .inv .0, loop-test .taken))
+          (entry3 .ensures)
+          ) _
+          (
+          sift-touch (pre .1 .0) (pre .1 .2) (loop .inv .1) (omega (arith, loop .inv .0, loop-test .taken))
+          (entry3 .ensures)
+          ) (entry4 .ensures) (entry5 .ensures) (other .ensures),
+      pre .1 .1,
+    )
 
 -- src/shelf.rt:75:22
 add-put : tie.Need-add-put Inv-loop μ-loop
-add-put c = omega (arith, sift-few (c .before .before .before .before .before .before .before .before .before .before .before .before .before .before .before .before .before .before .pre .1 .0) (c .before .before .before .before .before .before .before .before .before .before .before .before .before .before .before .before .before .before .pre .1 .2) (c .before .before .before .before .before .before .before .before .loop .inv .1) (c .before .before .before .before .before .before .before .before .before .before .before .before .before .before .before .before .before .before .pre .0 .most))
+add-put c =
+    let loop = c .before .before .before .before .before .before .before .before .loop in
+    let pre = c .before .before .before .before .before .before .before .before .before .before .before .before .before .before .before .before .before .before .pre in
+    omega (arith, sift-few (pre .1 .0) (pre .1 .2) (loop .inv .1) (pre .0 .most))
 
 -- src/shelf.rt:75:9
 put-requires : tie.Need-put-requires Inv-loop μ-loop
-put-requires c κs = (sift-place (c .before .before .before .before .before .before .before .before .before .before .before .before .before .before .before .before .before .before .pre .1 .0) (c .before .before .before .before .before .before .before .before .before .before .before .before .before .before .before .before .before .before .pre .1 .2) (c .before .before .before .before .before .before .before .before .loop .inv .1) (omega (arith, c .before .before .before .before .before .before .before .before .loop .inv .0, c .before .before .before .before .before .before .before .loop-test .taken)) refl .1, omega (arith, sift-row (c .before .before .before .before .before .before .before .before .before .before .before .before .before .before .before .before .before .before .pre .1 .0) (c .before .before .before .before .before .before .before .before .before .before .before .before .before .before .before .before .before .before .pre .1 .2) (c .before .before .before .before .before .before .before .before .loop .inv .1) (omega (arith, c .before .before .before .before .before .before .before .before .loop .inv .0, c .before .before .before .before .before .before .before .loop-test .taken)) (c .before .before .before .before .before .entry3 .ensures), c .before .before .before .before .before .before .before .before .before .before .before .before .before .before .before .before .before .before .pre .0 .most))
+put-requires c κs =
+    let entry3 = c .before .before .before .before .before .entry3 in
+    let loop-test = c .before .before .before .before .before .before .before .loop-test in
+    let loop = c .before .before .before .before .before .before .before .before .loop in
+    let pre = c .before .before .before .before .before .before .before .before .before .before .before .before .before .before .before .before .before .before .pre in (
+      sift-place (pre .1 .0) (pre .1 .2) (loop .inv .1) (omega (arith, loop .inv .0, loop-test .taken)) refl .1,
+      omega (
+        arith,
+        sift-row (pre .1 .0) (pre .1 .2) (loop .inv .1) (omega (arith, loop .inv .0, loop-test .taken))
+            (entry3 .ensures),
+        pre .0 .most,
+      ),
+    )
 
 -- src/shelf.rt:76:21
 one-requires : tie.Need-one-requires Inv-loop μ-loop
@@ -89,57 +191,104 @@ wide-requires c κs = search needs
 
 -- src/shelf.rt:76:9
 add-end : tie.Need-add-end Inv-loop μ-loop
-add-end c = omega (arith, sift-few (c .before .before .before .before .before .before .before .before .before .before .before .before .before .before .before .before .before .before .before .before .before .before .before .pre .1 .0) (c .before .before .before .before .before .before .before .before .before .before .before .before .before .before .before .before .before .before .before .before .before .before .before .pre .1 .2) (c .before .before .before .before .before .before .before .before .before .before .before .before .before .loop .inv .1) (c .before .before .before .before .before .before .before .before .before .before .before .before .before .before .before .before .before .before .before .before .before .before .before .pre .0 .most), c .wide .ensures, by-most (c .before .one .ensures))
+add-end c =
+    let one = c .before .one in
+    let loop = c .before .before .before .before .before .before .before .before .before .before .before .before .before .loop in
+    let pre = c .before .before .before .before .before .before .before .before .before .before .before .before .before .before .before .before .before .before .before .before .before .before .before .pre in
+    omega
+    (arith, sift-few (pre .1 .0) (pre .1 .2) (loop .inv .1) (pre .0 .most), c .wide .ensures, by-most (one .ensures))
 
 -- src/shelf.rt:77:9
 add-p : tie.Need-add-p Inv-loop μ-loop
-add-p c = omega (arith, sift-few (c .before .before .before .before .before .before .before .before .before .before .before .before .before .before .before .before .before .before .before .before .before .before .before .pre .1 .0) (c .before .before .before .before .before .before .before .before .before .before .before .before .before .before .before .before .before .before .before .before .before .before .before .pre .1 .2) (c .before .before .before .before .before .before .before .before .before .before .before .before .before .loop .inv .1) (c .before .before .before .before .before .before .before .before .before .before .before .before .before .before .before .before .before .before .before .before .before .before .before .pre .0 .most))
+add-p c =
+    let loop = c .before .before .before .before .before .before .before .before .before .before .before .before .before .loop in
+    let pre = c .before .before .before .before .before .before .before .before .before .before .before .before .before .before .before .before .before .before .before .before .before .before .before .pre in
+    omega (arith, sift-few (pre .1 .0) (pre .1 .2) (loop .inv .1) (pre .0 .most))
 
 -- src/shelf.rt:69:5
 loop-less : tie.Need-loop-less Inv-loop μ-loop
-loop-less c = omega (arith, c .before .before .before .before .before .before .before .before .before .before .before .before .loop-test .taken)
+loop-less c =
+    let loop-test = c .before .before .before .before .before .before .before .before .before .before .before .before .loop-test in
+    omega (arith, loop-test .taken)
 
 -- src/shelf.rt:69:5
 loop-again : tie.Need-loop-again Inv-loop μ-loop
-loop-again c = (c .before .before .before .before .before .before .before .before .before .before .before .before .before .loop .inv .0, sift-next (c .before .before .before .before .before .before .before .before .before .before .before .before .before .before .before .before .before .before .before .before .before .before .before .pre .1 .0) (c .before .before .before .before .before .before .before .before .before .before .before .before .before .before .before .before .before .before .before .before .before .before .before .pre .1 .2) (c .before .before .before .before .before .before .before .before .before .before .before .before .before .loop .inv .1) (omega (arith, c .before .before .before .before .before .before .before .before .before .before .before .before .before .loop .inv .0, c .before .before .before .before .before .before .before .before .before .before .before .before .loop-test .taken)) (c .before .before .before .before .before .before .before .before .before .before .entry3 .ensures) (c .before .before .before .before .put .ensures) (λ n. c .wide .ensures ∙ c .before .one .ensures .0 (sift-timed (c .before .before .before .before .before .before .before .before .before .before .before .before .before .before .before .before .before .before .before .before .before .before .before .args .times .now) (c .before .before .before .before .before .before .before .before .before .before .before .before .before .before .before .before .before .before .before .before .before .before .before .pre .1 .1) (row-small _ _ _ (c .before .before .before .before .before .before .before .before .before .before .before .before .before .before .before .before .before .before .before .before .before .before .before .pre .0) (sift-row (c .before .before .before .before .before .before .before .before .before .before .before .before .before .before .before .before .before .before .before .before .before .before .before .pre .1 .0) (c .before .before .before .before .before .before .before .before .before .before .before .before .before .before .before .before .before .before .before .before .before .before .before .pre .1 .2) (c .before .before .before .before .before .before .before .before .before .before .before .before .before .loop .inv .1) (omega (arith, c .before .before .before .before .before .before .before .before .before .before .before .before .before .loop .inv .0, c .before .before .before .before .before .before .before .before .before .before .before .before .loop-test .taken)) (c .before .before .before .before .before .before .before .before .before .before .entry3 .ensures)) _ (sift-touch (c .before .before .before .before .before .before .before .before .before .before .before .before .before .before .before .before .before .before .before .before .before .before .before .pre .1 .0) (c .before .before .before .before .before .before .before .before .before .before .before .before .before .before .before .before .before .before .before .before .before .before .before .pre .1 .2) (c .before .before .before .before .before .before .before .before .before .before .before .before .before .loop .inv .1) (omega (arith, c .before .before .before .before .before .before .before .before .before .before .before .before .before .loop .inv .0, c .before .before .before .before .before .before .before .before .before .before .before .before .loop-test .taken)) (c .before .before .before .before .before .before .before .before .before .before .entry3 .ensures)) (c .before .before .before .before .before .before .before .before .before .entry4 .ensures) (c .before .before .before .before .before .before .before .before .entry5 .ensures) (c .before .before .before .before .before .before .before .other .ensures)) (row-other _ _ _ (c .before .before .before .before .before .before .before .before .before .before .before .before .before .before .before .before .before .before .before .before .before .before .before .pre .0) (sift-row (c .before .before .before .before .before .before .before .before .before .before .before .before .before .before .before .before .before .before .before .before .before .before .before .pre .1 .0) (c .before .before .before .before .before .before .before .before .before .before .before .before .before .before .before .before .before .before .before .before .before .before .before .pre .1 .2) (c .before .before .before .before .before .before .before .before .before .before .before .before .before .loop .inv .1) (omega (arith, c .before .before .before .before .before .before .before .before .before .before .before .before .before .loop .inv .0, c .before .before .before .before .before .before .before .before .before .before .before .before .loop-test .taken)) (c .before .before .before .before .before .before .before .before .before .before .entry3 .ensures)) _ (sift-touch (c .before .before .before .before .before .before .before .before .before .before .before .before .before .before .before .before .before .before .before .before .before .before .before .pre .1 .0) (c .before .before .before .before .before .before .before .before .before .before .before .before .before .before .before .before .before .before .before .before .before .before .before .pre .1 .2) (c .before .before .before .before .before .before .before .before .before .before .before .before .before .loop .inv .1) (omega (arith, c .before .before .before .before .before .before .before .before .before .before .before .before .before .loop .inv .0, c .before .before .before .before .before .before .before .before .before .before .before .before .loop-test .taken)) (c .before .before .before .before .before .before .before .before .before .before .entry3 .ensures)) (c .before .before .before .before .before .before .before .before .before .entry4 .ensures) (c .before .before .before .before .before .before .before .before .entry5 .ensures) (c .before .before .before .before .before .before .before .other .ensures)) n)) (omega (arith, c .wide .ensures, by-most (c .before .one .ensures))))
+loop-again c =
+    let one = c .before .one in
+    let put = c .before .before .before .before .put in
+    let other = c .before .before .before .before .before .before .before .other in
+    let entry5 = c .before .before .before .before .before .before .before .before .entry5 in
+    let entry4 = c .before .before .before .before .before .before .before .before .before .entry4 in
+    let entry3 = c .before .before .before .before .before .before .before .before .before .before .entry3 in
+    let loop-test = c .before .before .before .before .before .before .before .before .before .before .before .before .loop-test in
+    let loop = c .before .before .before .before .before .before .before .before .before .before .before .before .before .loop in
+    let args = c .before .before .before .before .before .before .before .before .before .before .before .before .before .before .before .before .before .before .before .before .before .before .before .args in
+    let pre = c .before .before .before .before .before .before .before .before .before .before .before .before .before .before .before .before .before .before .before .before .before .before .before .pre in (
+      loop .inv .0,
+      sift-next (pre .1 .0) (pre .1 .2) (loop .inv .1) (omega (arith, loop .inv .0, loop-test .taken)) (entry3 .ensures)
+          (put .ensures)
+          (
+          λ n. c .wide .ensures ∙ one .ensures .0
+          (
+          sift-timed (args .times .now) (pre .1 .1)
+          (
+          row-small _ _ _ (pre .0)
+          (
+          sift-row (pre .1 .0) (pre .1 .2) (loop .inv .1) (omega (arith, loop .inv .0, loop-test .taken))
+          (entry3 .ensures)
+          ) _
+          (
+          sift-touch (pre .1 .0) (pre .1 .2) (loop .inv .1) (omega (arith, loop .inv .0, loop-test .taken))
+          (entry3 .ensures)
+          ) (entry4 .ensures) (entry5 .ensures) (other .ensures)
+          )
+          (
+          row-other _ _ _ (pre .0)
+          (
+          sift-row (pre .1 .0) (pre .1 .2) (loop .inv .1) (omega (arith, loop .inv .0, loop-test .taken))
+          (entry3 .ensures)
+          ) _
+          (
+          sift-touch (pre .1 .0) (pre .1 .2) (loop .inv .1) (omega (arith, loop .inv .0, loop-test .taken))
+          (entry3 .ensures)
+          ) (entry4 .ensures) (entry5 .ensures) (other .ensures)
+          ) n
+          )
+          ) (omega (arith, c .wide .ensures, by-most (one .ensures))),
+    )
 
 -- src/shelf.rt:79:5
 put-requires-2 : tie.Need-put-requires-2 Inv-loop μ-loop
-put-requires-2 c κs = (omega (arith, c .before .before .loop .inv .1 .long, c .before .before .before .before .before .before .before .before .before .before .before .before .pre .1 .0 .long, c .before .before .before .before .before .before .before .before .before .before .before .before .pre .1 .2), omega (arith, sift-few (c .before .before .before .before .before .before .before .before .before .before .before .before .pre .1 .0) (c .before .before .before .before .before .before .before .before .before .before .before .before .pre .1 .2) (c .before .before .loop .inv .1) (c .before .before .before .before .before .before .before .before .before .before .before .before .pre .0 .most)))
+put-requires-2 c κs =
+    let loop = c .before .before .loop in
+    let pre = c .before .before .before .before .before .before .before .before .before .before .before .before .pre in (
+      omega (arith, loop .inv .1 .long, pre .1 .0 .long, pre .1 .2),
+      omega (arith, sift-few (pre .1 .0) (pre .1 .2) (loop .inv .1) (pre .0 .most)),
+    )
 
 -- src/shelf.rt:54:1
 same-length : tie.Need-same-length Inv-loop μ-loop
-same-length c = sift-end (c .before .before .before .before .before .before .before .before .before .before .before .before .before .before .before .pre .1 .0) (c .before .before .before .before .before .before .before .before .before .before .before .before .before .before .before .pre .1 .2) (c .before .before .before .before .before .loop .inv .1) (omega (arith, c .before .before .before .before .before .loop .inv .0, c .before .before .before .before .loop-test .left)) (c .before .before .put2 .ensures) .long
+same-length c =
+    let put2 = c .before .before .put2 in
+    let loop-test = c .before .before .before .before .loop-test in
+    let loop = c .before .before .before .before .before .loop in
+    let pre = c .before .before .before .before .before .before .before .before .before .before .before .before .before .before .before .pre in
+    sift-end (pre .1 .0) (pre .1 .2) (loop .inv .1) (omega (arith, loop .inv .0, loop-test .left)) (put2 .ensures) .long
 
 -- src/shelf.rt:54:1
 returns : tie.Need-returns Inv-loop μ-loop
-returns c = sift-end (c .before .before .before .before .before .before .before .before .before .before .before .before .before .before .before .pre .1 .0) (c .before .before .before .before .before .before .before .before .before .before .before .before .before .before .before .pre .1 .2) (c .before .before .before .before .before .loop .inv .1) (omega (arith, c .before .before .before .before .before .loop .inv .0, c .before .before .before .before .loop-test .left)) (c .before .before .put2 .ensures)
+returns c =
+    let put2 = c .before .before .put2 in
+    let loop-test = c .before .before .before .before .loop-test in
+    let loop = c .before .before .before .before .before .loop in
+    let pre = c .before .before .before .before .before .before .before .before .before .before .before .before .before .before .before .pre in
+    sift-end (pre .1 .0) (pre .1 .2) (loop .inv .1) (omega (arith, loop .inv .0, loop-test .left)) (put2 .ensures)
 
 pub trim-account-spec : {M : Type 1} → statement M
 trim-account-spec =
     tie.close
-    (tie.spec
-    Inv-loop
-    μ-loop
-    entry-requires
-    add-entry
-    entry-requires-2
-    loop-holds
-    add-entry-2
-    entry-requires-3
-    entry-requires-4
-    entry-requires-5
-    other-requires
-    mul-timed
-    shared-slice-read-timed
-    add-put
-    put-requires
-    one-requires
-    wide-requires
-    add-end
-    add-p
-    loop-less
-    loop-again
-    put-requires-2
-    same-length
-    returns)
+    (
+    tie.spec Inv-loop μ-loop entry-requires add-entry entry-requires-2 loop-holds add-entry-2 entry-requires-3
+    entry-requires-4 entry-requires-5 other-requires mul-timed shared-slice-read-timed add-put put-requires
+    one-requires wide-requires add-end add-p loop-less loop-again put-requires-2 same-length returns
+    )

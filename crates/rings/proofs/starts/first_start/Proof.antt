@@ -19,23 +19,50 @@ bind-requires c κs = search needs
 
 -- src/starts.rt:71:5
 move-heads-requires : tie.Need-move-heads-requires
-move-heads-requires c κs = (c .before .before .before .before .before .before .before .before .before .before .before .before .before .pre .0, (c .before .before .before .bind .ensures, (omega arith, split-none _, c .before .before .before .before .before .before .before .before .before .before .before .before .before .pre .1 .1 .0 .3)))
+move-heads-requires c κs =
+    let bind = c .before .before .before .bind in
+    let pre = c .before .before .before .before .before .before .before .before .before .before .before .before .before .pre in
+    (pre .0, (bind .ensures, (omega arith, split-none _, pre .1 .1 .0 .3)))
 
 -- src/starts.rt:72:5
 begin-requires : tie.Need-begin-requires
-begin-requires c κs = (ready-of (c .before .before .before .before .before .before .before .before .before .before .before .before .before .before .before .before .before .before .before .before .pre .0) (c .before .before .before .before .before .before .move-heads .ensures .0) (c .before .before .before .before .before .before .before .before .before .before .before .before .before .before .before .before .before .before .before .before .pre .1 .1 .0 .0) (c .before .before .before .before .before .before .before .before .before .before .before .before .before .before .before .before .before .before .before .before .pre .1 .1 .0 .2) (c .before .before .before .before .before .before .before .before .before .before .before .before .before .before .before .before .before .before .before .before .pre .1 .1 .0 .3), ((span-after (c .before .before .before .before .before .before .before .before .before .before .before .before .before .before .before .before .before .before .before .before .pre .1 .1 .0 .1) (c .before .before .before .before .before .before .before .before .before .before .before .before .before .before .before .before .before .before .before .before .pre .1 .1 .0 .3) (c .before .before .before .before .before .before .before .before .before .before .before .before .before .before .before .before .before .before .before .before .pre .1 .1 .0 .4)), (c .before .before .before .before .before .before .before .before .before .before .before .before .before .before .before .before .before .before .before .before .pre .1 .1 .1 .0, c .before .before .before .before .before .before .before .before .before .before .before .before .before .before .before .before .before .before .before .before .pre .1 .1 .1 .1, c .before .before .before .before .before .before .before .before .before .before .before .before .before .before .before .before .before .before .before .before .pre .1 .1 .1 .2)))
+begin-requires c κs =
+    let move-heads = c .before .before .before .before .before .before .move-heads in
+    let pre = c .before .before .before .before .before .before .before .before .before .before .before .before .before .before .before .before .before .before .before .before .pre in (
+      ready-of (pre .0) (move-heads .ensures .0) (pre .1 .1 .0 .0) (pre .1 .1 .0 .2) (pre .1 .1 .0 .3),
+      (
+        (span-after (pre .1 .1 .0 .1) (pre .1 .1 .0 .3) (pre .1 .1 .0 .4)),
+        (pre .1 .1 .1 .0, pre .1 .1 .1 .1, pre .1 .1 .1 .2),
+      ),
+    )
 
 -- src/starts.rt:86:5
 count-times-requires : tie.Need-count-times-requires
-count-times-requires c κs = ((framed-of (c .before .before .before .before .before .before .before .before .before .before .before .before .before .before .before .before .before .before .before .before .before .before .before .before .before .before .before .before .before .pre .0) (c .before .before .before .before .before .before .before .before .before .before .before .before .before .before .before .before .before .before .before .before .before .before .before .before .before .before .before .before .before .pre .1 .1 .0 .0) (c .before .before .before .before .before .before .before .before .before .before .before .before .before .before .before .before .before .before .before .before .before .before .before .before .before .before .before .before .before .pre .1 .1 .0 .2) (c .before .before .before .before .before .before .before .before .before .before .before .before .before .before .before .before .before .before .before .before .before .before .before .before .before .before .before .before .before .pre .1 .1 .0 .3)), (((span-after (c .before .before .before .before .before .before .before .before .before .before .before .before .before .before .before .before .before .before .before .before .before .before .before .before .before .before .before .before .before .pre .1 .1 .0 .1) (c .before .before .before .before .before .before .before .before .before .before .before .before .before .before .before .before .before .before .before .before .before .before .before .before .before .before .before .before .before .pre .1 .1 .0 .3) (c .before .before .before .before .before .before .before .before .before .before .before .before .before .before .before .before .before .before .before .before .before .before .before .before .before .before .before .before .before .pre .1 .1 .0 .4)), c .before .before .before .before .before .before .before .before .begin .ensures .0), (c .before .before .before .before .before .before .before .before .before .before .before .before .before .before .before .before .before .before .before .before .before .before .before .before .before .before .before .before .before .pre .1 .1 .1 .3, c .before .before .before .before .before .before .before .before .before .before .before .before .before .before .before .before .before .before .before .before .before .before .before .before .before .before .before .before .before .pre .1 .1 .0 .2)))
+count-times-requires c κs =
+    let begin = c .before .before .before .before .before .before .before .before .begin in
+    let pre = c .before .before .before .before .before .before .before .before .before .before .before .before .before .before .before .before .before .before .before .before .before .before .before .before .before .before .before .before .before .pre in (
+      (framed-of (pre .0) (pre .1 .1 .0 .0) (pre .1 .1 .0 .2) (pre .1 .1 .0 .3)),
+      (
+        ((span-after (pre .1 .1 .0 .1) (pre .1 .1 .0 .3) (pre .1 .1 .0 .4)), begin .ensures .0),
+        (pre .1 .1 .1 .3, pre .1 .1 .0 .2),
+      ),
+    )
 
 -- src/starts.rt:87:5
 trim-requires : tie.Need-trim-requires
-trim-requires c κs = (c .before .before .before .before .before .before .before .before .before .before .before .before .before .before .before .before .before .before .before .before .before .before .before .before .before .before .before .before .before .before .before .before .before .before .pre .0, (c .before .before .before .before .before .before .before .before .before .before .before .before .before .before .before .before .before .before .before .before .move-heads .ensures .0, c .before .before .before .before .before .before .before .before .before .before .before .before .before .begin .ensures .0 .long))
+trim-requires c κs =
+    let begin = c .before .before .before .before .before .before .before .before .before .before .before .before .before .begin in
+    let move-heads = c .before .before .before .before .before .before .before .before .before .before .before .before .before .before .before .before .before .before .before .before .move-heads in
+    let pre = c .before .before .before .before .before .before .before .before .before .before .before .before .before .before .before .before .before .before .before .before .before .before .before .before .before .before .before .before .before .before .before .before .before .before .pre in
+    (pre .0, (move-heads .ensures .0, begin .ensures .0 .long))
 
 -- src/starts.rt:49:1
 same-length : tie.Need-same-length
-same-length c = c .before .before .trim .kept .1 .1 .1 .0 ∙ (c .before .before .before .before .before .before .before .before .before .before .before .before .before .before .before .before .before .before .before .before .before .before .before .move-heads .kept .1 .1 .1 .0 ∙ c .before .before .before .before .before .before .before .before .before .before .before .before .before .before .before .before .before .before .before .before .before .before .before .before .before .before .before .bind .kept .1 .1 .1 .0)
+same-length c =
+    let trim = c .before .before .trim in
+    let move-heads = c .before .before .before .before .before .before .before .before .before .before .before .before .before .before .before .before .before .before .before .before .before .before .before .move-heads in
+    let bind = c .before .before .before .before .before .before .before .before .before .before .before .before .before .before .before .before .before .before .before .before .before .before .before .before .before .before .before .bind in
+    trim .kept .1 .1 .1 .0 ∙ (move-heads .kept .1 .1 .1 .0 ∙ bind .kept .1 .1 .1 .0)
 
 -- src/starts.rt:49:1
 same-length-2 : tie.Need-same-length-2
@@ -55,20 +82,27 @@ same-length-5 c = search needs
 
 -- src/starts.rt:49:1
 returns : tie.Need-returns
-returns c = record { inside = record { opened = open-of (c .before .before .before .before .before .before .before .before .before .before .before .before .before .before .before .before .before .before .before .before .before .before .before .before .before .before .before .before .before .before .before .before .before .before .before .before .before .pre .0) (c .before .before .trim .ensures .0) (c .before .before .before .before .before .before .before .before .before .before .before .before .before .before .before .before .before .before .before .before .before .before .before .before .before .before .before .before .before .before .before .before .before .before .before .before .before .pre .1 .1 .0 .0) (c .before .before .before .before .before .before .before .before .before .before .before .before .before .before .before .before .before .before .before .before .before .before .before .before .before .before .before .before .before .before .before .before .before .before .before .before .before .pre .1 .1 .0 .2) (c .before .before .before .before .before .before .before .before .before .before .before .before .before .before .before .before .before .before .before .before .before .before .before .before .before .before .before .before .before .before .before .before .before .before .before .before .before .pre .1 .1 .0 .3); covered = c .before .before .trim .ensures .1 _ (linked-covered (c .before .before .before .before .before .before .before .before .before .before .before .before .before .before .before .before .before .before .before .before .before .before .before .move-heads .ensures .0) _ ((framed-of (c .before .before .before .before .before .before .before .before .before .before .before .before .before .before .before .before .before .before .before .before .before .before .before .before .before .before .before .before .before .before .before .before .before .before .before .before .before .pre .0) (c .before .before .before .before .before .before .before .before .before .before .before .before .before .before .before .before .before .before .before .before .before .before .before .before .before .before .before .before .before .before .before .before .before .before .before .before .before .pre .1 .1 .0 .0) (c .before .before .before .before .before .before .before .before .before .before .before .before .before .before .before .before .before .before .before .before .before .before .before .before .before .before .before .before .before .before .before .before .before .before .before .before .before .pre .1 .1 .0 .2) (c .before .before .before .before .before .before .before .before .before .before .before .before .before .before .before .before .before .before .before .before .before .before .before .before .before .before .before .before .before .before .before .before .before .before .before .before .before .pre .1 .1 .0 .3)) .setting .from-lo)); times-are = c .before .before .before .before .before .before .before .before .before .before .before .before .before .before .before .before .begin .ensures .0; spares = c .before .before .before .before .before .before .before .before .before .before .before .before .before .before .before .before .begin .ensures .1; timed = c .before .before .before .before .before .before .before .count-times .ensures } }
+returns c =
+    let trim = c .before .before .trim in
+    let count-times = c .before .before .before .before .before .before .before .count-times in
+    let begin = c .before .before .before .before .before .before .before .before .before .before .before .before .before .before .before .before .begin in
+    let move-heads = c .before .before .before .before .before .before .before .before .before .before .before .before .before .before .before .before .before .before .before .before .before .before .before .move-heads in
+    let pre = c .before .before .before .before .before .before .before .before .before .before .before .before .before .before .before .before .before .before .before .before .before .before .before .before .before .before .before .before .before .before .before .before .before .before .before .before .before .pre in
+    record {
+      inside = record {
+        opened = open-of (pre .0) (trim .ensures .0) (pre .1 .1 .0 .0) (pre .1 .1 .0 .2) (pre .1 .1 .0 .3);
+        covered = trim .ensures .1 _
+            (linked-covered (move-heads .ensures .0) _ ((framed-of (pre .0) (pre .1 .1 .0 .0) (pre .1 .1 .0 .2) (pre .1 .1 .0 .3)) .setting .from-lo));
+        times-are = begin .ensures .0;
+        spares = begin .ensures .1;
+        timed = count-times .ensures;
+      };
+    }
 
 pub first-start-spec : {M : Type 1} → statement M
 first-start-spec =
     tie.close
-    (tie.spec
-    bind-requires
-    move-heads-requires
-    begin-requires
-    count-times-requires
-    trim-requires
-    same-length
-    same-length-2
-    same-length-3
-    same-length-4
-    same-length-5
-    returns)
+    (
+    tie.spec bind-requires move-heads-requires begin-requires count-times-requires trim-requires same-length
+    same-length-2 same-length-3 same-length-4 same-length-5 returns
+    )

@@ -22,13 +22,21 @@ abbrev μ-loop : tie.MeasureT-loop
 
 -- src/starts.rt:62:5
 loop-holds : tie.Need-loop-holds Inv-loop μ-loop
-loop-holds c = (omega arith, split-rises (c .before .before .before .before .pre .1 .1) (c .before .before .before .before .pre .1 .2), least-start _ _)
+loop-holds c =
+    let pre = c .before .before .before .before .pre in
+    (omega arith, split-rises (pre .1 .1) (pre .1 .2), least-start _ _)
 
 -- src/starts.rt:63:13
 row-time-requires : tie.Need-row-time-requires Inv-loop μ-loop
 row-time-requires c κs =
-    let pre = c .before .before .before .before .before .before .pre in
-    (pre .0 .inside .0, (span-of (pre .1 .0) (pre .1 .1) (pre .1 .3), (pre .0 .inside .1, omega (arith, c .loop-test .taken, pre .1 .2 .within))))
+    let pre′ = c .before .before .before .before .before .before .pre in
+    let pre = pre′ in (
+      pre .0 .inside .0,
+      (
+        span-of (pre .1 .0) (pre .1 .1) (pre .1 .3),
+        (pre .0 .inside .1, omega (arith, c .loop-test .taken, pre .1 .2 .within)),
+      ),
+    )
 
 -- src/starts.rt:64:9
 lesser-requires : tie.Need-lesser-requires Inv-loop μ-loop
@@ -36,30 +44,35 @@ lesser-requires c κs = search needs
 
 -- src/starts.rt:65:9
 add-j : tie.Need-add-j Inv-loop μ-loop
-add-j c = omega (arith, c .before .before .loop-test .taken, c .before .before .before .before .before .before .before .before .pre .1 .2 .within, c .before .before .before .before .before .before .before .before .pre .0 .inside .0 .sound .most)
+add-j c =
+    let loop-test = c .before .before .loop-test in
+    let pre = c .before .before .before .before .before .before .before .before .pre in
+    omega (arith, loop-test .taken, pre .1 .2 .within, pre .0 .inside .0 .sound .most)
 
 -- src/starts.rt:62:5
 loop-less : tie.Need-loop-less Inv-loop μ-loop
-loop-less c = omega (arith, c .before .before .loop-test .taken)
+loop-less c =
+    let loop-test = c .before .before .loop-test in
+    omega (arith, loop-test .taken)
 
 -- src/starts.rt:62:5
 loop-again : tie.Need-loop-again Inv-loop μ-loop
-loop-again c = (omega (arith, c .before .before .before .loop .inv .0), omega (arith, c .before .before .loop-test .taken), least-next (c .before .before .before .loop .inv .0) (c .before .before .before .loop .inv .2) (c .before .row-time .ensures) (c .lesser .ensures))
+loop-again c =
+    let row-time = c .before .row-time in
+    let loop-test = c .before .before .loop-test in
+    let loop = c .before .before .before .loop in (
+      omega (arith, loop .inv .0),
+      omega (arith, loop-test .taken),
+      least-next (loop .inv .0) (loop .inv .2) (row-time .ensures) (c .lesser .ensures),
+    )
 
 -- src/starts.rt:43:1
 returns : tie.Need-returns Inv-loop μ-loop
-returns c = least-end (c .before .before .before .before .before .before .pre .0 .inside .0) (c .before .before .before .before .before .before .pre .1 .2) (c .before .loop .inv .1) (c .loop-test .left) (c .before .loop .inv .2)
+returns c =
+    let loop = c .before .loop in
+    let pre = c .before .before .before .before .before .before .pre in
+    least-end (pre .0 .inside .0) (pre .1 .2) (loop .inv .1) (c .loop-test .left) (loop .inv .2)
 
 pub first-time-spec : {M : Type 1} → statement M
 first-time-spec =
-    tie.close
-    (tie.spec
-    Inv-loop
-    μ-loop
-    loop-holds
-    row-time-requires
-    lesser-requires
-    add-j
-    loop-less
-    loop-again
-    returns)
+    tie.close (tie.spec Inv-loop μ-loop loop-holds row-time-requires lesser-requires add-j loop-less loop-again returns)

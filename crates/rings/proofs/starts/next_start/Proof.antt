@@ -16,15 +16,38 @@ use Rattle.rings.proofs.shelf.pass_heads.Reads as pass-heads-reads
 
 -- src/starts.rt:112:5
 drop-rows-requires : tie.Need-drop-rows-requires
-drop-rows-requires c κs = (open-framed (c .before .before .before .before .before .before .before .before .before .before .pre .0 .inside .opened), ((span-of (c .before .before .before .before .before .before .before .before .before .before .pre .1 .0 .0) (c .before .before .before .before .before .before .before .before .before .before .pre .1 .0 .2) (c .before .before .before .before .before .before .before .before .before .before .pre .1 .0 .4), c .before .before .before .before .before .before .before .before .before .before .pre .0 .inside .times-are, c .before .before .before .before .before .before .before .before .before .before .pre .1 .0 .1, c .before .before .before .before .before .before .before .before .before .before .pre .1 .0 .3), c .before .before .before .before .before .before .before .before .before .before .pre .0 .inside .timed))
+drop-rows-requires c κs =
+    let pre = c .before .before .before .before .before .before .before .before .before .before .pre in (
+      open-framed (pre .0 .inside .opened),
+      (
+        (span-of (pre .1 .0 .0) (pre .1 .0 .2) (pre .1 .0 .4), pre .0 .inside .times-are, pre .1 .0 .1, pre .1 .0 .3),
+        pre .0 .inside .timed,
+      ),
+    )
 
 -- src/starts.rt:113:5
 pass-heads-requires : tie.Need-pass-heads-requires
-pass-heads-requires c κs = (c .before .before .before .before .before .before .before .before .before .before .before .before .before .before .pre .0 .inside .opened .sound, (c .before .before .before .before .before .before .before .before .before .before .before .before .before .before .pre .0 .inside .opened .shelves, (split-rises (c .before .before .before .before .before .before .before .before .before .before .before .before .before .before .pre .1 .0 .2) (c .before .before .before .before .before .before .before .before .before .before .before .before .before .before .pre .1 .0 .3)), c .before .before .before .before .before .before .before .before .before .before .before .before .before .before .pre .1 .0 .3 .within))
+pass-heads-requires c κs =
+    let pre = c .before .before .before .before .before .before .before .before .before .before .before .before .before .before .pre in (
+      pre .0 .inside .opened .sound,
+      (pre .0 .inside .opened .shelves, (split-rises (pre .1 .0 .2) (pre .1 .0 .3)), pre .1 .0 .3 .within),
+    )
 
 -- src/starts.rt:114:9
 step-requires : tie.Need-step-requires
-step-requires c κs = ((open-of (c .before .before .before .before .before .before .before .before .before .before .before .before .before .before .before .before .before .before .before .before .before .before .pre .0 .inside .opened .sound) (c .before .before .before .before .before .before .before .pass-heads .ensures .0) (c .before .before .before .before .before .before .before .before .before .before .before .before .before .before .before .before .before .before .before .before .before .before .pre .0 .inside .opened .setting .some-k) (c .before .before .before .before .before .before .before .before .before .before .before .before .before .before .before .before .before .before .before .before .before .before .pre .1 .0 .1) (c .before .before .before .before .before .before .before .before .before .before .before .before .before .before .before .before .before .before .before .before .before .before .pre .1 .0 .3)), (c .before .before .before .before .before .before .before .before .before .before .before .before .before .before .before .before .before .before .before .before .before .before .pre .1 .0, ((c .before .before .before .before .before .before .before .before .before .before .before .before .before .before .before .before .before .before .before .before .before .before .pre .0 .inside .times-are, c .before .before .before .before .before .before .before .before .before .before .before .before .before .before .before .before .before .before .before .before .before .before .pre .0 .inside .spares, c .before .before .before .before .before .before .before .before .before .before .before .before .before .before .before .before .before .before .before .before .before .before .pre .1 .1, c .before .before .before .before .before .before .before .pass-heads .ensures .1 _ (c .before .before .before .before .before .before .before .before .before .before .before .before .before .before .before .before .before .before .before .before .before .before .pre .0 .inside .covered)), λ y. c .before .before .before .before .before .before .before .before .before .before .before .drop-rows .ensures)))
+step-requires c κs =
+    let pass-heads = c .before .before .before .before .before .before .before .pass-heads in
+    let drop-rows = c .before .before .before .before .before .before .before .before .before .before .before .drop-rows in
+    let pre = c .before .before .before .before .before .before .before .before .before .before .before .before .before .before .before .before .before .before .before .before .before .before .pre in (
+      (open-of (pre .0 .inside .opened .sound) (pass-heads .ensures .0) (pre .0 .inside .opened .setting .some-k) (pre .1 .0 .1) (pre .1 .0 .3)),
+      (
+        pre .1 .0,
+        (
+          (pre .0 .inside .times-are, pre .0 .inside .spares, pre .1 .1, pass-heads .ensures .1 _ (pre .0 .inside .covered)),
+          λ y. drop-rows .ensures,
+        ),
+      ),
+    )
 
 -- src/starts.rt:132:9
 same-length : tie.Need-same-length
@@ -48,19 +71,60 @@ same-length-5 c = search needs
 
 -- src/starts.rt:132:9
 returns : tie.Need-returns
-returns c = record { inside = record { opened = (open-of (c .before .before .before .before .before .before .before .before .before .before .before .before .before .before .before .before .before .before .before .before .before .before .before .before .before .before .before .before .before .before .before .before .pre .0 .inside .opened .sound) (c .before .before .before .before .before .before .before .before .before .before .before .before .before .before .before .before .before .pass-heads .ensures .0) (c .before .before .before .before .before .before .before .before .before .before .before .before .before .before .before .before .before .before .before .before .before .before .before .before .before .before .before .before .before .before .before .before .pre .0 .inside .opened .setting .some-k) (c .before .before .before .before .before .before .before .before .before .before .before .before .before .before .before .before .before .before .before .before .before .before .before .before .before .before .before .before .before .before .before .before .pre .1 .0 .1) (c .before .before .before .before .before .before .before .before .before .before .before .before .before .before .before .before .before .before .before .before .before .before .before .before .before .before .before .before .before .before .before .before .pre .1 .0 .3)); covered = covered-rise (core-never (c .before .before .before .before .before .before .before .before .before .before .before .before .before .before .before .before .before .before .before .before .before .before .before .before .before .before .before .before .before .before .before .before .pre .0 .inside .opened .setting .fits) (c .before .before .before .before .before .before .before .before .before .before .before .before .before .before .before .before .before .before .before .before .before .before .before .before .before .before .before .before .before .before .before .before .pre .0 .inside .times-are) (c .before .before .before .before .before .before .before .before .before .step .ensures .0 (c .if1 .taken) .0)) (le-refl _) (c .before .before .before .before .before .before .before .before .before .before .before .before .before .before .before .before .before .pass-heads .ensures .1 _ (c .before .before .before .before .before .before .before .before .before .before .before .before .before .before .before .before .before .before .before .before .before .before .before .before .before .before .before .before .before .before .before .before .pre .0 .inside .covered)); times-are = c .before .before .before .before .before .before .before .before .before .step .ensures .0 (c .if1 .taken) .0; spares = c .before .before .before .before .before .before .before .before .before .step .ensures .0 (c .if1 .taken) .1; timed = c .before .before .before .before .before .before .before .before .before .step .ensures .1 .counted refl (c .if1 .taken) } }
+returns c =
+    let step = c .before .before .before .before .before .before .before .before .before .step in
+    let pass-heads = c .before .before .before .before .before .before .before .before .before .before .before .before .before .before .before .before .before .pass-heads in
+    let pre = c .before .before .before .before .before .before .before .before .before .before .before .before .before .before .before .before .before .before .before .before .before .before .before .before .before .before .before .before .before .before .before .before .pre in
+    record {
+      inside = record {
+        opened =
+            (open-of (pre .0 .inside .opened .sound) (pass-heads .ensures .0) (pre .0 .inside .opened .setting .some-k) (pre .1 .0 .1) (pre .1 .0 .3));
+        covered = covered-rise
+            (
+            core-never (pre .0 .inside .opened .setting .fits) (pre .0 .inside .times-are)
+            (step .ensures .0 (c .if1 .taken) .0)
+            ) (le-refl _) (pass-heads .ensures .1 _ (pre .0 .inside .covered));
+        times-are = step .ensures .0 (c .if1 .taken) .0;
+        spares = step .ensures .0 (c .if1 .taken) .1;
+        timed = step .ensures .1 .counted refl (c .if1 .taken);
+      };
+    }
 
 -- src/starts.rt:140:9
 add-first-start : tie.Need-add-first-start
-add-first-start c = omega (arith, c .before .before .before .before .before .before .before .before .before .before .before .before .before .before .before .before .before .before .before .before .before .before .before .before .before .before .before .before .before .before .before .before .before .pre .1 .0 .0, c .before .before .before .before .before .before .before .before .before .before .before .before .before .before .before .before .before .before .before .before .before .before .before .before .before .before .before .before .before .before .before .before .before .pre .1 .0 .1)
+add-first-start c =
+    let pre = c .before .before .before .before .before .before .before .before .before .before .before .before .before .before .before .before .before .before .before .before .before .before .before .before .before .before .before .before .before .before .before .before .before .pre in
+    omega (arith, pre .1 .0 .0, pre .1 .0 .1)
 
 -- src/starts.rt:134:5
 first-start-requires : tie.Need-first-start-requires
-first-start-requires c κs = (c .before .before .before .before .before .before .before .before .before .before .before .before .before .before .before .before .before .before .before .before .before .before .before .before .before .before .before .before .before .before .before .before .before .before .before .before .before .pre .0 .inside .opened .sound, (record { inside = shelves-paired (c .before .before .before .before .before .before .before .before .before .before .before .before .before .before .before .before .before .before .before .before .before .before .pass-heads .ensures .0) }, ((c .before .before .before .before .before .before .before .before .before .before .before .before .before .before .before .before .before .before .before .before .before .before .before .before .before .before .before .before .before .before .before .before .before .before .before .before .before .pre .0 .inside .opened .setting .some-k, omega (arith, c .before .before .before .before .before .before .before .before .before .before .before .before .before .before .before .before .before .before .before .before .before .before .before .before .before .before .before .before .before .before .before .before .before .before .before .before .before .pre .1 .0 .0), c .before .before .before .before .before .before .before .before .before .before .before .before .before .before .before .before .before .before .before .before .before .before .before .before .before .before .before .before .before .before .before .before .before .before .before .before .before .pre .1 .0 .1, c .before .before .before .before .before .before .before .before .before .before .before .before .before .before .before .before .before .before .before .before .before .before .before .before .before .before .before .before .before .before .before .before .before .before .before .before .before .pre .1 .0 .3, c .before .before .before .before .before .before .before .before .before .before .before .before .before .before .before .before .before .before .before .before .before .before .before .before .before .before .before .before .before .before .before .before .before .before .before .before .before .pre .1 .0 .4), (c .before .before .before .before .before .before .before .before .before .before .before .before .before .before .step .kept .1 .1 .1 .1 .1 .1 .1 .1 .1 .1 .0 ∙ c .before .before .before .before .before .before .before .before .before .before .before .before .before .before .before .before .before .before .before .before .before .before .before .before .before .before .before .before .before .before .before .before .before .before .before .before .before .pre .0 .inside .times-are .long, c .before .before .before .before .before .before .before .before .before .before .before .before .before .before .step .kept .1 .1 .1 .1 .1 .1 .1 .1 .1 .1 .1 .0 ∙ c .before .before .before .before .before .before .before .before .before .before .before .before .before .before .before .before .before .before .before .before .before .before .before .before .before .before .before .before .before .before .before .before .before .before .before .before .before .pre .0 .inside .spares .long, c .before .before .before .before .before .before .before .before .before .before .before .before .before .before .step .kept .1 .1 .1 .1 .1 .1 .1 .1 .1 .1 .1 .1 .0 ∙ c .before .before .before .before .before .before .before .before .before .before .before .before .before .before .before .before .before .before .before .before .before .before .before .before .before .before .before .before .before .before .before .before .before .before .before .before .before .pre .1 .1, c .before .before .before .before .before .before .before .before .before .before .before .before .before .before .step .kept .1 .1 .1 .1 .1 .1 .1 .1 .1 .1 .1 .1 .1 .1 .0 ∙ (c .before .before .before .before .before .before .before .before .before .before .before .before .before .before .before .before .before .before .before .before .before .before .before .before .before .before .drop-rows .kept .1 .1 .1 .1 .1 .1 .1 .1 .1 .1 .0 ∙ c .before .before .before .before .before .before .before .before .before .before .before .before .before .before .before .before .before .before .before .before .before .before .before .before .before .before .before .before .before .before .before .before .before .before .before .before .before .pre .0 .inside .timed .long)))))
+first-start-requires c κs =
+    let step = c .before .before .before .before .before .before .before .before .before .before .before .before .before .before .step in
+    let pass-heads = c .before .before .before .before .before .before .before .before .before .before .before .before .before .before .before .before .before .before .before .before .before .before .pass-heads in
+    let drop-rows = c .before .before .before .before .before .before .before .before .before .before .before .before .before .before .before .before .before .before .before .before .before .before .before .before .before .before .drop-rows in
+    let pre = c .before .before .before .before .before .before .before .before .before .before .before .before .before .before .before .before .before .before .before .before .before .before .before .before .before .before .before .before .before .before .before .before .before .before .before .before .before .pre in (
+      pre .0 .inside .opened .sound,
+      (
+        record { inside = shelves-paired (pass-heads .ensures .0) },
+        (
+          (pre .0 .inside .opened .setting .some-k, omega (arith, pre .1 .0 .0), pre .1 .0 .1, pre .1 .0 .3, pre .1 .0 .4),
+          (
+            step .kept .1 .1 .1 .1 .1 .1 .1 .1 .1 .1 .0 ∙ pre .0 .inside .times-are .long,
+            step .kept .1 .1 .1 .1 .1 .1 .1 .1 .1 .1 .1 .0 ∙ pre .0 .inside .spares .long,
+            step .kept .1 .1 .1 .1 .1 .1 .1 .1 .1 .1 .1 .1 .0 ∙ pre .1 .1,
+            step .kept .1 .1 .1 .1 .1 .1 .1 .1 .1 .1 .1 .1 .1 .1 .0 ∙
+                (drop-rows .kept .1 .1 .1 .1 .1 .1 .1 .1 .1 .1 .0 ∙ pre .0 .inside .timed .long),
+          ),
+        ),
+      ),
+    )
 
 -- src/starts.rt:91:1
 same-length-6 : tie.Need-same-length-6
-same-length-6 c = c .before .before .before .before .before .before .before .before .before .before .first-start .kept .1 .1 .1 .0 ∙ c .before .before .before .before .before .before .before .before .before .before .before .before .before .before .before .before .before .before .before .before .before .before .before .before .before .before .before .before .before .before .before .before .before .pass-heads .kept .1 .1 .1 .0
+same-length-6 c =
+    let first-start = c .before .before .before .before .before .before .before .before .before .before .first-start in
+    let pass-heads = c .before .before .before .before .before .before .before .before .before .before .before .before .before .before .before .before .before .before .before .before .before .before .before .before .before .before .before .before .before .before .before .before .before .pass-heads in
+    first-start .kept .1 .1 .1 .0 ∙ pass-heads .kept .1 .1 .1 .0
 
 -- src/starts.rt:91:1
 same-length-7 : tie.Need-same-length-7
@@ -76,7 +140,12 @@ same-length-9 c = search needs
 
 -- src/starts.rt:91:1
 same-length-10 : tie.Need-same-length-10
-same-length-10 c = c .before .before .before .before .before .before .before .before .before .before .first-start .kept .1 .1 .1 .1 .1 .1 .1 .1 .1 .1 .1 .1 .0 ∙ (c .before .before .before .before .before .before .before .before .before .before .before .before .before .before .before .before .before .before .before .before .before .before .before .before .before .step .kept .1 .1 .1 .1 .1 .1 .1 .1 .1 .1 .1 .1 .1 .1 .0 ∙ c .before .before .before .before .before .before .before .before .before .before .before .before .before .before .before .before .before .before .before .before .before .before .before .before .before .before .before .before .before .before .before .before .before .before .before .before .before .drop-rows .kept .1 .1 .1 .1 .1 .1 .1 .1 .1 .1 .0)
+same-length-10 c =
+    let first-start = c .before .before .before .before .before .before .before .before .before .before .first-start in
+    let step = c .before .before .before .before .before .before .before .before .before .before .before .before .before .before .before .before .before .before .before .before .before .before .before .before .before .step in
+    let drop-rows = c .before .before .before .before .before .before .before .before .before .before .before .before .before .before .before .before .before .before .before .before .before .before .before .before .before .before .before .before .before .before .before .before .before .before .before .before .before .drop-rows in
+    first-start .kept .1 .1 .1 .1 .1 .1 .1 .1 .1 .1 .1 .1 .0 ∙
+    (step .kept .1 .1 .1 .1 .1 .1 .1 .1 .1 .1 .1 .1 .1 .1 .0 ∙ drop-rows .kept .1 .1 .1 .1 .1 .1 .1 .1 .1 .1 .0)
 
 -- src/starts.rt:91:1
 returns-2 : tie.Need-returns-2
@@ -85,21 +154,8 @@ returns-2 c = search needs
 pub next-start-spec : {M : Type 1} → statement M
 next-start-spec =
     tie.close
-    (tie.spec
-    drop-rows-requires
-    pass-heads-requires
-    step-requires
-    same-length
-    same-length-2
-    same-length-3
-    same-length-4
-    same-length-5
-    returns
-    add-first-start
-    first-start-requires
-    same-length-6
-    same-length-7
-    same-length-8
-    same-length-9
-    same-length-10
-    returns-2)
+    (
+    tie.spec drop-rows-requires pass-heads-requires step-requires same-length same-length-2 same-length-3
+    same-length-4 same-length-5 returns add-first-start first-start-requires same-length-6 same-length-7
+    same-length-8 same-length-9 same-length-10 returns-2
+    )

@@ -54,7 +54,12 @@ enum-known-found c = search needs
 
 -- src/table.rt:46:17
 returns : tie.Need-returns Inv-loop μ-loop
-returns c = pass-refused _ _ _ _ _ _ (c .before .before .before .before .before .before .before .before .loop .inv) (c .before .before .before .before .before .before .before .loop-test .taken) (sym (c .before .found .given .1) ∙ c .before .before .before .check-row .ensures)
+returns c =
+    let found = c .before .found in
+    let check-row = c .before .before .before .check-row in
+    let loop-test = c .before .before .before .before .before .before .before .loop-test in
+    let loop = c .before .before .before .before .before .before .before .before .loop in
+    pass-refused _ _ _ _ _ _ (loop .inv) (loop-test .taken) (sym (found .given .1) ∙ check-row .ensures)
 
 -- src/table.rt:49:17
 enum-told : tie.Need-enum-told Inv-loop μ-loop
@@ -70,30 +75,23 @@ loop-less c = search needs
 
 -- src/table.rt:41:5
 loop-again : tie.Need-loop-again Inv-loop μ-loop
-loop-again c = pass-next _ _ _ _ _ (c .before .before .before .before .before .before .before .loop .inv) (c .before .before .before .before .before .before .loop-test .taken) (sym (c .enum-told .given .1) ∙ c .before .before .check-row .ensures)
+loop-again c =
+    let check-row = c .before .before .check-row in
+    let loop-test = c .before .before .before .before .before .before .loop-test in
+    let loop = c .before .before .before .before .before .before .before .loop in
+    pass-next _ _ _ _ _ (loop .inv) (loop-test .taken) (sym (c .enum-told .given .1) ∙ check-row .ensures)
 
 -- src/table.rt:35:1
 returns-2 : tie.Need-returns-2 Inv-loop μ-loop
-returns-2 c = pass-end _ _ _ _ _ (c .before .loop .inv) (c .loop-test .left)
+returns-2 c =
+    let loop = c .before .loop in
+    pass-end _ _ _ _ _ (loop .inv) (c .loop-test .left)
 
 pub check-rows-spec : {M : Type 1} → statement M
 check-rows-spec =
     tie.close
-    (tie.spec
-    Inv-loop
-    μ-loop
-    loop-holds
-    mul-day
-    shared-slice-read-day
-    mul-check-row
-    shared-slice-read-check-row
-    mul-check-row-2
-    shared-slice-read-check-row-2
-    check-row-requires
-    enum-known-found
-    returns
-    enum-told
-    add-j
-    loop-less
-    loop-again
-    returns-2)
+    (
+    tie.spec Inv-loop μ-loop loop-holds mul-day shared-slice-read-day mul-check-row shared-slice-read-check-row
+    mul-check-row-2 shared-slice-read-check-row-2 check-row-requires enum-known-found returns enum-told add-j
+    loop-less loop-again returns-2
+    )

@@ -18,12 +18,17 @@ returns c = simp (ne-eqb _ _ (c .if1 .taken))
 -- src/table.rt:64:9
 returns-2 : tie.Need-returns-2
 unfolding tableCheck _when_ _then_ _and_ no
-returns-2 c = simp (eq-eqb _ _ (c .before .if1 .left), ne-eqb _ _ (c .if2 .taken))
+returns-2 c =
+    let if1 = c .before .if1 in
+    simp (eq-eqb _ _ (if1 .left), ne-eqb _ _ (c .if2 .taken))
 
 -- src/table.rt:67:9
 returns-3 : tie.Need-returns-3
 unfolding tableCheck _when_ _then_ _and_ no
-returns-3 c = simp (eq-eqb _ _ (c .before .before .if1 .left), eq-eqb _ _ (c .before .if2 .left), lt-ltb _ _ (c .if3 .taken))
+returns-3 c =
+    let if2 = c .before .if2 in
+    let if1 = c .before .before .if1 in
+    simp (eq-eqb _ _ (if1 .left), eq-eqb _ _ (if2 .left), lt-ltb _ _ (c .if3 .taken))
 
 -- src/table.rt:69:5
 check-rows-requires : tie.Need-check-rows-requires
@@ -32,7 +37,11 @@ check-rows-requires c κs = search needs
 -- src/table.rt:57:1
 returns-4 : tie.Need-returns-4
 unfolding tableCheck _when_ _then_ _and_ no
-returns-4 c = simp (eq-eqb _ _ (c .before .before .before .if1 .left), eq-eqb _ _ (c .before .before .if2 .left), le-ltb _ _ (c .before .if3 .left)) (c .check-rows .ensures)
+returns-4 c =
+    let if3 = c .before .if3 in
+    let if2 = c .before .before .if2 in
+    let if1 = c .before .before .before .if1 in
+    simp (eq-eqb _ _ (if1 .left), eq-eqb _ _ (if2 .left), le-ltb _ _ (if3 .left)) (c .check-rows .ensures)
 
 pub check-table-spec : {M : Type 1} → statement M
 check-table-spec = tie.close (tie.spec returns returns-2 returns-3 check-rows-requires returns-4)

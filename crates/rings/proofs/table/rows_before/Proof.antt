@@ -31,7 +31,10 @@ mul-if1 c = search needs
 
 -- src/table.rt:82:12
 shared-slice-read-if1 : tie.Need-shared-slice-read-if1 Inv-loop μ-loop
-shared-slice-read-if1 c = omega (arith, c .before .loop-test .taken, c .before .before .loop .inv .within)
+shared-slice-read-if1 c =
+    let loop-test = c .before .loop-test in
+    let loop = c .before .before .loop in
+    omega (arith, loop-test .taken, loop .inv .within)
 
 -- src/table.rt:83:19
 add-low : tie.Need-add-low Inv-loop μ-loop
@@ -39,38 +42,42 @@ add-low c = search needs
 
 -- src/table.rt:80:5
 loop-less : tie.Need-loop-less Inv-loop μ-loop
-loop-less c = omega (arith, c .before .before .loop-test .taken)
+loop-less c =
+    let loop-test = c .before .before .loop-test in
+    omega (arith, loop-test .taken)
 
 -- src/table.rt:80:5
 loop-again : tie.Need-loop-again Inv-loop μ-loop
-loop-again c = half-up (c .before .before .before .before .pre) (c .before .before .before .loop .inv) (omega (arith, c .before .before .loop-test .taken)) (omega (arith, c .before .before .loop-test .taken)) (c .if1 .taken)
+loop-again c =
+    let loop-test = c .before .before .loop-test in
+    let loop = c .before .before .before .loop in
+    let pre = c .before .before .before .before .pre in
+    half-up (pre) (loop .inv) (omega (arith, loop-test .taken)) (omega (arith, loop-test .taken)) (c .if1 .taken)
 
 -- src/table.rt:80:5
 loop-less-2 : tie.Need-loop-less-2 Inv-loop μ-loop
-loop-less-2 c = omega (arith, c .before .before .loop-test .taken)
+loop-less-2 c =
+    let loop-test = c .before .before .loop-test in
+    omega (arith, loop-test .taken)
 
 -- src/table.rt:80:5
 loop-again-2 : tie.Need-loop-again-2 Inv-loop μ-loop
-loop-again-2 c = half-down (c .before .before .before .before .pre) (c .before .before .before .loop .inv) (omega (arith, c .before .before .loop-test .taken)) (omega (arith, c .before .before .loop-test .taken)) (c .if1 .left)
+loop-again-2 c =
+    let loop-test = c .before .before .loop-test in
+    let loop = c .before .before .before .loop in
+    let pre = c .before .before .before .before .pre in
+    half-down (pre) (loop .inv) (omega (arith, loop-test .taken)) (omega (arith, loop-test .taken)) (c .if1 .left)
 
 -- src/table.rt:74:1
 returns : tie.Need-returns Inv-loop μ-loop
-returns c = half-end (c .before .loop .inv) (c .loop-test .left)
+returns c =
+    let loop = c .before .loop in
+    half-end (loop .inv) (c .loop-test .left)
 
 pub rows-before-spec : {M : Type 1} → statement M
 rows-before-spec =
     tie.close
-    (tie.spec
-    Inv-loop
-    μ-loop
-    loop-holds
-    sub-middle
-    add-middle
-    mul-if1
-    shared-slice-read-if1
-    add-low
-    loop-less
-    loop-again
-    loop-less-2
-    loop-again-2
-    returns)
+    (
+    tie.spec Inv-loop μ-loop loop-holds sub-middle add-middle mul-if1 shared-slice-read-if1 add-low loop-less
+    loop-again loop-less-2 loop-again-2 returns
+    )

@@ -24,11 +24,16 @@ mul-if1 c = search needs
 
 -- src/table.rt:96:16
 shared-slice-read-if1 : tie.Need-shared-slice-read-if1 Inv-loop μ-loop
-shared-slice-read-if1 c = c .before .loop-test .taken
+shared-slice-read-if1 c =
+    let loop-test = c .before .loop-test in
+    loop-test .taken
 
 -- src/table.rt:97:13
 returns : tie.Need-returns Inv-loop μ-loop
-returns c = scan-found (c .before .before .before .before .pre .0) (c .before .before .before .loop .inv) (omega (arith, c .if1 .taken))
+returns c =
+    let loop = c .before .before .before .loop in
+    let pre = c .before .before .before .before .pre in
+    scan-found (pre .0) (loop .inv) (omega (arith, c .if1 .taken))
 
 -- src/table.rt:99:9
 add-r : tie.Need-add-r Inv-loop μ-loop
@@ -36,27 +41,24 @@ add-r c = search needs
 
 -- src/table.rt:95:5
 loop-less : tie.Need-loop-less Inv-loop μ-loop
-loop-less c = omega (arith, c .before .before .loop-test .taken)
+loop-less c =
+    let loop-test = c .before .before .loop-test in
+    omega (arith, loop-test .taken)
 
 -- src/table.rt:95:5
 loop-again : tie.Need-loop-again Inv-loop μ-loop
-loop-again c = scan-next (c .before .before .before .loop .inv) (c .before .before .loop-test .taken) (omega (arith, c .if1 .left))
+loop-again c =
+    let loop-test = c .before .before .loop-test in
+    let loop = c .before .before .before .loop in
+    scan-next (loop .inv) (loop-test .taken) (omega (arith, c .if1 .left))
 
 -- src/table.rt:89:1
 returns-2 : tie.Need-returns-2 Inv-loop μ-loop
-returns-2 c = scan-end (c .before .loop .inv) (c .loop-test .left)
+returns-2 c =
+    let loop = c .before .loop in
+    scan-end (loop .inv) (c .loop-test .left)
 
 pub rows-through-spec : {M : Type 1} → statement M
 rows-through-spec =
     tie.close
-    (tie.spec
-    Inv-loop
-    μ-loop
-    loop-holds
-    mul-if1
-    shared-slice-read-if1
-    returns
-    add-r
-    loop-less
-    loop-again
-    returns-2)
+    (tie.spec Inv-loop μ-loop loop-holds mul-if1 shared-slice-read-if1 returns add-r loop-less loop-again returns-2)

@@ -34,11 +34,37 @@ enum-told c = search needs
 
 -- src/times.rt:94:13
 find-times-requires : tie.Need-find-times-requires
-find-times-requires c κs = (call-sound _ _ _ _ _ _ _ (sym (c .before .before .before .before .before .check-call .ensures) ∙ c .before .before .before .enum-told .given .1), (call-k _ _ _ _ _ _ _ (sym (c .before .before .before .before .before .check-call .ensures) ∙ c .before .before .before .enum-told .given .1) .0, start-e (c .before .before .before .before .before .before .before .before .before .before .before .before .before .before .args .ts) (c .before .before .before .before .before .before .before .before .before .before .before .before .before .before .args .s) (c .before .before .before .before .before .before .before .before .before .before .before .before .before .before .args .te) (c .before .before .before .before .before .before .before .is-start .ensures) (call-window _ _ _ _ _ _ _ (sym (c .before .before .before .before .before .check-call .ensures) ∙ c .before .before .before .enum-told .given .1)) .0, start-e (c .before .before .before .before .before .before .before .before .before .before .before .before .before .before .args .ts) (c .before .before .before .before .before .before .before .before .before .before .before .before .before .before .args .s) (c .before .before .before .before .before .before .before .before .before .before .before .before .before .before .args .te) (c .before .before .before .before .before .before .before .is-start .ensures) (call-window _ _ _ _ _ _ _ (sym (c .before .before .before .before .before .check-call .ensures) ∙ c .before .before .before .enum-told .given .1)) .1, lengths-e (length (c .before .before .before .before .before .before .before .before .before .before .before .before .before .before .args .accounts .now)) 4096 (length (c .before .before .before .before .before .before .before .before .before .before .before .before .before .before .args .rows .now)) (length (c .before .before .before .before .before .before .before .before .before .before .before .before .before .before .args .days .now)) (c .before .before .before .before .before .before .are-equal .ensures) (call-lengths _ _ _ _ _ _ _ (sym (c .before .before .before .before .before .check-call .ensures) ∙ c .before .before .before .enum-told .given .1)) .0, lengths-e (length (c .before .before .before .before .before .before .before .before .before .before .before .before .before .before .args .accounts .now)) 4096 (length (c .before .before .before .before .before .before .before .before .before .before .before .before .before .before .args .rows .now)) (length (c .before .before .before .before .before .before .before .before .before .before .before .before .before .before .args .days .now)) (c .before .before .before .before .before .before .are-equal .ensures) (call-lengths _ _ _ _ _ _ _ (sym (c .before .before .before .before .before .check-call .ensures) ∙ c .before .before .before .enum-told .given .1)) .1, call-scratch _ _ _ _ _ _ _ (sym (c .before .before .before .before .before .check-call .ensures) ∙ c .before .before .before .enum-told .given .1)))
+find-times-requires c κs =
+    let enum-told = c .before .before .before .enum-told in
+    let check-call = c .before .before .before .before .before .check-call in
+    let are-equal = c .before .before .before .before .before .before .are-equal in
+    let is-start = c .before .before .before .before .before .before .before .is-start in
+    let args = c .before .before .before .before .before .before .before .before .before .before .before .before .before .before .args in (
+      call-sound _ _ _ _ _ _ _ (sym (check-call .ensures) ∙ enum-told .given .1),
+      (
+        call-k _ _ _ _ _ _ _ (sym (check-call .ensures) ∙ enum-told .given .1) .0,
+        start-e (args .ts) (args .s) (args .te) (is-start .ensures)
+            (call-window _ _ _ _ _ _ _ (sym (check-call .ensures) ∙ enum-told .given .1)) .0,
+        start-e (args .ts) (args .s) (args .te) (is-start .ensures)
+            (call-window _ _ _ _ _ _ _ (sym (check-call .ensures) ∙ enum-told .given .1)) .1,
+        lengths-e (length (args .accounts .now)) 4096 (length (args .rows .now)) (length (args .days .now))
+            (are-equal .ensures) (call-lengths _ _ _ _ _ _ _ (sym (check-call .ensures) ∙ enum-told .given .1)) .0,
+        lengths-e (length (args .accounts .now)) 4096 (length (args .rows .now)) (length (args .days .now))
+            (are-equal .ensures) (call-lengths _ _ _ _ _ _ _ (sym (check-call .ensures) ∙ enum-told .given .1)) .1,
+        call-scratch _ _ _ _ _ _ _ (sym (check-call .ensures) ∙ enum-told .given .1),
+      ),
+    )
 
 -- src/times.rt:81:1
 returns : tie.Need-returns
-returns c = times-refused _ _ _ _ _ (c .before .before .before .before .before .before .before .before .before .before .before .before .args .accounts .now) (c .before .before .before .before .before .before .before .before .before .before .before .before .args .rows .now) (c .before .before .before .before .before .before .before .before .before .before .before .before .args .scratch .now) (c .before .before .before .before .before .is-start .ensures) (c .before .before .before .before .are-equal .ensures) (sym (c .before .before .before .check-call .ensures) ∙ c .before .found .given .1)
+returns c =
+    let found = c .before .found in
+    let check-call = c .before .before .before .check-call in
+    let are-equal = c .before .before .before .before .are-equal in
+    let is-start = c .before .before .before .before .before .is-start in
+    let args = c .before .before .before .before .before .before .before .before .before .before .before .before .args in
+    times-refused _ _ _ _ _ (args .accounts .now) (args .rows .now) (args .scratch .now) (is-start .ensures)
+    (are-equal .ensures) (sym (check-call .ensures) ∙ found .given .1)
 
 -- src/times.rt:81:1
 same-length : tie.Need-same-length
@@ -54,20 +80,21 @@ same-length-3 c = search needs
 
 -- src/times.rt:81:1
 returns-2 : tie.Need-returns-2
-returns-2 c = times-done _ _ _ _ _ (c .before .before .before .before .before .before .before .before .before .before .before .before .before .before .before .before .before .before .before .before .before .args .accounts .now) (c .before .before .before .before .before .before .before .before .before .before .before .before .before .before .before .before .before .before .before .before .before .args .rows .now) (c .before .before .before .before .before .before .before .before .before .before .before .before .before .before .before .before .before .before .before .before .before .args .scratch .now) (c .before .before .before .before .before .before .before .before .before .before .before .before .before .before .is-start .ensures) (c .before .before .before .before .before .before .before .before .before .before .before .before .before .are-equal .ensures) (sym (c .before .before .before .before .before .before .before .before .before .before .before .before .check-call .ensures) ∙ c .before .before .before .before .before .before .before .before .before .before .enum-told .given .1) (c .before .before .before .before .before .before .find-times .ensures .0) (c .before .before .before .before .before .before .find-times .ensures .1) (c .before .before .before .before .before .before .find-times .ensures .2)
+returns-2 c =
+    let find-times = c .before .before .before .before .before .before .find-times in
+    let enum-told = c .before .before .before .before .before .before .before .before .before .before .enum-told in
+    let check-call = c .before .before .before .before .before .before .before .before .before .before .before .before .check-call in
+    let are-equal = c .before .before .before .before .before .before .before .before .before .before .before .before .before .are-equal in
+    let is-start = c .before .before .before .before .before .before .before .before .before .before .before .before .before .before .is-start in
+    let args = c .before .before .before .before .before .before .before .before .before .before .before .before .before .before .before .before .before .before .before .before .before .args in
+    times-done _ _ _ _ _ (args .accounts .now) (args .rows .now) (args .scratch .now) (is-start .ensures)
+    (are-equal .ensures) (sym (check-call .ensures) ∙ enum-told .given .1) (find-times .ensures .0)
+    (find-times .ensures .1) (find-times .ensures .2)
 
 pub core-times-spec : {M : Type 1} → statement M
 core-times-spec =
     tie.close
-    (tie.spec
-    is-start-requires
-    are-equal-requires
-    check-call-requires
-    enum-known-found
-    enum-told
-    find-times-requires
-    returns
-    same-length
-    same-length-2
-    same-length-3
-    returns-2)
+    (
+    tie.spec is-start-requires are-equal-requires check-call-requires enum-known-found enum-told find-times-requires
+    returns same-length same-length-2 same-length-3 returns-2
+    )

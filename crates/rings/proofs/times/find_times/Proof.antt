@@ -34,7 +34,11 @@ link-requires c κs = search needs
 
 -- src/times.rt:119:5
 move-heads-requires : tie.Need-move-heads-requires
-move-heads-requires c κs = (c .before .before .before .before .before .before .before .before .before .before .before .before .before .pre .0, (c .before .before .before .link .ensures, (omega arith, split-none _, c .before .before .before .before .before .before .rows-before .ensures)))
+move-heads-requires c κs =
+    let link = c .before .before .before .link in
+    let rows-before = c .before .before .before .before .before .before .rows-before in
+    let pre = c .before .before .before .before .before .before .before .before .before .before .before .before .before .pre in
+    (pre .0, (link .ensures, (omega arith, split-none _, rows-before .ensures)))
 
 -- src/times.rt:131:9
 slice-aggregate-peel : tie.Need-slice-aggregate-peel
@@ -46,11 +50,25 @@ slice-aggregate-peel-2 c = search needs
 
 -- src/times.rt:120:5
 peel-requires : tie.Need-peel-requires
-peel-requires c κs = (ready-of (c .before .before .before .before .before .before .before .before .before .before .before .before .before .before .before .before .before .before .before .before .pre .0) (c .before .before .before .before .before .before .move-heads .ensures .0) (c .before .before .before .before .before .before .before .before .before .before .before .before .before .before .before .before .before .before .before .before .pre .1 .0) (c .before .before .before .before .before .before .before .before .before .before .before .before .before .before .before .before .before .before .before .before .pre .1 .2) (c .before .before .before .before .before .before .before .before .before .before .before .before .before .rows-before .ensures), (span-of (c .before .before .before .before .before .before .before .before .before .before .before .before .before .before .before .before .before .before .before .before .pre .1 .1) (c .before .before .before .before .before .before .before .before .before .before .before .before .before .rows-before .ensures) (c .before .before .before .before .before .before .before .before .before .before .before .before .rows-before2 .ensures), (c .before .before .before .before .before .before .before .before .before .before .before .before .before .before .before .before .before .before .before .before .pre .1 .3, refl, omega arith)))
+peel-requires c κs =
+    let move-heads = c .before .before .before .before .before .before .move-heads in
+    let rows-before2 = c .before .before .before .before .before .before .before .before .before .before .before .before .rows-before2 in
+    let rows-before = c .before .before .before .before .before .before .before .before .before .before .before .before .before .rows-before in
+    let pre = c .before .before .before .before .before .before .before .before .before .before .before .before .before .before .before .before .before .before .before .before .pre in (
+      ready-of (pre .0) (move-heads .ensures .0) (pre .1 .0) (pre .1 .2) (rows-before .ensures),
+      (span-of (pre .1 .1) (rows-before .ensures) (rows-before2 .ensures), (pre .1 .3, refl, omega arith)),
+    )
 
 -- src/times.rt:134:5
 time-rows-requires : tie.Need-time-rows-requires
-time-rows-requires c κs = (framed-of (c .before .before .before .before .before .before .before .before .before .before .before .before .before .before .before .before .before .before .before .before .before .before .before .before .before .before .before .pre .0) (c .before .before .before .before .before .before .before .before .before .before .before .before .before .before .before .before .before .before .before .before .before .before .before .before .before .before .before .pre .1 .0) (c .before .before .before .before .before .before .before .before .before .before .before .before .before .before .before .before .before .before .before .before .before .before .before .before .before .before .before .pre .1 .2) (c .before .before .before .before .before .before .before .before .before .before .before .before .before .before .before .before .before .before .before .before .rows-before .ensures), (span-of (c .before .before .before .before .before .before .before .before .before .before .before .before .before .before .before .before .before .before .before .before .before .before .before .before .before .before .before .pre .1 .1) (c .before .before .before .before .before .before .before .before .before .before .before .before .before .before .before .before .before .before .before .before .rows-before .ensures) (c .before .before .before .before .before .before .before .before .before .before .before .before .before .before .before .before .before .before .before .rows-before2 .ensures), (c .before .before .before .before .before .before .peel .ensures, c .before .before .before .before .before .before .before .before .before .before .before .before .before .before .before .before .before .before .before .before .before .before .before .before .before .before .before .pre .1 .4)))
+time-rows-requires c κs =
+    let peel = c .before .before .before .before .before .before .peel in
+    let rows-before2 = c .before .before .before .before .before .before .before .before .before .before .before .before .before .before .before .before .before .before .before .rows-before2 in
+    let rows-before = c .before .before .before .before .before .before .before .before .before .before .before .before .before .before .before .before .before .before .before .before .rows-before in
+    let pre = c .before .before .before .before .before .before .before .before .before .before .before .before .before .before .before .before .before .before .before .before .before .before .before .before .before .before .before .pre in (
+      framed-of (pre .0) (pre .1 .0) (pre .1 .2) (rows-before .ensures),
+      (span-of (pre .1 .1) (rows-before .ensures) (rows-before2 .ensures), (peel .ensures, pre .1 .4)),
+    )
 
 -- src/times.rt:146:5
 clear-requires : tie.Need-clear-requires
@@ -70,23 +88,22 @@ same-length-3 c = search needs
 
 -- src/times.rt:99:1
 returns : tie.Need-returns
-returns c = (accounts-are (c .before .before .before .before .before .before .before .before .before .before .before .before .before .peel .ensures), c .before .before .before .before .before .before .time-rows .ensures, c .before .before .clear .ensures ∙ ap (λ (m : ℕ). replicate m 0) (c .before .before .before .before .before .before .before .before .before .before .before .before .before .before .before .before .before .before .before .before .move-heads .kept .1 .1 .1 .0 ∙ c .before .before .before .before .before .before .before .before .before .before .before .before .before .before .before .before .before .before .before .before .before .before .before .before .link .kept .1 .1 .1 .0))
+returns c =
+    let clear = c .before .before .clear in
+    let time-rows = c .before .before .before .before .before .before .time-rows in
+    let peel = c .before .before .before .before .before .before .before .before .before .before .before .before .before .peel in
+    let move-heads = c .before .before .before .before .before .before .before .before .before .before .before .before .before .before .before .before .before .before .before .before .move-heads in
+    let link = c .before .before .before .before .before .before .before .before .before .before .before .before .before .before .before .before .before .before .before .before .before .before .before .before .link in (
+      accounts-are (peel .ensures),
+      time-rows .ensures,
+      clear .ensures ∙ ap (λ (m : ℕ). replicate m 0) (move-heads .kept .1 .1 .1 .0 ∙ link .kept .1 .1 .1 .0),
+    )
 
 pub find-times-spec : {M : Type 1} → statement M
 find-times-spec =
     tie.close
-    (tie.spec
-    rows-before-requires
-    add-rows-before
-    rows-before-requires-2
-    link-requires
-    move-heads-requires
-    slice-aggregate-peel
-    slice-aggregate-peel-2
-    peel-requires
-    time-rows-requires
-    clear-requires
-    same-length
-    same-length-2
-    same-length-3
-    returns)
+    (
+    tie.spec rows-before-requires add-rows-before rows-before-requires-2 link-requires move-heads-requires
+    slice-aggregate-peel slice-aggregate-peel-2 peel-requires time-rows-requires clear-requires same-length
+    same-length-2 same-length-3 returns
+    )

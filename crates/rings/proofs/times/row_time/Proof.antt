@@ -10,11 +10,15 @@ use Rattle.rings.proofs.times.greater.Reads as greater-reads
 
 -- src/times.rt:51:9
 returns : tie.Need-returns
-returns c = row-early _ _ _ _ (c .before .before .before .before .before .pre .0) (c .before .before .before .before .before .pre .1 .0) (c .before .before .before .before .before .pre .1 .1 .0) (c .before .before .before .before .before .pre .1 .1 .1) (c .if1 .taken)
+returns c =
+    let pre = c .before .before .before .before .before .pre in
+    row-early _ _ _ _ (pre .0) (pre .1 .0) (pre .1 .1 .0) (pre .1 .1 .1) (c .if1 .taken)
 
 -- src/times.rt:54:9
 returns-2 : tie.Need-returns-2
-returns-2 c = row-late _ _ _ _ (c .before .before .before .before .before .before .pre .0) (c .before .before .before .before .before .before .pre .1 .0) (c .before .before .before .before .before .before .pre .1 .1 .0) (c .before .before .before .before .before .before .pre .1 .1 .1) (c .if2 .taken)
+returns-2 c =
+    let pre = c .before .before .before .before .before .before .pre in
+    row-late _ _ _ _ (pre .0) (pre .1 .0) (pre .1 .1 .0) (pre .1 .1 .1) (c .if2 .taken)
 
 -- src/times.rt:56:9
 entry-requires : tie.Need-entry-requires
@@ -26,19 +30,38 @@ entry-requires-2 c κs = search needs
 
 -- src/times.rt:58:21
 mul-greater : tie.Need-mul-greater
-mul-greater c = omega (arith, row-reads _ _ _ _ (c .before .before .before .before .before .before .before .before .pre .0) (c .before .before .before .before .before .before .before .before .pre .1 .0) (c .before .before .before .before .before .before .before .before .pre .1 .1 .0) (c .before .before .before .before .before .before .before .before .pre .1 .1 .1) (c .before .entry .ensures) (c .entry2 .ensures))
+mul-greater c =
+    let entry = c .before .entry in
+    let pre = c .before .before .before .before .before .before .before .before .pre in
+    omega (
+      arith,
+      row-reads _ _ _ _ (pre .0) (pre .1 .0) (pre .1 .1 .0) (pre .1 .1 .1) (entry .ensures) (c .entry2 .ensures),
+    )
 
 -- src/times.rt:58:21
 shared-slice-read-greater : tie.Need-shared-slice-read-greater
-shared-slice-read-greater c = row-reads _ _ _ _ (c .before .before .before .before .before .before .before .before .before .pre .0) (c .before .before .before .before .before .before .before .before .before .pre .1 .0) (c .before .before .before .before .before .before .before .before .before .pre .1 .1 .0) (c .before .before .before .before .before .before .before .before .before .pre .1 .1 .1) (c .before .before .entry .ensures) (c .before .entry2 .ensures) .2
+shared-slice-read-greater c =
+    let entry2 = c .before .entry2 in
+    let entry = c .before .before .entry in
+    let pre = c .before .before .before .before .before .before .before .before .before .pre in
+    row-reads _ _ _ _ (pre .0) (pre .1 .0) (pre .1 .1 .0) (pre .1 .1 .1) (entry .ensures) (entry2 .ensures) .2
 
 -- src/times.rt:58:31
 mul-greater-2 : tie.Need-mul-greater-2
-mul-greater-2 c = omega (arith, row-reads _ _ _ _ (c .before .before .before .before .before .before .before .before .before .pre .0) (c .before .before .before .before .before .before .before .before .before .pre .1 .0) (c .before .before .before .before .before .before .before .before .before .pre .1 .1 .0) (c .before .before .before .before .before .before .before .before .before .pre .1 .1 .1) (c .before .before .entry .ensures) (c .before .entry2 .ensures))
+mul-greater-2 c =
+    let entry2 = c .before .entry2 in
+    let entry = c .before .before .entry in
+    let pre = c .before .before .before .before .before .before .before .before .before .pre in
+    omega
+    (arith, row-reads _ _ _ _ (pre .0) (pre .1 .0) (pre .1 .1 .0) (pre .1 .1 .1) (entry .ensures) (entry2 .ensures))
 
 -- src/times.rt:58:31
 shared-slice-read-greater-2 : tie.Need-shared-slice-read-greater-2
-shared-slice-read-greater-2 c = row-reads _ _ _ _ (c .before .before .before .before .before .before .before .before .before .before .pre .0) (c .before .before .before .before .before .before .before .before .before .before .pre .1 .0) (c .before .before .before .before .before .before .before .before .before .before .pre .1 .1 .0) (c .before .before .before .before .before .before .before .before .before .before .pre .1 .1 .1) (c .before .before .before .entry .ensures) (c .before .before .entry2 .ensures) .3
+shared-slice-read-greater-2 c =
+    let entry2 = c .before .before .entry2 in
+    let entry = c .before .before .before .entry in
+    let pre = c .before .before .before .before .before .before .before .before .before .before .pre in
+    row-reads _ _ _ _ (pre .0) (pre .1 .0) (pre .1 .1 .0) (pre .1 .1 .1) (entry .ensures) (entry2 .ensures) .3
 
 -- src/times.rt:58:13
 greater-requires : tie.Need-greater-requires
@@ -58,22 +81,21 @@ greater-requires-2 c κs = search needs
 
 -- src/times.rt:32:1
 returns-3 : tie.Need-returns-3
-returns-3 c = row-mid _ _ _ _ (c .before .before .before .before .before .before .before .before .before .before .before .before .before .pre .0) (c .before .before .before .before .before .before .before .before .before .before .before .before .before .pre .1 .0) (c .before .before .before .before .before .before .before .before .before .before .before .before .before .pre .1 .1 .0) (c .before .before .before .before .before .before .before .before .before .before .before .before .before .pre .1 .1 .1) (c .before .before .before .before .before .before .before .before .if1 .left) (c .before .before .before .before .before .before .before .if2 .left) (c .before .before .before .before .before .before .entry .ensures) (c .before .before .before .before .before .entry2 .ensures) (c .before .before .greater .ensures) (c .greater2 .ensures)
+returns-3 c =
+    let greater = c .before .before .greater in
+    let entry2 = c .before .before .before .before .before .entry2 in
+    let entry = c .before .before .before .before .before .before .entry in
+    let if2 = c .before .before .before .before .before .before .before .if2 in
+    let if1 = c .before .before .before .before .before .before .before .before .if1 in
+    let pre = c .before .before .before .before .before .before .before .before .before .before .before .before .before .pre in
+    row-mid _ _ _ _ (pre .0) (pre .1 .0) (pre .1 .1 .0) (pre .1 .1 .1) (if1 .left) (if2 .left) (entry .ensures)
+    (entry2 .ensures) (greater .ensures) (c .greater2 .ensures)
 
 pub row-time-spec : {M : Type 1} → statement M
 row-time-spec =
     tie.close
-    (tie.spec
-    returns
-    returns-2
-    entry-requires
-    entry-requires-2
-    mul-greater
-    shared-slice-read-greater
-    mul-greater-2
-    shared-slice-read-greater-2
-    greater-requires
-    mul-greater-3
-    shared-slice-read-greater-3
-    greater-requires-2
-    returns-3)
+    (
+    tie.spec returns returns-2 entry-requires entry-requires-2 mul-greater shared-slice-read-greater mul-greater-2
+    shared-slice-read-greater-2 greater-requires mul-greater-3 shared-slice-read-greater-3 greater-requires-2
+    returns-3
+    )

@@ -23,48 +23,66 @@ loop-holds c = (omega arith, fill-start _ _)
 
 -- src/times.rt:82:19
 row-time-requires : tie.Need-row-time-requires Inv-loop μ-loop
-row-time-requires c κs = (c .before .before .before .before .before .before .before .pre .0, (c .before .before .before .before .before .before .before .pre .1 .0, (c .before .before .before .before .before .before .before .pre .1 .1 .0, c .loop-test .taken)))
+row-time-requires c κs =
+    let pre = c .before .before .before .before .before .before .before .pre in
+    (pre .0, (pre .1 .0, (pre .1 .1 .0, c .loop-test .taken)))
 
 -- src/times.rt:82:9
 mul-rows : tie.Need-mul-rows Inv-loop μ-loop
-mul-rows c = omega (arith, c .before .loop-test .taken, c .before .before .before .before .before .before .before .before .pre .0 .sound .most)
+mul-rows c =
+    let loop-test = c .before .loop-test in
+    let pre = c .before .before .before .before .before .before .before .before .pre in
+    omega (arith, loop-test .taken, pre .0 .sound .most)
 
 -- src/times.rt:82:9
 slice-write-rows : tie.Need-slice-write-rows Inv-loop μ-loop
-slice-write-rows c = omega (arith, c .before .loop-test .taken, c .before .before .before .before .before .before .before .before .pre .1 .1 .1, c .before .before .loop .inv .1 .long)
+slice-write-rows c =
+    let loop-test = c .before .loop-test in
+    let loop = c .before .before .loop in
+    let pre = c .before .before .before .before .before .before .before .before .pre in
+    omega (arith, loop-test .taken, pre .1 .1 .1, loop .inv .1 .long)
 
 -- src/times.rt:94:9
 add-j : tie.Need-add-j Inv-loop μ-loop
-add-j c = omega (arith, c .before .loop-test .taken, c .before .before .before .before .before .before .before .before .pre .0 .sound .most)
+add-j c =
+    let loop-test = c .before .loop-test in
+    let pre = c .before .before .before .before .before .before .before .before .pre in
+    omega (arith, loop-test .taken, pre .0 .sound .most)
 
 -- src/times.rt:81:5
 loop-less : tie.Need-loop-less Inv-loop μ-loop
-loop-less c = omega (arith, c .before .loop-test .taken)
+loop-less c =
+    let loop-test = c .before .loop-test in
+    omega (arith, loop-test .taken)
 
 -- src/times.rt:81:5
 loop-again : tie.Need-loop-again Inv-loop μ-loop
-loop-again c = (omega (arith, c .before .loop-test .taken), fill-next (c .before .before .loop .inv .1) (omega (arith, c .before .loop-test .taken, c .before .before .before .before .before .before .before .before .pre .1 .1 .1, c .before .before .loop .inv .1 .long)) (c .row-time .ensures))
+loop-again c =
+    let loop-test = c .before .loop-test in
+    let loop = c .before .before .loop in
+    let pre = c .before .before .before .before .before .before .before .before .pre in (
+      omega (arith, loop-test .taken),
+      fill-next (loop .inv .1) (omega (arith, loop-test .taken, pre .1 .1 .1, loop .inv .1 .long))
+          (c .row-time .ensures),
+    )
 
 -- src/times.rt:62:1
 same-length : tie.Need-same-length Inv-loop μ-loop
-same-length c = c .before .loop .inv .1 .long
+same-length c =
+    let loop = c .before .loop in
+    loop .inv .1 .long
 
 -- src/times.rt:62:1
 returns : tie.Need-returns Inv-loop μ-loop
-returns c = fill-end _ (c .before .loop .inv .1) (c .before .before .before .before .before .before .before .pre .1 .1 .1) (c .loop-test .left)
+returns c =
+    let loop = c .before .loop in
+    let pre = c .before .before .before .before .before .before .before .pre in
+    fill-end _ (loop .inv .1) (pre .1 .1 .1) (c .loop-test .left)
 
 pub time-rows-spec : {M : Type 1} → statement M
 time-rows-spec =
     tie.close
-    (tie.spec
-    Inv-loop
-    μ-loop
-    loop-holds
-    row-time-requires
-    mul-rows
-    slice-write-rows
-    add-j
-    loop-less
-    loop-again
-    same-length
-    returns)
+    (
+    tie.spec Inv-loop μ-loop loop-holds row-time-requires mul-rows slice-write-rows add-j loop-less loop-again
+    same-length returns
+    )

@@ -27,32 +27,49 @@ is-numeral-requires c κs = tt
 returns : tie.Need-returns
 unfolding fieldOf
 returns c =
-    let a = c .before .before .before .before .before .args in
-    let blanks = c .before .before .before .blanks in
-    let is-numeral = c .before .is-numeral in
-    tail-broken 65535 (a .f .now) (blanks .result) (blanks .ensures .1) (is-numeral .ensures) (not-true (is-numeral .result) (c .if1 .taken))
+    let is-numeral′ = c .before .is-numeral in
+    let blanks′ = c .before .before .before .blanks in
+    let args = c .before .before .before .before .before .args in
+    let a = args in
+    let blanks = blanks′ in
+    let is-numeral = is-numeral′ in
+    tail-broken 65535 (a .f .now) (blanks .result) (blanks .ensures .1) (is-numeral .ensures)
+    (not-true (is-numeral .result) (c .if1 .taken))
 
 returns-2 : tie.Need-returns-2
 unfolding fieldOf
 returns-2 c =
-    let a = c .before .before .before .before .before .before .args in
-    let blanks = c .before .before .before .before .blanks in
-    let is-numeral = c .before .before .is-numeral in
-    tail-large 65535 (a .f .now) (blanks .result) (blanks .ensures .1) 5 (is-numeral .ensures) (not-false (is-numeral .result) (c .before .if1 .left)) (lit< tt) (c .if2 .taken) (lit< tt)
+    let if1 = c .before .if1 in
+    let is-numeral′ = c .before .before .is-numeral in
+    let blanks′ = c .before .before .before .before .blanks in
+    let args = c .before .before .before .before .before .before .args in
+    let a = args in
+    let blanks = blanks′ in
+    let is-numeral = is-numeral′ in
+    tail-large 65535 (a .f .now) (blanks .result) (blanks .ensures .1) 5 (is-numeral .ensures)
+    (not-false (is-numeral .result) (if1 .left)) (lit< tt) (c .if2 .taken) (lit< tt)
 
 value-of-requires : tie.Need-value-of-requires
 value-of-requires c κs =
-    let is-numeral = c .before .before .is-numeral in
-    (c .if2 .left, numeral-digits _ (sym (is-numeral .ensures) ∙ not-false (is-numeral .result) (c .before .if1 .left)))
+    let if1 = c .before .if1 in
+    let is-numeral′ = c .before .before .is-numeral in
+    let is-numeral = is-numeral′ in
+    (c .if2 .left, numeral-digits _ (sym (is-numeral .ensures) ∙ not-false (is-numeral .result) (if1 .left)))
 
 returns-3 : tie.Need-returns-3
 unfolding fieldOf
 returns-3 c =
-    let a = c .before .before .before .before .before .before .before .before .args in
-    let blanks = c .before .before .before .before .before .before .blanks in
-    let is-numeral = c .before .before .before .before .is-numeral in
-    let if1 = c .before .before .before .if1 in
-    tail-high 65535 (a .f .now) (blanks .result) (blanks .ensures .1) (is-numeral .ensures) (not-false (is-numeral .result) (if1 .left)) (c .before .value-of .ensures) (c .if3 .taken)
+    let value-of = c .before .value-of in
+    let if1′ = c .before .before .before .if1 in
+    let is-numeral′ = c .before .before .before .before .is-numeral in
+    let blanks′ = c .before .before .before .before .before .before .blanks in
+    let args = c .before .before .before .before .before .before .before .before .args in
+    let a = args in
+    let blanks = blanks′ in
+    let is-numeral = is-numeral′ in
+    let if1 = if1′ in
+    tail-high 65535 (a .f .now) (blanks .result) (blanks .ensures .1) (is-numeral .ensures)
+    (not-false (is-numeral .result) (if1 .left)) (value-of .ensures) (c .if3 .taken)
 
 cast-t10 : tie.Need-cast-t10
 cast-t10 c = omega arith
@@ -60,24 +77,22 @@ cast-t10 c = omega arith
 returns-4 : tie.Need-returns-4
 unfolding fieldOf
 returns-4 c =
-    let a = c .before .before .before .before .before .before .before .before .args in
-    let blanks = c .before .before .before .before .before .before .blanks in
-    let is-numeral = c .before .before .before .before .is-numeral in
-    let if1 = c .before .before .before .if1 in
-    tail-number 65535 (a .f .now) (blanks .result) (blanks .ensures .1) (is-numeral .ensures) (not-false (is-numeral .result) (if1 .left)) (c .before .value-of .ensures) (c .if3 .left)
+    let value-of = c .before .value-of in
+    let if1′ = c .before .before .before .if1 in
+    let is-numeral′ = c .before .before .before .before .is-numeral in
+    let blanks′ = c .before .before .before .before .before .before .blanks in
+    let args = c .before .before .before .before .before .before .before .before .args in
+    let a = args in
+    let blanks = blanks′ in
+    let is-numeral = is-numeral′ in
+    let if1 = if1′ in
+    tail-number 65535 (a .f .now) (blanks .result) (blanks .ensures .1) (is-numeral .ensures)
+    (not-false (is-numeral .result) (if1 .left)) (value-of .ensures) (c .if3 .left)
 
 pub read-field-spec : {M : Type 1} → statement M
 read-field-spec =
     tie.close
-    (tie.spec
-    blanks-requires
-    sub-digits
-    part-digits-start
-    part-digits-end
-    is-numeral-requires
-    returns
-    returns-2
-    value-of-requires
-    returns-3
-    cast-t10
-    returns-4)
+    (
+    tie.spec blanks-requires sub-digits part-digits-start part-digits-end is-numeral-requires returns returns-2
+    value-of-requires returns-3 cast-t10 returns-4
+    )

@@ -22,10 +22,16 @@ shared-slice-read-digit : tie.Need-shared-slice-read-digit Inv-loop μ-loop
 shared-slice-read-digit c = omega arith
 
 cast-digit : tie.Need-cast-digit Inv-loop μ-loop
-cast-digit c = omega (arith, c .shared-slice-known2 .given (c .before .before .loop .i))
+cast-digit c =
+    let loop = c .before .before .loop in
+    omega (arith, c .shared-slice-known2 .given (loop .i))
 
 sub-digit : tie.Need-sub-digit Inv-loop μ-loop
-sub-digit c = digit-at (c .before .before .before .before .args .f .now) (c .before .before .loop .i) (c .before .before .before .before .pre .1) (omega arith) .0
+sub-digit c =
+    let loop = c .before .before .loop in
+    let args = c .before .before .before .before .args in
+    let pre = c .before .before .before .before .pre in
+    digit-at (args .f .now) (loop .i) (pre .1) (omega arith) .0
 
 sub-place : tie.Need-sub-place Inv-loop μ-loop
 sub-place c = omega arith
@@ -38,19 +44,33 @@ place-requires c κs = omega arith
 
 mul-sum : tie.Need-mul-sum Inv-loop μ-loop
 mul-sum c =
-    let a = c .before .before .before .before .before .args in
-    let pre = c .before .before .before .before .before .pre in
-    let l = c .before .before .before .loop in
+    let loop = c .before .before .before .loop in
+    let args = c .before .before .before .before .before .args in
+    let pre′ = c .before .before .before .before .before .pre in
+    let a = args in
+    let pre = pre′ in
+    let l = loop in
     let place = c .place in
-    omega (arith, value-sum (a .f .now) (l .i) (place .result) (l .sum) (omega arith) (place .ensures) (pre .1) (pre .0) (l .inv .1))
+    omega (
+      arith,
+      value-sum (a .f .now) (l .i) (place .result) (l .sum) (omega arith) (place .ensures) (pre .1) (pre .0)
+          (l .inv .1),
+    )
 
 add-sum : tie.Need-add-sum Inv-loop μ-loop
 add-sum c =
-    let a = c .before .before .before .before .before .args in
-    let pre = c .before .before .before .before .before .pre in
-    let l = c .before .before .before .loop in
+    let loop = c .before .before .before .loop in
+    let args = c .before .before .before .before .before .args in
+    let pre′ = c .before .before .before .before .before .pre in
+    let a = args in
+    let pre = pre′ in
+    let l = loop in
     let place = c .place in
-    omega (arith, value-sum (a .f .now) (l .i) (place .result) (l .sum) (omega arith) (place .ensures) (pre .1) (pre .0) (l .inv .1))
+    omega (
+      arith,
+      value-sum (a .f .now) (l .i) (place .result) (l .sum) (omega arith) (place .ensures) (pre .1) (pre .0)
+          (l .inv .1),
+    )
 
 add-i : tie.Need-add-i Inv-loop μ-loop
 add-i c = omega arith
@@ -60,30 +80,23 @@ loop-less c = omega arith
 
 loop-again : tie.Need-loop-again Inv-loop μ-loop
 loop-again c =
-    let a = c .before .before .before .before .before .args in
-    let l = c .before .before .before .loop in
+    let loop = c .before .before .before .loop in
+    let args = c .before .before .before .before .before .args in
+    let a = args in
+    let l = loop in
     let place = c .place in
     (omega arith, omega (arith, value-next (a .f .now) (l .i) (place .result) (omega arith) (place .ensures)))
 
 returns : tie.Need-returns Inv-loop μ-loop
-returns c = omega (arith, value-end (c .before .before .before .args .f .now) (c .before .loop .i) (omega arith))
+returns c =
+    let loop = c .before .loop in
+    let args = c .before .before .before .args in
+    omega (arith, value-end (args .f .now) (loop .i) (omega arith))
 
 pub value-of-spec : {M : Type 1} → statement M
 value-of-spec =
     tie.close
-    (tie.spec
-    Inv-loop
-    μ-loop
-    loop-holds
-    shared-slice-read-digit
-    cast-digit
-    sub-digit
-    sub-place
-    sub-place-2
-    place-requires
-    mul-sum
-    add-sum
-    add-i
-    loop-less
-    loop-again
-    returns)
+    (
+    tie.spec Inv-loop μ-loop loop-holds shared-slice-read-digit cast-digit sub-digit sub-place sub-place-2
+    place-requires mul-sum add-sum add-i loop-less loop-again returns
+    )

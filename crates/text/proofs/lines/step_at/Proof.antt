@@ -25,16 +25,10 @@ first-as-requires : tie.Need-first-as-requires
 first-as-requires c κs = omega arith
 
 returns-2 : tie.Need-returns-2
-returns-2 c = step-within (c .before .before .before .before .args .text .now) (c .before .before .before .before .args .line) (c .first-as .ensures)
+returns-2 c =
+    let args = c .before .before .before .before .args in
+    step-within (args .text .now) (args .line) (c .first-as .ensures)
 
 pub step-at-spec : {M : Type 1} → statement M
 step-at-spec =
-    tie.close
-    (tie.spec
-    returns
-    mul-at
-    sub-first-as
-    part-first-as-start
-    part-first-as-end
-    first-as-requires
-    returns-2)
+    tie.close (tie.spec returns mul-at sub-first-as part-first-as-start part-first-as-end first-as-requires returns-2)

@@ -6,10 +6,14 @@ use Rattle.text.proofs.print.has_room.Statement.{statement}
 use Rattle.text.proofs.print.has_room.Tie as tie
 
 returns : tie.Need-returns
-returns c = sym (room-short (c .before .args .len) (c .before .args .at) (c .before .args .size) (c .if1 .taken))
+returns c =
+    let args = c .before .args in
+    sym (room-short (args .len) (args .at) (args .size) (c .if1 .taken))
 
 returns-2 : tie.Need-returns-2
-returns-2 c = sym (room-left (c .before .args .len) (c .before .args .at) (c .before .args .size) (c .if1 .left))
+returns-2 c =
+    let args = c .before .args in
+    sym (room-left (args .len) (args .at) (args .size) (c .if1 .left))
 
 pub has-room-spec : {M : Type 1} → statement M
 has-room-spec = tie.close (tie.spec returns returns-2)

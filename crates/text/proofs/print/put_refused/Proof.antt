@@ -13,22 +13,38 @@ has-room-requires c κs = tt
 
 returns : tie.Need-returns
 returns c =
-    let a = c .before .before .before .args in
-    (put-none (a .out .now) 0 (refusedLine (a .number) (a .line)) (refused-length _ _) (c .before .has-room .ensures) (c .if1 .taken), refl)
+    let has-room = c .before .has-room in
+    let args = c .before .before .before .args in
+    let a = args in (
+      put-none (a .out .now) 0 (refusedLine (a .number) (a .line)) (refused-length _ _) (has-room .ensures)
+          (c .if1 .taken),
+      refl,
+    )
 
 write-refused-requires : tie.Need-write-refused-requires
-write-refused-requires c κs = room-for (length (c .before .before .before .before .args .out .now)) 0 19 (c .before .before .has-room .ensures) (c .before .if1 .left)
+write-refused-requires c κs =
+    let if1 = c .before .if1 in
+    let has-room = c .before .before .has-room in
+    let args = c .before .before .before .before .args in
+    room-for (length (args .out .now)) 0 19 (has-room .ensures) (if1 .left)
 
 same-length : tie.Need-same-length
 same-length c = search needs
 
 returns-2 : tie.Need-returns-2
 returns-2 c =
-    let a = c .before .before .before .before .before .before .before .args in
-    let has-room = c .before .before .before .before .before .has-room in
-    let if1 = c .before .before .before .before .if1 in
-    let write-refused = c .before .before .write-refused in
-    (put-wrote (a .out .now) 0 (refusedLine (a .number) (a .line)) (refused-length _ _) (has-room .ensures) (if1 .left) (write-refused .ensures .0), write-refused .ensures .1)
+    let write-refused′ = c .before .before .write-refused in
+    let if1′ = c .before .before .before .before .if1 in
+    let has-room′ = c .before .before .before .before .before .has-room in
+    let args = c .before .before .before .before .before .before .before .args in
+    let a = args in
+    let has-room = has-room′ in
+    let if1 = if1′ in
+    let write-refused = write-refused′ in (
+      put-wrote (a .out .now) 0 (refusedLine (a .number) (a .line)) (refused-length _ _) (has-room .ensures) (if1 .left)
+          (write-refused .ensures .0),
+      write-refused .ensures .1,
+    )
 
 pub put-refused-spec : {M : Type 1} → statement M
 put-refused-spec =

@@ -33,30 +33,28 @@ loop-less : tie.Need-loop-less Inv-loop μ-loop
 loop-less c = omega arith
 
 loop-again : tie.Need-loop-again Inv-loop μ-loop
-loop-again c = pasting-more _ _ (c .before .before .loop .inv) (c .before .loop-test .taken) refl refl
+loop-again c =
+    let loop-test = c .before .loop-test in
+    let loop = c .before .before .loop in
+    pasting-more _ _ (loop .inv) (loop-test .taken) refl refl
 
 add-result : tie.Need-add-result Inv-loop μ-loop
 add-result c = omega arith
 
 same-length : tie.Need-same-length Inv-loop μ-loop
-same-length c = c .before .loop .inv .long
+same-length c =
+    let loop = c .before .loop in
+    loop .inv .long
 
 returns : tie.Need-returns Inv-loop μ-loop
-returns c = (omega arith, pasting-all (c .before .loop .inv) (c .loop-test .left))
+returns c =
+    let loop = c .before .loop in
+    (omega arith, pasting-all (loop .inv) (c .loop-test .left))
 
 pub write-bytes-spec : {M : Type 1} → statement M
 write-bytes-spec =
     tie.close
-    (tie.spec
-    Inv-loop
-    μ-loop
-    loop-holds
-    shared-slice-read-out
-    add-out
-    slice-write-out
-    add-j
-    loop-less
-    loop-again
-    add-result
-    same-length
-    returns)
+    (
+    tie.spec Inv-loop μ-loop loop-holds shared-slice-read-out add-out slice-write-out add-j loop-less loop-again
+    add-result same-length returns
+    )

@@ -16,7 +16,10 @@ abbrev μ-loop : tie.MeasureT-loop
 μ-loop out₀ at width n j₀ out j = width - j
 
 loop-holds : tie.Need-loop-holds Inv-loop μ-loop
-loop-holds c = pasting-none _ _ _ _ (printed-length (c .before .args .width) (c .before .args .n)) (c .before .pre)
+loop-holds c =
+    let args = c .before .args in
+    let pre = c .before .pre in
+    pasting-none _ _ _ _ (printed-length (args .width) (args .n)) (pre)
 
 sub-column : tie.Need-sub-column Inv-loop μ-loop
 sub-column c = omega arith
@@ -41,35 +44,32 @@ loop-less c = omega arith
 
 loop-again : tie.Need-loop-again Inv-loop μ-loop
 loop-again c =
-    let a = c .before .before .before .before .args in
-    let l = c .before .before .loop in
-    let test = c .before .loop-test in
-    pasting-more _ _ (l .inv) (test .taken) refl (c .column .ensures ∙ sym (printed-at (a .width) (a .n) (l .j) (test .taken)))
+    let loop-test = c .before .loop-test in
+    let loop = c .before .before .loop in
+    let args = c .before .before .before .before .args in
+    let a = args in
+    let l = loop in
+    let test = loop-test in
+    pasting-more _ _ (l .inv) (test .taken) refl
+    (c .column .ensures ∙ sym (printed-at (a .width) (a .n) (l .j) (test .taken)))
 
 add-result : tie.Need-add-result Inv-loop μ-loop
 add-result c = omega arith
 
 same-length : tie.Need-same-length Inv-loop μ-loop
-same-length c = c .before .loop .inv .long
+same-length c =
+    let loop = c .before .loop in
+    loop .inv .long
 
 returns : tie.Need-returns Inv-loop μ-loop
-returns c = (omega arith, pasting-all (c .before .loop .inv) (c .loop-test .left))
+returns c =
+    let loop = c .before .loop in
+    (omega arith, pasting-all (loop .inv) (c .loop-test .left))
 
 pub write-field-spec : {M : Type 1} → statement M
 write-field-spec =
     tie.close
-    (tie.spec
-    Inv-loop
-    μ-loop
-    loop-holds
-    sub-column
-    sub-column-2
-    column-requires
-    add-out
-    slice-write-out
-    add-j
-    loop-less
-    loop-again
-    add-result
-    same-length
-    returns)
+    (
+    tie.spec Inv-loop μ-loop loop-holds sub-column sub-column-2 column-requires add-out slice-write-out add-j
+    loop-less loop-again add-result same-length returns
+    )

@@ -76,9 +76,10 @@ stayed = (stay-none-slice (0 ∷ []) tt (plain (λ _. u8)) yes, (stay-none (λ _
 -- the machine value of a step, of what was found and of the line reached
 step-row : (l : Line) (w : Val) (m : ℕ) → Is S.the-row l (w ∷ []) → m < 2 ^ 64 → Is P.the-row (record { found = l; line = m }) (P′.lowered (record { found = l; line = m }) ∷ [])
 step-row l w m is fits =
-    let held = subst (λ (vs : List Val). Is S.the-row l vs) (EL.tells S.the-type S′.the-laws l _ is) is in
-    let made = LL.owes P.the-type P′.the-laws (record { found = l; line = m }) (held, ((refl, fits), tt)) in
-    subst (λ (vs : List Val). Is P.the-row (record { found = l; line = m }) vs) (P′.lowers .val-is (record { found = l; line = m }) _ made) made
+    let held = subst (λ (vs : List Val). Is S.the-row l vs) (EL.tells S.the-type S′.the-laws l _ is) is in let made =
+    LL.owes P.the-type P′.the-laws (record { found = l; line = m }) (held, ((refl, fits), tt)) in subst
+    (λ (vs : List Val). Is P.the-row (record { found = l; line = m }) vs)
+    (P′.lowers .val-is (record { found = l; line = m }) _ made) made
 
 module _ {M : Type 1} (𝓤 : URA M) (H : Heap 𝓤) (A : Atoms 𝓤) (mem : Memory → SProp 𝓤) (run : Routine → Fun 𝓤) where
   -- the contracts that the proof cites
@@ -238,7 +239,12 @@ module _ {M : Type 1} (𝓤 : URA M) (H : Heap 𝓤) (A : Atoms 𝓤) (W : Given
 read-line-meets : {M : Type 1} (𝓤 : URA M) (H : Heap 𝓤) (A : Atoms 𝓤) (W : Given 𝓤 H A) (mem : Memory → SProp 𝓤) (run : Routine → Fun 𝓤) (𝓣 : Tables 𝓤 H)
     → Triple 𝓤 (𝓣 .C #at) (At 𝓤 H A mem run) → Triple 𝓤 (𝓣 .C #step) (StepC 𝓤 H A mem run)
     → Meets 𝓤 H A read-line.signature (WpFn 𝓤 H (𝓣 .C) (𝓣 .Λ) code.function) (read-line.spec 𝓤 H A mem run)
-read-line-meets 𝓤 H A W mem run 𝓣 known-at known-step = walk-meets 𝓤 H A read-line.ended stayed W (goes-none-slice 𝓤 H A W 1 (0 ∷ []) tt (plain (λ _. u8)) yes, (goes-none 𝓤 H A W 1 (λ _. usize) yes (λ κs x f. refl), tt)) (read-line.clauses 𝓤 H A mem run) (WpFn 𝓤 H (𝓣 .C) (𝓣 .Λ) code.function) (WpFn-mono 𝓤 H (W .laws) 𝓣 code.function)
+read-line-meets 𝓤 H A W mem run 𝓣 known-at known-step =
+    walk-meets 𝓤 H A read-line.ended stayed W (
+      goes-none-slice 𝓤 H A W 1 (0 ∷ []) tt (plain (λ _. u8)) yes,
+      (goes-none 𝓤 H A W 1 (λ _. usize) yes (λ κs x f. refl), tt),
+    ) (read-line.clauses 𝓤 H A mem run) (WpFn 𝓤 H (𝓣 .C) (𝓣 .Λ) code.function)
+    (WpFn-mono 𝓤 H (W .laws) 𝓣 code.function)
     (read-line-walks 𝓤 H A W mem run (𝓣 .C) (𝓣 .Λ) (fmOf 𝓤 H (W .laws) 𝓣) known-at known-step)
 
 pub read-line-spec : {M : Type 1} → stated.statement M
@@ -246,6 +252,14 @@ unfolding code.routine tablesOf
 read-line-spec 𝓤 H 𝓜 𝓖 𝓡 =
     entered 𝓤 H (tripleOf 𝓤 H (𝓖 .A) read-line.signature (read-line.spec 𝓤 H (𝓖 .A) (𝓜 .mem) (𝓡 .run)))
     (tables 𝓤 H 𝓜 𝓡 code.env .C) (tables 𝓤 H 𝓜 𝓡 code.env .Λ) #read-line code.function (code.unfolded 𝓤 H 𝓜 𝓡)
-    (read-line-meets 𝓤 H (𝓖 .A) (givenOf 𝓤 H 𝓜 𝓖) (𝓜 .mem) (𝓡 .run) (tablesOf 𝓤 H 𝓜 (tables 𝓤 H 𝓜 𝓡 code.env))
-    (cited 𝓤 H (At 𝓤 H (𝓖 .A) (𝓜 .mem) (𝓡 .run)) 𝓜 𝓡 code.env #at at-def.routine code.calls-text·reader·at (at-thm.met 𝓤 H 𝓜 𝓖 𝓡))
-    (cited 𝓤 H (StepC 𝓤 H (𝓖 .A) (𝓜 .mem) (𝓡 .run)) 𝓜 𝓡 code.env #step step-def.routine code.calls-text·reader·step (step-thm.met 𝓤 H 𝓜 𝓖 𝓡)))
+    (
+    read-line-meets 𝓤 H (𝓖 .A) (givenOf 𝓤 H 𝓜 𝓖) (𝓜 .mem) (𝓡 .run) (tablesOf 𝓤 H 𝓜 (tables 𝓤 H 𝓜 𝓡 code.env))
+    (
+    cited 𝓤 H (At 𝓤 H (𝓖 .A) (𝓜 .mem) (𝓡 .run)) 𝓜 𝓡 code.env #at at-def.routine code.calls-text·reader·at
+    (at-thm.met 𝓤 H 𝓜 𝓖 𝓡)
+    )
+    (
+    cited 𝓤 H (StepC 𝓤 H (𝓖 .A) (𝓜 .mem) (𝓡 .run)) 𝓜 𝓡 code.env #step step-def.routine
+    code.calls-text·reader·step (step-thm.met 𝓤 H 𝓜 𝓖 𝓡)
+    )
+    )

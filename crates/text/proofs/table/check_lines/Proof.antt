@@ -27,34 +27,33 @@ ended-requires c κs = omega arith
 
 returns : tie.Need-returns Inv-loop μ-loop
 returns c =
-    let a = c .before .before .before .before .before .before .args in
-    let l = c .before .before .before .before .loop in
-    let step = c .before .before .before .read-line in
-    c .ended .ensures ∙ stays (a .text .now) (l .line) (l .inv .1) (step .ensures) (c .before .if1 .taken)
+    let if1 = c .before .if1 in
+    let read-line = c .before .before .before .read-line in
+    let loop = c .before .before .before .before .loop in
+    let args = c .before .before .before .before .before .before .args in
+    let a = args in
+    let l = loop in
+    let step = read-line in c .ended .ensures ∙ stays (a .text .now) (l .line) (l .inv .1) (step .ensures) (if1 .taken)
 
 loop-less : tie.Need-loop-less Inv-loop μ-loop
 loop-less c =
-    let a = c .before .before .before .before .before .args in
-    let l = c .before .before .before .loop in
-    let on = moves (a .text .now) (l .line) (l .inv .1) (c .before .before .read-line .ensures) (c .if1 .left) in
-    omega (arith, on .next, on .within)
+    let read-line = c .before .before .read-line in
+    let loop = c .before .before .before .loop in
+    let args = c .before .before .before .before .before .args in
+    let a = args in
+    let l = loop in
+    let on = moves (a .text .now) (l .line) (l .inv .1) (read-line .ensures) (c .if1 .left) in omega
+    (arith, on .next, on .within)
 
 loop-again : tie.Need-loop-again Inv-loop μ-loop
 loop-again c =
-    let a = c .before .before .before .before .before .args in
-    let l = c .before .before .before .loop in
-    let on = moves (a .text .now) (l .line) (l .inv .1) (c .before .before .read-line .ensures) (c .if1 .left) in
-    (on .within, on .rest)
+    let read-line = c .before .before .read-line in
+    let loop = c .before .before .before .loop in
+    let args = c .before .before .before .before .before .args in
+    let a = args in
+    let l = loop in
+    let on = moves (a .text .now) (l .line) (l .inv .1) (read-line .ensures) (c .if1 .left) in (on .within, on .rest)
 
 pub check-lines-spec : {M : Type 1} → statement M
 check-lines-spec =
-    tie.close
-    (tie.spec
-    Inv-loop
-    μ-loop
-    loop-holds
-    read-line-requires
-    ended-requires
-    returns
-    loop-less
-    loop-again)
+    tie.close (tie.spec Inv-loop μ-loop loop-holds read-line-requires ended-requires returns loop-less loop-again)
