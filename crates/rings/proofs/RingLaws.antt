@@ -1,9 +1,9 @@
 -- The ring of a window: it is the ring in 01's words, and nothing else is. Everything above goes through these laws and never opens the peeling.
 --     ring-is, ring-only       `ring` is the ring of the window, the only one
---     in-day, in-size          a row of the ring lies in the window, and in the table
+--     in-window                a row of the ring lies in the table, and in the window
 --     ring-grows               rings grow with the window
 --     ring-shrinks             and shrink with k
---     met-row, met-first, met-second    accounts met in a row set
+--     met-i, met-e, met-first, met-second    accounts met in a row set, and in the ring
 --     joins-cases, touch-cases     what `joins` and `touches` say
 --     ring-degree              an account met in the ring has at least k neighbours there
 --     two-met                  a row of the window between two accounts of the ring is in the ring

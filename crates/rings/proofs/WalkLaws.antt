@@ -1,6 +1,6 @@
 -- The loop over the rows of an account that fell (src/peel.rt, `walk`).
 --     At                 the rows of u before place p have been passed
---     at-start, at-row, at-stop, at-fresh, at-stale, at-room, at-lose, at-skip, at-out      the loop's laws
+--     at-small, at-end, at-start, at-place, at-few, at-stop, at-fresh-yes, at-fresh-no, at-fresh-place, at-ends, at-room, at-lose, at-skip, at-out     the loop's laws
 -- Assumes nothing.
 use Prim.Native.Nat.{ℕ, suc, _+_, _-_, _*_, _≤_, _<_}
 use native.Mathlib.Nat.{le-trans}
