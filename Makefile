@@ -47,7 +47,7 @@ layout:
 	@$(RT) fmt --check || { echo "layout: rt fmt puts it right"; exit 1; }
 
 surface:
-	@echo "surface: what each crate shows, against docs/DECISIONS.md"
+	@echo "surface: what each crate shows, against docs/SURFACE.md"
 	@python3 tools/surface.py
 
 # rt ci takes every .rt and .antt file outside target/ for a lost one: so copies of `make mutants` go first.

@@ -1,9 +1,9 @@
 #!/usr/bin/env python3
-"""Compares what each crate shows with what docs/DECISIONS.md says of it.
+"""Compares what each crate shows with what docs/SURFACE.md says of it.
 
     tools/surface.py
 
-1. A function that another crate can name is a customer's call (DECISIONS, "Calls of the parts") or is used by another crate;
+1. A function that another crate can name is a customer's call (SURFACE.md, "Calls of the parts") or is used by another crate;
    whatever else leaves its module is `pub(crate)`.
 2. The functions with a `requires` that leave their module are those of the tables "Functions with a `requires`": of the first
    table those that another crate can name, of the second those that stay in their crate. None of the calls has one.
@@ -74,10 +74,10 @@ def used(crate):
 
 
 def table(title):
-    """The functions named in the first column of a table of DECISIONS.md, as (crate, module::name)."""
-    text = read("docs", "DECISIONS.md")
+    """The functions named in the first column of a table of SURFACE.md, as (crate, module::name)."""
+    text = read("docs", "SURFACE.md")
     if title not in text:
-        faults.append("docs/DECISIONS.md has no heading %r" % title)
+        faults.append("docs/SURFACE.md has no heading %r" % title)
         return set()
     found = set()
     for line in text.split(title, 1)[1].split("\n#", 1)[0].split("\n"):
@@ -87,15 +87,15 @@ def table(title):
     return found
 
 
-def compare(what, sources_say, decisions_say):
-    for crate, name in sorted(sources_say - decisions_say):
-        faults.append("%s: %s %s is not listed in docs/DECISIONS.md" % (what, crate, name))
-    for crate, name in sorted(decisions_say - sources_say):
-        faults.append("%s: docs/DECISIONS.md lists %s %s, which is none" % (what, crate, name))
+def compare(what, sources_say, page_says):
+    for crate, name in sorted(sources_say - page_says):
+        faults.append("%s: %s %s is not listed in docs/SURFACE.md" % (what, crate, name))
+    for crate, name in sorted(page_says - sources_say):
+        faults.append("%s: docs/SURFACE.md lists %s %s, which is none" % (what, crate, name))
 
 
 def check_surface():
-    calls = table("### Calls of the parts")
+    calls = table("## Calls of the parts")
     outer, inner = set(), set()
     for crate in crates():
         visible, wanted = shown(crate), used(crate)
@@ -115,9 +115,9 @@ def check_surface():
                 if visibility == "pub(crate)" and requires:
                     inner.add((crate, full))
         for full in {name for owner, name in calls if owner == crate} - set(visible):
-            faults.append("call: docs/DECISIONS.md lists %s %s, which no other crate can name" % (crate, full))
-    compare("requires, another crate's", outer, table("### Functions with a `requires` that another crate can name"))
-    compare("requires, in its crate", inner, table("### Functions with a `requires` that stay in their crate"))
+            faults.append("call: docs/SURFACE.md lists %s %s, which no other crate can name" % (crate, full))
+    compare("requires, another crate's", outer, table("## Functions with a `requires` that another crate can name"))
+    compare("requires, in its crate", inner, table("## Functions with a `requires` that stay in their crate"))
 
 
 def is_export(crate, full):
@@ -162,5 +162,5 @@ check_surface()
 check_citations()
 for fault in faults:
     print("surface: " + fault)
-print("surface: %s" % ("%d faults" % len(faults) if faults else "as docs/DECISIONS.md says"))
+print("surface: %s" % ("%d faults" % len(faults) if faults else "as docs/SURFACE.md says"))
 sys.exit(1 if faults else 0)
