@@ -1,5 +1,4 @@
 pub mod TightLaws
-pub mod TableRule
 pub mod CountLaws
 pub mod ReachedLaws
 pub mod StartLaws

@@ -1,5 +1,5 @@
 pub mod Tests
-pub mod Listed
+pub mod ConstantLaws
 pub mod FieldLaws
 pub mod LineLaws
 pub mod PasteLaws

@@ -2,7 +2,7 @@
 -- Assumes nothing.
 use borrow.Author.Needs.{needs}
 use Rattle.listing.specs.LongestList.{longest}
-use Rattle.listing.proofs.TableRule.{listed-at}
+use Rattle.text.proofs.ConstantLaws.{listed-at}
 use Rattle.listing.proofs.longest.most.Statement.{statement}
 use Rattle.listing.proofs.longest.most.Tie as tie
 

@@ -3,7 +3,7 @@
 use Prim.Native.Nat.{_^_}
 use native.Mathlib.Omega.{arith}
 use borrow.Author.Needs.{needs}
-use Rattle.text.proofs.Listed.{listed-at}
+use Rattle.text.proofs.ConstantLaws.{listed-at}
 use Rattle.text.proofs.decimal.place.Statement.{statement}
 use Rattle.text.proofs.decimal.place.Tie as tie
 

@@ -1,4 +1,4 @@
--- A constant array that is its own rule, written out entry by entry.
+-- Laws of a constant array that is its own rule, written out entry by entry.
 --
 --   listed      f i, f (i + 1), .., in all n entries
 --   listed-at   its entry k, counted from 0, is f k
