@@ -19,7 +19,8 @@ use Rattle.rings.specs.Table.{Table, tableOf, dayOf, firstOf, secondOf, 
 use Rattle.rings.specs.Sound.{Sound}
 use Rattle.rings.specs.Inner.Links.{Linked, Paired, Shelves}
 use Rattle.rings.specs.Ring.{query}
-use Rattle.rings.specs.Inner.Peeling.{Setting, Season, Ready, Framed, Placed, Open, season, Span}
+use Rattle.rings.specs.Inner.Peeling.{Setting, Ready, Framed, Placed, Open, season, Span}
+use Rattle.rings.specs.declared.frame.Frame.{Frame}
 use Rattle.rings.proofs.WordLaws.{look}
 
 pub record Scan (d : List ℕ) (day r : ℕ) : Type 0 where
@@ -106,10 +107,10 @@ pub open-of : {d f s links : List ℕ} {k start stop lo : ℕ} → Sound d f s �
 open-of S L one top a = record { sound = S; shelves = L; within = a .within; setting = setting-of S one top a }
 
 -- what is left of it without the book
-pub ready-framed : {d f s links : List ℕ} {p : Season} → Ready d f s links p → Framed d f s p
+pub ready-framed : {d f s links : List ℕ} {p : Frame} → Ready d f s links p → Framed d f s p
 ready-framed R = record { sound = R .sound; setting = R .setting }
 
-pub open-framed : {d f s links : List ℕ} {p : Season} → Open d f s links p → Framed d f s p
+pub open-framed : {d f s links : List ℕ} {p : Frame} → Open d f s links p → Framed d f s p
 open-framed R = record { sound = R .sound; setting = R .setting }
 
 pub shelves-paired : {t : Table} {links : List ℕ} → Shelves t links → Paired t links

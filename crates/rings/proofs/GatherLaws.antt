@@ -22,7 +22,8 @@ use Rattle.rings.specs.Table.{Table, tableOf, size, dayOf}
 use Rattle.rings.specs.Ring.{touches, query}
 use Rattle.rings.specs.CoreTimes.{never}
 use Rattle.rings.specs.Inner.Links.{pickOther, otherOf, fresh, Reading, Every}
-use Rattle.rings.specs.Inner.Peeling.{Setting, Season, Open, Place, guess}
+use Rattle.rings.specs.Inner.Peeling.{Setting, Open, Place, guess}
+use Rattle.rings.specs.declared.frame.Frame.{Frame}
 use Rattle.rings.specs.Inner.Settling.{value, moving, Days, Seen, Noting, Behind, Gathered, Losing, Fewer, Lessened, Queued}
 use Rattle.rings.specs.declared.Query.{Query}
 use Rattle.rings.proofs.WordLaws.{look, and-i, and-l, and-r, count-le, count-none, tally-yes, tally-no, same-or}
@@ -154,19 +155,19 @@ module _ (t : Table) (x : ℕ → ℕ) (lo hi : ℕ) where
 -- ---- the walk in the book
 
 -- the rows of u before place p have been seen
-pub record Gathering (d f g links : List ℕ) (r : Season) (xs : List ℕ) (u c tail : ℕ) (ws₀ : List ℕ) (p n above more moved end : ℕ) (ws : List ℕ) : Type 0 where
+pub record Gathering (d f g links : List ℕ) (r : Frame) (xs : List ℕ) (u c tail : ℕ) (ws₀ : List ℕ) (p n above more moved end : ℕ) (ws : List ℕ) : Type 0 where
   pub b : ℕ
   pub within : b ≤ length d
   pub late : r .lo ≤ b
   pub reading : Reading links u b p
-  pub seen : Seen (tableOf d f g) (guess xs) (r .lo) (r .end) c u b n above more
-  pub kept : Gathered (tableOf d f g) (guess xs) (r .lo) (r .end) c u b above moved tail end ws
+  pub seen : Seen (tableOf d f g) (guess xs) (r .lo) (r .stop) c u b n above more
+  pub kept : Gathered (tableOf d f g) (guess xs) (r .lo) (r .stop) c u b above moved tail end ws
   pub behind : Behind tail ws₀ ws
 
-pub as-glance : {d f g links : List ℕ} {r : Season} {xs : List ℕ} {u c tail : ℕ} {ws₀ : List ℕ} {p n above more moved end : ℕ} {ws : List ℕ} → Gathering d f g links r xs u c tail ws₀ p n above more moved end ws → Glance d f g links r xs u c p n above more
+pub as-glance : {d f g links : List ℕ} {r : Frame} {xs : List ℕ} {u c tail : ℕ} {ws₀ : List ℕ} {p n above more moved end : ℕ} {ws : List ℕ} → Gathering d f g links r xs u c tail ws₀ p n above more moved end ws → Glance d f g links r xs u c p n above more
 as-glance G = record { b = G .b; within = G .within; late = G .late; reading = G .reading; seen = G .seen }
 
-module _ (d f g links : List ℕ) (r : Season) (R : Open d f g links r) (xs : List ℕ) (len : length xs ≡ 4096) (D : Days (r .end) xs) {u c : ℕ} (small : u < 4096) (top : c ≤ r .end) (E : Every (tableOf d f g) (guess xs) (r .lo) u links) (tail : ℕ) (ws₀ : List ℕ) where
+module _ (d f g links : List ℕ) (r : Frame) (R : Open d f g links r) (xs : List ℕ) (len : length xs ≡ 4096) (D : Days (r .stop) xs) {u c : ℕ} (small : u < 4096) (top : c ≤ r .stop) (E : Every (tableOf d f g) (guess xs) (r .lo) u links) (tail : ℕ) (ws₀ : List ℕ) where
   abbrev tt : Table
   tt = tableOf d f g
 
@@ -180,8 +181,8 @@ module _ (d f g links : List ℕ) (r : Season) (R : Open d f g links r) (xs : Li
         within = R .within;
         late = le-refl (r .lo);
         reading = A;
-        seen = seen-start tt (query (r .k)) (r .start) (r .end) (r .lo) (R .setting) (guess xs) c u soon;
-        kept = gathered-start tt (guess xs) (r .lo) (r .end) ws₀;
+        seen = seen-start tt (r .query) (r .start) (r .stop) (r .lo) (R .setting) (guess xs) c u soon;
+        kept = gathered-start tt (guess xs) (r .lo) (r .stop) ws₀;
         behind = record { long = l; front = λ i h. refl };
       }
 
@@ -189,8 +190,8 @@ module _ (d f g links : List ℕ) (r : Season) (R : Open d f g links r) (xs : Li
     above-most : above ≤ never
     above-most = let h = R .setting .fits in ⊎-elim (λ y. omega arith) (λ y. omega arith) (G .seen .day)
 
-    pub gathering-out : last ≤ p → Gathered tt (guess xs) (r .lo) (r .end) c u (length d) above moved tail end ws
-    gathering-out h = gathered-out tt (guess xs) (r .lo) (r .end) soon above-most (G .kept) (G .within) (reading-out d f g links (R .sound) (R .shelves) small (G .reading) ee E h)
+    pub gathering-out : last ≤ p → Gathered tt (guess xs) (r .lo) (r .stop) c u (length d) above moved tail end ws
+    gathering-out h = gathered-out tt (guess xs) (r .lo) (r .stop) soon above-most (G .kept) (G .within) (reading-out d f g links (R .sound) (R .shelves) small (G .reading) ee E h)
 
     module _ (here : p < last) {j : ℕ} (ej : j ≡ getD links (8192 + p) 0) where
       below : j < length d
@@ -210,9 +211,9 @@ module _ (d f g links : List ℕ) (r : Season) (R : Open d f g links r) (xs : Li
         unfolding dayOf at
         day-is = ed
 
-        pub gathering-over : (c < day) × ((r .k ≤ n) ⊎ ((r .end < day) ⊎ (above < day))) → n < r .k → Gathered tt (guess xs) (r .lo) (r .end) c u (length d) above moved tail end ws
+        pub gathering-over : (c < day) × ((r .query .k ≤ n) ⊎ ((r .stop < day) ⊎ (above < day))) → n < r .query .k → Gathered tt (guess xs) (r .lo) (r .stop) c u (length d) above moved tail end ws
         gathering-over o few =
-            gathered-stop tt (guess xs) (r .lo) (r .end) soon above-most (G .kept) j from gap (λ i a k. let e = day-is in let y = R .setting .rising j i a k in let z = o .0 in omega arith)
+            gathered-stop tt (guess xs) (r .lo) (r .stop) soon above-most (G .kept) j from gap (λ i a k. let e = day-is in let y = R .setting .rising j i a k in let z = o .0 in omega arith)
             (λ i a k. let e = day-is in let y = R .setting .rising j i a k in ⊎-elim (λ h. absurd (omega arith)) (λ h. ⊎-elim (λ z. _⊎_.inl (omega arith)) (λ z. _⊎_.inr (omega arith)) h) (o .1)) (let b = below in omega arith)
 
         module _ {a e v : ℕ} (ea : a ≡ getD f j 0) (eb : e ≡ getD g j 0) (ev : v ≡ pickOther (eqb a u) a e) where
@@ -223,12 +224,12 @@ module _ (d f g links : List ℕ) (r : Season) (R : Open d f g links r) (xs : Li
           touch = reading-touch d f g links (R .sound) (R .shelves) small (G .reading) ee here ej
 
           v-small : v < 4096
-          v-small = subst (λ (w : ℕ). w < 4096) (sym v-is) (other-small tt (query (r .k)) (r .start) (r .end) (r .lo) (R .setting) j u below touch)
+          v-small = subst (λ (w : ℕ). w < 4096) (sym v-is) (other-small tt (r .query) (r .start) (r .stop) (r .lo) (R .setting) j u below touch)
 
           late : r .lo ≤ j
           late = let h = G .late in let k = from in omega arith
 
-          module _ {y : Bool} {xv z n′ above′ more′ : ℕ} (ey : y ≡ (leb (r .lo) j and leb (getD links (8192 + 2 * length d + j) 0) (r .lo))) (l : day ≤ r .end) (ex : xv ≡ getD xs v 0) (ez : z ≡ max xv day) (N : Noting y z c n above more n′ above′ more′) where
+          module _ {y : Bool} {xv z n′ above′ more′ : ℕ} (ey : y ≡ (leb (r .lo) j and leb (getD links (8192 + 2 * length d + j) 0) (r .lo))) (l : day ≤ r .stop) (ex : xv ≡ getD xs v 0) (ez : z ≡ max xv day) (N : Noting y z c n above more n′ above′ more′) where
             x-is : xv ≡ guess xs v
             x-is = ex ∙ sym (guess-at xs v len v-small)
 
@@ -236,16 +237,16 @@ module _ (d f g links : List ℕ) (r : Season) (R : Open d f g links r) (xs : Li
             unfolding value
             z-is = let h : guess xs (otherOf tt j u) ≡ guess xs v = ap (guess xs) (sym v-is) in let k = x-is in let o = day-is in omega arith
 
-            z-day : (z ≤ r .end) ⊎ (z ≡ never)
+            z-day : (z ≤ r .stop) ⊎ (z ≡ never)
             z-day = let o = R .setting .fits in ⊎-elim (λ k. _⊎_.inl (omega arith)) (λ k. _⊎_.inr (omega arith)) (D v v-small)
 
             fresh-is : y ≡ fresh tt (r .lo) j
             fresh-is = reading-fresh d f g links (R .sound) (R .shelves) small (G .reading) ee here ej (r .lo) ey
 
-            seen-on : Seen tt (guess xs) (r .lo) (r .end) c u (j + 1) n′ above′ more′
+            seen-on : Seen tt (guess xs) (r .lo) (r .stop) c u (j + 1) n′ above′ more′
             seen-on =
-                ⊎-elim (λ h. seen-note tt (query (r .k)) (r .start) (r .end) (r .lo) (R .setting) (guess xs) (G .seen) j from gap (sym fresh-is ∙ h) touch z-is z-day (subst (λ (w : Bool). Noting w z c n above more n′ above′ more′) h N))
-                (λ h. seen-idle tt (query (r .k)) (r .start) (r .end) (r .lo) (R .setting) (guess xs) (G .seen) j from gap (sym fresh-is ∙ h) z-day (subst (λ (w : Bool). Noting w z c n above more n′ above′ more′) h N)) (look y)
+                ⊎-elim (λ h. seen-note tt (r .query) (r .start) (r .stop) (r .lo) (R .setting) (guess xs) (G .seen) j from gap (sym fresh-is ∙ h) touch z-is z-day (subst (λ (w : Bool). Noting w z c n above more n′ above′ more′) h N))
+                (λ h. seen-idle tt (r .query) (r .start) (r .stop) (r .lo) (R .setting) (guess xs) (G .seen) j from gap (sym fresh-is ∙ h) z-day (subst (λ (w : Bool). Noting w z c n above more n′ above′ more′) h N)) (look y)
 
             pub gathering-next : {m w : ℕ} {ws′ : List ℕ} → By (leb z c) 1 0 m → end < length ws → ws′ ≡ set ws end v → By ((leb z c && y) && eqb xv c) 1 0 w → Gathering d f g links r xs u c tail ws₀ (p + 1) n′ above′ more′ (moved + m) (end + w) ws′
             gathering-next {ws′ = ws′} A room eq B =
@@ -255,7 +256,7 @@ module _ (d f g links : List ℕ) (r : Season) (R : Open d f g links r) (xs : Li
                   late = let h = late in omega arith;
                   reading = reading-next d f g links (R .sound) (R .shelves) small (G .reading) ee here ej;
                   seen = seen-on;
-                  kept = gathered-next tt (guess xs) (r .lo) (r .end) soon above-most (G .kept) j from gap late touch v-is v-small x-is z-is fresh-is N A room eq B;
+                  kept = gathered-next tt (guess xs) (r .lo) (r .stop) soon above-most (G .kept) j from gap late touch v-is v-small x-is z-is fresh-is N A room eq B;
                   behind = record { long = ap length eq ∙ (length-set ws end v ∙ G .behind .long); front = λ i h. in-list i eq ∙ (getD-set-other ws end i v 0 (λ o. let k = G .kept .grows in omega arith) ∙ G .behind .front i h) };
                 }
 

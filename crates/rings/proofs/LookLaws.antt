@@ -23,7 +23,8 @@ use Rattle.rings.specs.Ring.{joins, names, touches, query}
 use Rattle.rings.specs.CoreTimes.{never}
 use Rattle.rings.specs.Inner.Links.{pickOther, otherOf, fresh, Reading, Every}
 use Rattle.rings.specs.Inner.Support.{supports, supporters}
-use Rattle.rings.specs.Inner.Peeling.{Setting, Season, Open, guess}
+use Rattle.rings.specs.Inner.Peeling.{Setting, Open, guess}
+use Rattle.rings.specs.declared.frame.Frame.{Frame}
 use Rattle.rings.specs.Inner.Settling.{value, backing, backers, Days, Seen, Noting, Glanced, Short, Spared, Looked}
 use Rattle.rings.specs.declared.Query.{Query}
 use Rattle.rings.proofs.WordLaws.{look, clash, and-i, and-l, and-r, count-mono, count-none, tally-yes, tally-no}
@@ -413,19 +414,19 @@ noted y z c n above more {a} {b} {e} {i} {m} up A B I E M = ⊎-elim (λ g. late
 -- ---- a look at u, in the book
 
 -- the rows of u before place p have been seen
-pub record Glance (d f g links : List ℕ) (r : Season) (xs : List ℕ) (u c p n above more : ℕ) : Type 0 where
+pub record Glance (d f g links : List ℕ) (r : Frame) (xs : List ℕ) (u c p n above more : ℕ) : Type 0 where
   pub b : ℕ
   pub within : b ≤ length d
   pub late : r .lo ≤ b
   pub reading : Reading links u b p
-  pub seen : Seen (tableOf d f g) (guess xs) (r .lo) (r .end) c u b n above more
+  pub seen : Seen (tableOf d f g) (guess xs) (r .lo) (r .stop) c u b n above more
 
-module _ (d f g links : List ℕ) (r : Season) (R : Open d f g links r) (xs : List ℕ) (len : length xs ≡ 4096) (D : Days (r .end) xs) {u c : ℕ} (small : u < 4096) (top : c ≤ r .end) (E : Every (tableOf d f g) (guess xs) (r .lo) u links) where
+module _ (d f g links : List ℕ) (r : Frame) (R : Open d f g links r) (xs : List ℕ) (len : length xs ≡ 4096) (D : Days (r .stop) xs) {u c : ℕ} (small : u < 4096) (top : c ≤ r .stop) (E : Every (tableOf d f g) (guess xs) (r .lo) u links) where
   abbrev tt : Table
   tt = tableOf d f g
 
   pub glance-start : {p : ℕ} → Reading links u (r .lo) p → Glance d f g links r xs u c p 0 never 0
-  glance-start A = record { b = r .lo; within = R .within; late = le-refl (r .lo); reading = A; seen = seen-start tt (query (r .k)) (r .start) (r .end) (r .lo) (R .setting) (guess xs) c u (let h = R .setting .fits in omega arith) }
+  glance-start A = record { b = r .lo; within = R .within; late = le-refl (r .lo); reading = A; seen = seen-start tt (r .query) (r .start) (r .stop) (r .lo) (R .setting) (guess xs) c u (let h = R .setting .fits in omega arith) }
 
   module _ {p n above more end : ℕ} (G : Glance d f g links r xs u c p n above more) (ee : end ≡ getD links u 0) where
     glance-count : n + more ≤ G .b
@@ -434,8 +435,8 @@ module _ (d f g links : List ℕ) (r : Season) (R : Open d f g links r) (xs : Li
     pub glance-most : n + more ≤ 16384
     glance-most = let a = glance-count in let b = G .within in let h = R .sound .most in omega arith
 
-    pub glance-out : end ≤ p → Glanced tt (guess xs) (r .lo) (r .end) c u (length d) (r .k) n above more
-    glance-out h = Glanced.seen (seen-out tt (query (r .k)) (r .start) (r .end) (r .lo) (R .setting) (guess xs) (G .seen) (G .within) (reading-out d f g links (R .sound) (R .shelves) small (G .reading) ee E h))
+    pub glance-out : end ≤ p → Glanced tt (guess xs) (r .lo) (r .stop) c u (length d) (r .query .k) n above more
+    glance-out h = Glanced.seen (seen-out tt (r .query) (r .start) (r .stop) (r .lo) (R .setting) (guess xs) (G .seen) (G .within) (reading-out d f g links (R .sound) (R .shelves) small (G .reading) ee E h))
 
     module _ (here : p < end) {j : ℕ} (ej : j ≡ getD links (8192 + p) 0) where
       below : j < length d
@@ -454,25 +455,25 @@ module _ (d f g links : List ℕ) (r : Season) (R : Open d f g links r) (xs : Li
       pub glance-late : r .lo ≤ j
       glance-late = let a = G .late in let b = from in omega arith
 
-      stop-here : ((i : ℕ) → j ≤ i → i < length d → (r .end < dayOf tt i) ⊎ (above ≤ dayOf tt i)) → Seen tt (guess xs) (r .lo) (r .end) c u (length d) n above more
-      stop-here late = seen-stop tt (query (r .k)) (r .start) (r .end) (r .lo) (R .setting) (guess xs) (G .seen) j from gap top late (let b = below in omega arith)
+      stop-here : ((i : ℕ) → j ≤ i → i < length d → (r .stop < dayOf tt i) ⊎ (above ≤ dayOf tt i)) → Seen tt (guess xs) (r .lo) (r .stop) c u (length d) n above more
+      stop-here late = seen-stop tt (r .query) (r .start) (r .stop) (r .lo) (R .setting) (guess xs) (G .seen) j from gap top late (let b = below in omega arith)
 
       module _ {day : ℕ} (ed : day ≡ getD d j 0) where
         day-is : day ≡ dayOf tt j
         unfolding dayOf at
         day-is = ed
 
-        pub glance-over : (c < day) × ((r .k ≤ n) ⊎ ((r .end < day) ⊎ (above < day))) → Glanced tt (guess xs) (r .lo) (r .end) c u (length d) (r .k) n above more
+        pub glance-over : (c < day) × ((r .query .k ≤ n) ⊎ ((r .stop < day) ⊎ (above < day))) → Glanced tt (guess xs) (r .lo) (r .stop) c u (length d) (r .query .k) n above more
         glance-over o =
             ⊎-elim (λ h. Glanced.full h (let z = all in omega arith))
             (λ h. Glanced.seen (stop-here (λ i a k. let e = day-is in let y = R .setting .rising j i a k in ⊎-elim (λ z. _⊎_.inl (omega arith)) (λ z. _⊎_.inr (omega arith)) h))) (o .1)
           where
             all : n ≡ backers tt (guess xs) (r .lo) c u (length d)
-            all = seen-count tt (query (r .k)) (r .start) (r .end) (r .lo) (R .setting) (guess xs) (G .seen) j from gap (λ i a k. let e = day-is in let y = R .setting .rising j i a k in let z = o .0 in omega arith) (let b = below in omega arith)
+            all = seen-count tt (r .query) (r .start) (r .stop) (r .lo) (R .setting) (guess xs) (G .seen) j from gap (λ i a k. let e = day-is in let y = R .setting .rising j i a k in let z = o .0 in omega arith) (let b = below in omega arith)
 
         glance-skip : {y : Bool} {n′ above′ more′ : ℕ} → y ≡ (leb (r .lo) j and leb (getD links (8192 + 2 * length d + j) 0) (r .lo)) → y ≡ false → Noting true never c n above more n′ above′ more′ → Glance d f g links r xs u c (p + 1) n′ above′ more′
         glance-skip ey h N =
-            record { b = j + 1; within = let b = below in omega arith; late = let b = glance-late in omega arith; reading = reading-next d f g links (R .sound) (R .shelves) small (G .reading) ee here ej; seen = seen-stale tt (query (r .k)) (r .start) (r .end) (r .lo) (R .setting) (guess xs) (G .seen) j from gap (sym (reading-fresh d f g links (R .sound) (R .shelves) small (G .reading) ee here ej (r .lo) ey) ∙ h) N }
+            record { b = j + 1; within = let b = below in omega arith; late = let b = glance-late in omega arith; reading = reading-next d f g links (R .sound) (R .shelves) small (G .reading) ee here ej; seen = seen-stale tt (r .query) (r .start) (r .stop) (r .lo) (R .setting) (guess xs) (G .seen) j from gap (sym (reading-fresh d f g links (R .sound) (R .shelves) small (G .reading) ee here ej (r .lo) ey) ∙ h) N }
 
         module _ {a e v : ℕ} (ea : a ≡ getD f j 0) (eb : e ≡ getD g j 0) (ev : v ≡ pickOther (eqb a u) a e) where
           v-is : v ≡ otherOf tt j u
@@ -482,19 +483,19 @@ module _ (d f g links : List ℕ) (r : Season) (R : Open d f g links r) (xs : Li
           touch = reading-touch d f g links (R .sound) (R .shelves) small (G .reading) ee here ej
 
           pub glance-small : v < 4096
-          glance-small = subst (λ (w : ℕ). w < 4096) (sym v-is) (other-small tt (query (r .k)) (r .start) (r .end) (r .lo) (R .setting) j u below touch)
+          glance-small = subst (λ (w : ℕ). w < 4096) (sym v-is) (other-small tt (r .query) (r .start) (r .stop) (r .lo) (R .setting) j u below touch)
 
-          glance-note : {y : Bool} {z n′ above′ more′ : ℕ} → y ≡ (leb (r .lo) j and leb (getD links (8192 + 2 * length d + j) 0) (r .lo)) → y ≡ true → day ≤ r .end → z ≡ max (getD xs v 0) day → Noting true z c n above more n′ above′ more′ → Glance d f g links r xs u c (p + 1) n′ above′ more′
+          glance-note : {y : Bool} {z n′ above′ more′ : ℕ} → y ≡ (leb (r .lo) j and leb (getD links (8192 + 2 * length d + j) 0) (r .lo)) → y ≡ true → day ≤ r .stop → z ≡ max (getD xs v 0) day → Noting true z c n above more n′ above′ more′ → Glance d f g links r xs u c (p + 1) n′ above′ more′
           unfolding value
           glance-note {y} {z} ey h l ez N =
-              record { b = j + 1; within = let b = below in omega arith; late = let b = glance-late in omega arith; reading = reading-next d f g links (R .sound) (R .shelves) small (G .reading) ee here ej; seen = seen-note tt (query (r .k)) (r .start) (r .end) (r .lo) (R .setting) (guess xs) (G .seen) j from gap (sym (reading-fresh d f g links (R .sound) (R .shelves) small (G .reading) ee here ej (r .lo) ey) ∙ h) touch is-value in-range N }
+              record { b = j + 1; within = let b = below in omega arith; late = let b = glance-late in omega arith; reading = reading-next d f g links (R .sound) (R .shelves) small (G .reading) ee here ej; seen = seen-note tt (r .query) (r .start) (r .stop) (r .lo) (R .setting) (guess xs) (G .seen) j from gap (sym (reading-fresh d f g links (R .sound) (R .shelves) small (G .reading) ee here ej (r .lo) ey) ∙ h) touch is-value in-range N }
             where
               is-value : z ≡ max (guess xs (otherOf tt j u)) (dayOf tt j)
               is-value = let e : guess xs (otherOf tt j u) ≡ getD xs v 0 = ap (guess xs) (sym v-is) ∙ guess-at xs v len glance-small in let o = day-is in omega arith
 
-              in-range : (z ≤ r .end) ⊎ (z ≡ never)
+              in-range : (z ≤ r .stop) ⊎ (z ≡ never)
               in-range = let o = R .setting .fits in ⊎-elim (λ k. _⊎_.inl (omega arith)) (λ k. _⊎_.inr (omega arith)) (D v glance-small)
 
-          pub glance-mark : {y : Bool} {z w n′ above′ more′ : ℕ} → y ≡ (leb (r .lo) j and leb (getD links (8192 + 2 * length d + j) 0) (r .lo)) → day ≤ r .end → z ≡ max (getD xs v 0) day → By y z never w → Noting true w c n above more n′ above′ more′ → Glance d f g links r xs u c (p + 1) n′ above′ more′
+          pub glance-mark : {y : Bool} {z w n′ above′ more′ : ℕ} → y ≡ (leb (r .lo) j and leb (getD links (8192 + 2 * length d + j) 0) (r .lo)) → day ≤ r .stop → z ≡ max (getD xs v 0) day → By y z never w → Noting true w c n above more n′ above′ more′ → Glance d f g links r xs u c (p + 1) n′ above′ more′
           glance-mark {y} {n′ = n′} {above′ = above′} {more′ = more′} ey l ez B N =
               ⊎-elim (λ h. glance-note ey h l ez (subst (λ (i : ℕ). Noting true i c n above more n′ above′ more′) (B .0 h) N)) (λ h. glance-skip ey h (subst (λ (i : ℕ). Noting true i c n above more n′ above′ more′) (B .1 h) N)) (look y)

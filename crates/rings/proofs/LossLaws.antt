@@ -23,7 +23,8 @@ use Rattle.rings.specs.Ring.{touches, query}
 use Rattle.rings.specs.CoreTimes.{never}
 use Rattle.rings.specs.Sound.{Sound}
 use Rattle.rings.specs.Inner.Links.{pickOther, otherOf, fresh, Reading, Every}
-use Rattle.rings.specs.Inner.Peeling.{Setting, Season, Open, Place, guess}
+use Rattle.rings.specs.Inner.Peeling.{Setting, Open, Place, guess}
+use Rattle.rings.specs.declared.frame.Frame.{Frame}
 use Rattle.rings.specs.Inner.Settling.{value, backing, backers, Days, Losing, Lessened, Leaving, Queued}
 use Rattle.rings.specs.declared.Query.{Query}
 use Rattle.rings.proofs.WordLaws.{look, clash, and-l, count-none, same-or}
@@ -175,12 +176,12 @@ module _ (t : Table) (x : ℕ → ℕ) (lo u old new : ℕ) (sp₀ : List ℕ) w
             let a = at-place sp′ e in let c = at-place sp₀ e in let m = O .less v in omega arith
 
 -- the rows of u below b, which stand before place p, have been seen; the queue had tail entries, and has end
-pub record Wave (d f g links : List ℕ) (r : Season) (xs : List ℕ) (u old new tail : ℕ) (sp₀ ws₀ : List ℕ) (b p end : ℕ) (sp ws : List ℕ) : Type 0 where
+pub record Wave (d f g links : List ℕ) (r : Frame) (xs : List ℕ) (u old new tail : ℕ) (sp₀ ws₀ : List ℕ) (b p end : ℕ) (sp ws : List ℕ) : Type 0 where
   pub reading : Reading links u b p
   pub done : Lessened (tableOf d f g) (guess xs) (r .lo) u b old new sp₀ sp
   pub queued : Queued tail sp₀ ws₀ end sp ws
 
-module _ (d f g links : List ℕ) (r : Season) (R : Open d f g links r) (xs : List ℕ) (len : length xs ≡ 4096) {u : ℕ} (small : u < 4096) (E : Every (tableOf d f g) (guess xs) (r .lo) u links) (D : Days (r .end) xs) (old new : ℕ) (en : new ≡ getD xs u 0) (tail : ℕ) (sp₀ ws₀ : List ℕ) where
+module _ (d f g links : List ℕ) (r : Frame) (R : Open d f g links r) (xs : List ℕ) (len : length xs ≡ 4096) {u : ℕ} (small : u < 4096) (E : Every (tableOf d f g) (guess xs) (r .lo) u links) (D : Days (r .stop) xs) (old new : ℕ) (en : new ≡ getD xs u 0) (tail : ℕ) (sp₀ ws₀ : List ℕ) where
   abbrev tw : Table
   tw = tableOf d f g
 
@@ -210,16 +211,16 @@ module _ (d f g links : List ℕ) (r : Season) (R : Open d f g links r) (xs : Li
       w-day = ed
 
       -- a row of u from there on takes none: it was passed over, or is dated on the new time or later, or behind the range
-      pub wave-late : {until : ℕ} → until ≡ min new (r .end + 1) → until ≤ day → (i : ℕ) → b ≤ i → i < length d → touches tw i u ≡ true → ((i < r .lo) ⊎ (guess xs (otherOf tw i u) ≡ never)) ⊎ ((new ≤ dayOf tw i) ⊎ (r .end < dayOf tw i))
+      pub wave-late : {until : ℕ} → until ≡ min new (r .stop + 1) → until ≤ day → (i : ℕ) → b ≤ i → i < length d → touches tw i u ≡ true → ((i < r .lo) ⊎ (guess xs (otherOf tw i u) ≡ never)) ⊎ ((new ≤ dayOf tw i) ⊎ (r .stop < dayOf tw i))
       wave-late eu h i a k y =
           ⊎-elim (λ z. let o = R .setting .rising j i (leb-true j i z) k in let e = w-day in _⊎_.inr (⊎-elim (λ m. let c = leb-true new (dayOf tw i) m in _⊎_.inl c) (λ m. let c = leb-false new (dayOf tw i) m in _⊎_.inr (omega arith)) (look (leb new (dayOf tw i)))))
           (λ z. _⊎_.inl (w-gap i a (leb-false j i z) y)) (look (leb j i))
 
-      pub wave-stop : {until : ℕ} → until ≡ min new (r .end + 1) → until ≤ day → Lessened tw (guess xs) (r .lo) u (length d) old new sp₀ sp × Queued tail sp₀ ws₀ end sp ws
+      pub wave-stop : {until : ℕ} → until ≡ min new (r .stop + 1) → until ≤ day → Lessened tw (guess xs) (r .lo) u (length d) old new sp₀ sp × Queued tail sp₀ ws₀ end sp ws
       wave-stop eu h = (
         lessened-all tw (guess xs) (r .lo) u old new sp₀ (W .done) (length d)
             (λ i a k z y p o.
-            let v = other-small tw (query (r .k)) (r .start) (r .end) (r .lo) (R .setting) i u k y in
+            let v = other-small tw (r .query) (r .start) (r .stop) (r .lo) (R .setting) i u k y in
             let gv = guess-at xs (otherOf tw i u) len v in
             ⊎-elim (λ m. over m z o) (λ w. ⊎-elim (λ m. omega arith) (λ m. ⊎-elim (λ c. omega arith) (λ c. let n = new-most in omega arith) (D (otherOf tw i u) v)) w) (wave-late eu h i a k y)),
         W .queued,
@@ -230,7 +231,7 @@ module _ (d f g links : List ℕ) (r : Season) (R : Open d f g links r) (xs : Li
         w-other = reading-other d f g links (R .sound) (R .shelves) small (W .reading) ee more ej ea eb ev
 
         pub wave-small : v < 4096
-        wave-small = subst (λ (w : ℕ). w < 4096) (sym w-other) (other-small tw (query (r .k)) (r .start) (r .end) (r .lo) (R .setting) j u w-below (reading-touch d f g links (R .sound) (R .shelves) small (W .reading) ee more ej))
+        wave-small = subst (λ (w : ℕ). w < 4096) (sym w-other) (other-small tw (r .query) (r .start) (r .stop) (r .lo) (R .setting) j u w-below (reading-touch d f g links (R .sound) (R .shelves) small (W .reading) ee more ej))
 
         pub wave-next : {y w : Bool} {z own end′ : ℕ} {sp′ ws′ : List ℕ} → end < 4352 → y ≡ (leb (r .lo) j and leb (getD links (8192 + 2 * length d + j) 0) (r .lo)) → z ≡ getD xs v 0 → own ≡ max old day → w ≡ (leb own z && ltb z new) → Losing (y && w) v end sp ws sp′ ws′ end′ → Wave d f g links r xs u old new tail sp₀ ws₀ (j + 1) (p + 1) end′ sp′ ws′
         wave-next {y} {w} {z} {own} room ey ez eo ew L =

@@ -20,7 +20,8 @@ use Rattle.rings.specs.Table.{Table, tableOf, dayOf, firstOf, secondOf}
 use Rattle.rings.specs.Ring.{ring, members, query}
 use Rattle.rings.specs.CoreTimes.{never}
 use Rattle.rings.specs.Buffers.{mark, marks}
-use Rattle.rings.specs.Inner.Peeling.{Season, Falling, Ready, Span}
+use Rattle.rings.specs.Inner.Peeling.{Falling, Ready, Span}
+use Rattle.rings.specs.declared.frame.Frame.{Frame}
 use Rattle.rings.proofs.WordLaws.{and-i, and-l, and-r, same-truth, tally-yes, tally-no}
 use Rattle.rings.proofs.RingLaws.{Inside, in-marked, marked-in, two-met, met-first, met-second}
 use Rattle.rings.proofs.FallLaws.{fell-look, stays-met, fell-not}
@@ -70,7 +71,7 @@ mark-end r {j} {n} {m₀} {m} M e y = (
 
 -- ---- who stays is in the ring
 
-module _ (d f s links : List ℕ) (q : Season) (R : Ready d f s links q) {end tail : ℕ} {x l w : List ℕ} (order : q .start ≤ q .end) (Sp : Span d (q .end) (q .lo) end)
+module _ (d f s links : List ℕ) (q : Frame) (R : Ready d f s links q) {end tail : ℕ} {x l w : List ℕ} (order : q .start ≤ q .stop) (Sp : Span d (q .stop) (q .lo) end)
     (F : Falling d f s q 4096 never end tail tail x l w) (j : ℕ) (b : j < length d) where
   t : Table
   t = tableOf d f s
@@ -85,20 +86,20 @@ module _ (d f s links : List ℕ) (q : Season) (R : Ready d f s links q) {end ta
   stays-place = let a = R .sound .firsts in let c = R .sound .seconds in let n = F .len-x in let y = rank-a in let z = rank-b in (omega arith, omega arith, omega arith, omega arith)
 
   -- the rows of the window are those from lo to end
-  inside : q .lo ≤ j → j < end → Inside (tableOf d f s) (q .start) (q .end) j
+  inside : q .lo ≤ j → j < end → Inside (tableOf d f s) (q .start) (q .stop) j
   unfolding dayOf at
   inside h k = record { row = b; from = R .setting .from-lo j b h; to = Sp .inside j k }
 
-  days-inside : (i : ℕ) → i < end → i < length d → dayOf (tableOf d f s) i ≤ q .end
+  days-inside : (i : ℕ) → i < end → i < length d → dayOf (tableOf d f s) i ≤ q .stop
   unfolding dayOf at
   days-inside i h k = Sp .inside i h
 
-  pub stays-ring : q .lo ≤ j → j < end → {y : Bool} → y ≡ (eqb (getD x (getD f j 0) 0) 0 and eqb (getD x (getD s j 0) 0) 0) → marked (ring (tableOf d f s) (query (q .k)) (q .start) (q .end)) j ≡ y
+  pub stays-ring : q .lo ≤ j → j < end → {y : Bool} → y ≡ (eqb (getD x (getD f j 0) 0) 0 and eqb (getD x (getD s j 0) 0) 0) → marked (ring (tableOf d f s) (q .query) (q .start) (q .stop)) j ≡ y
   unfolding firstOf secondOf dayOf at
   stays-ring from to {y} e = same-truth (marked rg j) test goes comes ∙ sym e
     where
       rg : List Bool
-      rg = ring (tableOf d f s) (query (q .k)) (q .start) (q .end)
+      rg = ring (tableOf d f s) (q .query) (q .start) (q .stop)
 
       za : Bool
       za = eqb (getD x (getD f j 0) 0) 0
@@ -110,16 +111,16 @@ module _ (d f s links : List ℕ) (q : Season) (R : Ready d f s links q) {end ta
       test = za and zb
 
       stayed : (u : ℕ) → u < 4096 → Rattle.rings.specs.Ring.met (tableOf d f s) rg u ≡ true → getD x u 0 ≡ 0
-      stayed u k m = ⊎-elim (λ z. z) (λ g. absurd (fell-not (tableOf d f s) (query (q .k)) (q .start) (q .end) (q .lo) (R .setting) F u k g order m)) (fell-look x u)
+      stayed u k m = ⊎-elim (λ z. z) (λ g. absurd (fell-not (tableOf d f s) (q .query) (q .start) (q .stop) (q .lo) (R .setting) F u k g order m)) (fell-look x u)
 
       goes : marked rg j ≡ true → test ≡ true
       goes h =
-          let k = in-marked (tableOf d f s) (query (q .k)) (q .start) (q .end) j h in
-          and-i (eq-eqb (getD x (getD f j 0) 0) 0 (stayed (getD f j 0) rank-a (met-first (tableOf d f s) (query (q .k)) (q .start) (q .end) j k))) (eq-eqb (getD x (getD s j 0) 0) 0 (stayed (getD s j 0) rank-b (met-second (tableOf d f s) (query (q .k)) (q .start) (q .end) j k)))
+          let k = in-marked (tableOf d f s) (q .query) (q .start) (q .stop) j h in
+          and-i (eq-eqb (getD x (getD f j 0) 0) 0 (stayed (getD f j 0) rank-a (met-first (tableOf d f s) (q .query) (q .start) (q .stop) j k))) (eq-eqb (getD x (getD s j 0) 0) 0 (stayed (getD s j 0) rank-b (met-second (tableOf d f s) (q .query) (q .start) (q .stop) j k)))
 
       comes : test ≡ true → marked rg j ≡ true
       comes h =
-          let m : (u : ℕ) → u < 4096 → getD x u 0 ≡ 0 → Rattle.rings.specs.Ring.met (tableOf d f s) rg u ≡ true = stays-met (tableOf d f s) (query (q .k)) (q .start) (q .end) (q .lo) (R .setting) F days-inside in
-          marked-in (tableOf d f s) (query (q .k)) (q .start) (q .end) j
-          (two-met (tableOf d f s) (query (q .k)) (q .start) (q .end) j (inside from to)
+          let m : (u : ℕ) → u < 4096 → getD x u 0 ≡ 0 → Rattle.rings.specs.Ring.met (tableOf d f s) rg u ≡ true = stays-met (tableOf d f s) (q .query) (q .start) (q .stop) (q .lo) (R .setting) F days-inside in
+          marked-in (tableOf d f s) (q .query) (q .start) (q .stop) j
+          (two-met (tableOf d f s) (q .query) (q .start) (q .stop) j (inside from to)
           (m (getD f j 0) rank-a (eqb-true (getD x (getD f j 0) 0) 0 (and-l za zb h))) (m (getD s j 0) rank-b (eqb-true (getD x (getD s j 0) 0) 0 (and-r za zb h))))

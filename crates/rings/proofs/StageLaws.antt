@@ -17,7 +17,8 @@ use Rattle.rings.specs.Table.{Table, tableOf, dayOf, firstOf, secondOf}
 use Rattle.rings.specs.Ring.{touches, query}
 use Rattle.rings.specs.CoreTimes.{never}
 use Rattle.rings.specs.Inner.Links.{fresh}
-use Rattle.rings.specs.Inner.Peeling.{Lost, fallen, Season, Ready, Falling, Walking, Counted, Fade, Span, CoreTimesAre}
+use Rattle.rings.specs.Inner.Peeling.{Lost, fallen, Ready, Falling, Walking, Counted, Fade, Span, CoreTimesAre}
+use Rattle.rings.specs.declared.frame.Frame.{Frame}
 use Rattle.rings.proofs.WordLaws.{look, clash, and-i, and-l, and-r, no-i, no-e, same-truth, count-same, count-none, count-pos, count-le, same-or}
 use Rattle.rings.proofs.RingLaws.{touch-cases, touch-first, touch-second}
 use Rattle.rings.proofs.PairLaws.{count-drop}
@@ -37,11 +38,11 @@ pub count-end : {t : Table} {lo j end : ℕ} {l : List ℕ} → Counted t lo j l
 count-end {t} {lo} {j} {end} {l} C a b = subst (λ (c : ℕ). Counted t lo c l) (le-antisymm a b) C
 
 -- the accounts below u have been looked at; none from u on has fallen
-pub record Weed (d f s : List ℕ) (q : Season) (u end last : ℕ) (x l w : List ℕ) : Type 0 where
+pub record Weed (d f s : List ℕ) (q : Frame) (u end last : ℕ) (x l w : List ℕ) : Type 0 where
   pub state : Falling d f s q u never end 0 last x l w
   pub rest : (v : ℕ) → u ≤ v → v < 4096 → getD x v 0 ≡ 0
 
-module _ (d f s links : List ℕ) (q : Season) (R : Ready d f s links q) where
+module _ (d f s links : List ℕ) (q : Frame) (R : Ready d f s links q) where
   abbrev t : Table
   t = tableOf d f s
 
@@ -56,7 +57,7 @@ module _ (d f s links : List ℕ) (q : Season) (R : Ready d f s links q) where
     tail-most = subst (λ (c : ℕ). c ≤ 4096) (sym (F .queue .tail-is)) (count-le (λ u. no (eqb (getD x u 0) 0)) 4096)
 
     pub drain-walk : head < tail → {u : ℕ} → u ≡ getD w head 0 → Walking d f s q 0 e r head tail u x l w
-    drain-walk h {u} eu = subst (λ (c : ℕ). Walking d f s q 0 e r head tail c x l w) (sym eu) (walk-start t (query (q .k)) (q .start) (q .end) (q .lo) (R .setting) F h)
+    drain-walk h {u} eu = subst (λ (c : ℕ). Walking d f s q 0 e r head tail c x l w) (sym eu) (walk-start t (q .query) (q .start) (q .stop) (q .lo) (R .setting) F h)
 
     pub drain-end : tail ≤ head → Falls 4096 e r tail tail x l w
     drain-end h = subst (λ (c : ℕ). Falls 4096 e r c tail x l w) (le-antisymm (F .queue .in-order) h) F
@@ -89,17 +90,17 @@ module _ (d f s links : List ℕ) (q : Season) (R : Ready d f s links q) where
     leave-accounts ea ec = let y = a-small in let z = b-small in let n = F .len-x in (omega arith, omega arith)
 
     pub leave-old : {y : Bool} → y ≡ (leb (q .lo) j and leb (getD links (8192 + 2 * length d + j) 0) (q .lo)) → y ≡ false → Falls 4096 e j tail tail x l w
-    leave-old h g = leave-stale t (query (q .k)) (q .start) (q .end) (q .lo) (R .setting) G e-day (fresh-is h ∙ g)
+    leave-old h g = leave-stale t (q .query) (q .start) (q .stop) (q .lo) (R .setting) G e-day (fresh-is h ∙ g)
 
     pub leave-a-fell : {a v : ℕ} → a ≡ getD f j 0 → v ≡ getD x a 0 → (v ≡ 0 → ⊥) → Falls 4096 e j tail tail x l w
     unfolding firstOf at
     leave-a-fell {a} {v} ea ev n =
-        leave-fell t (query (q .k)) (q .start) (q .end) (q .lo) (R .setting) G e-day b a (subst (λ (c : ℕ). touches t j c ≡ true) (sym ea) (touch-first t j)) (λ z. n (ev ∙ z))
+        leave-fell t (q .query) (q .start) (q .stop) (q .lo) (R .setting) G e-day b a (subst (λ (c : ℕ). touches t j c ≡ true) (sym ea) (touch-first t j)) (λ z. n (ev ∙ z))
 
     pub leave-b-fell : {c v : ℕ} → c ≡ getD s j 0 → v ≡ getD x c 0 → (v ≡ 0 → ⊥) → Falls 4096 e j tail tail x l w
     unfolding secondOf at
     leave-b-fell {c} {v} ec ev n =
-        leave-fell t (query (q .k)) (q .start) (q .end) (q .lo) (R .setting) G e-day b c (subst (λ (g : ℕ). touches t j g ≡ true) (sym ec) (touch-second t j)) (λ z. n (ev ∙ z))
+        leave-fell t (q .query) (q .start) (q .stop) (q .lo) (R .setting) G e-day b c (subst (λ (g : ℕ). touches t j g ≡ true) (sym ec) (touch-second t j)) (λ z. n (ev ∙ z))
 
     module _ {y : Bool} (ey : y ≡ (leb (q .lo) j and leb (getD links (8192 + 2 * length d + j) 0) (q .lo))) (yes : y ≡ true) {a c va vc : ℕ} (ea : a ≡ getD f j 0) (ec : c ≡ getD s j 0) (va-is : va ≡ getD x a 0) (vc-is : vc ≡ getD x c 0) (za : va ≡ 0) (zc : vc ≡ 0) where
       f-is : fresh t (q .lo) j ≡ true
@@ -119,26 +120,26 @@ module _ (d f s links : List ℕ) (q : Season) (R : Ready d f s links q) where
       zero-c : getD x (secondOf t j) 0 ≡ 0
       zero-c = ap (λ (g : ℕ). getD x g 0) (sym c-is) ∙ (sym vc-is ∙ zc)
 
-      pub leave-room-a : ((a < 4096) × (length x ≡ 4096) × (length l ≡ 4096) × (4096 ≤ length w)) × ((0 < getD l a 0) × (getD l a 0 ≡ q .k → tail < 4096))
+      pub leave-room-a : ((a < 4096) × (length x ≡ 4096) × (length l ≡ 4096) × (4096 ≤ length w)) × ((0 < getD l a 0) × (getD l a 0 ≡ q .query .k → tail < 4096))
       leave-room-a =
           let k = a-small in (
             (omega arith, F .len-x, F .len-d, F .len-w),
-            subst (λ (g : ℕ). (0 < getD l g 0) × (getD l g 0 ≡ q .k → tail < 4096)) (sym a-is) (leave-first-one t (query (q .k)) (q .start) (q .end) (q .lo) (R .setting) G e-day b f-is zero-a zero-c),
+            subst (λ (g : ℕ). (0 < getD l g 0) × (getD l g 0 ≡ q .query .k → tail < 4096)) (sym a-is) (leave-first-one t (q .query) (q .start) (q .stop) (q .lo) (R .setting) G e-day b f-is zero-a zero-c),
           )
 
-      module _ {x₁ l₁ w₁ : List ℕ} {one : ℕ} (n₁ : length x₁ ≡ length x) (n₂ : length l₁ ≡ length l) (n₃ : length w₁ ≡ length w) (L : Lost (q .k) e tail a x l w x₁ l₁ w₁ one) where
-        L′ : Lost (q .k) e tail (firstOf t j) x l w x₁ l₁ w₁ one
-        L′ = subst (λ (g : ℕ). Lost (q .k) e tail g x l w x₁ l₁ w₁ one) a-is L
+      module _ {x₁ l₁ w₁ : List ℕ} {one : ℕ} (n₁ : length x₁ ≡ length x) (n₂ : length l₁ ≡ length l) (n₃ : length w₁ ≡ length w) (L : Lost (q .query .k) e tail a x l w x₁ l₁ w₁ one) where
+        L′ : Lost (q .query .k) e tail (firstOf t j) x l w x₁ l₁ w₁ one
+        L′ = subst (λ (g : ℕ). Lost (q .query .k) e tail g x l w x₁ l₁ w₁ one) a-is L
 
-        pub leave-room-b : ((c < 4096) × (length x₁ ≡ 4096) × (length l₁ ≡ 4096) × (4096 ≤ length w₁)) × ((0 < getD l₁ c 0) × (getD l₁ c 0 ≡ q .k → one < 4096))
+        pub leave-room-b : ((c < 4096) × (length x₁ ≡ 4096) × (length l₁ ≡ 4096) × (4096 ≤ length w₁)) × ((0 < getD l₁ c 0) × (getD l₁ c 0 ≡ q .query .k → one < 4096))
         leave-room-b =
             let k = b-small in (
               (omega arith, n₁ ∙ F .len-x, n₂ ∙ F .len-d, let o = F .len-w in omega arith),
-              subst (λ (g : ℕ). (0 < getD l₁ g 0) × (getD l₁ g 0 ≡ q .k → one < 4096)) (sym c-is) (leave-second-one t (query (q .k)) (q .start) (q .end) (q .lo) (R .setting) G e-day b f-is zero-a zero-c L′),
+              subst (λ (g : ℕ). (0 < getD l₁ g 0) × (getD l₁ g 0 ≡ q .query .k → one < 4096)) (sym c-is) (leave-second-one t (q .query) (q .start) (q .stop) (q .lo) (R .setting) G e-day b f-is zero-a zero-c L′),
             )
 
-        pub leave-now : {x₂ l₂ w₂ : List ℕ} {two : ℕ} → Lost (q .k) e one c x₁ l₁ w₁ x₂ l₂ w₂ two → Falls 4096 e j tail two x₂ l₂ w₂
-        leave-now {x₂} {l₂} {w₂} {two} M = leave-both t (query (q .k)) (q .start) (q .end) (q .lo) (R .setting) G e-day b f-is zero-a zero-c L′ (subst (λ (g : ℕ). Lost (q .k) e one g x₁ l₁ w₁ x₂ l₂ w₂ two) c-is M)
+        pub leave-now : {x₂ l₂ w₂ : List ℕ} {two : ℕ} → Lost (q .query .k) e one c x₁ l₁ w₁ x₂ l₂ w₂ two → Falls 4096 e j tail two x₂ l₂ w₂
+        leave-now {x₂} {l₂} {w₂} {two} M = leave-both t (q .query) (q .start) (q .stop) (q .lo) (R .setting) G e-day b f-is zero-a zero-c L′ (subst (λ (g : ℕ). Lost (q .query .k) e one g x₁ l₁ w₁ x₂ l₂ w₂ two) c-is M)
 
   -- ---- fade
 
@@ -154,7 +155,7 @@ module _ (d f s links : List ℕ) (q : Season) (R : Ready d f s links q) where
         let z = F .dated (r - 1) (omega arith) in
         subst (λ (c : ℕ). Falls 4096 e c tail tail x l w) (sym (add-one (r - 1)))
         (subst (λ (c : ℕ). Falls 4096 c (suc (r - 1)) tail tail x l w) (sym ee)
-        (next-day t (query (q .k)) (q .start) (q .end) (q .lo) (R .setting) (subst (λ (c : ℕ). Falls 4096 (F .e) c tail tail x l w) g (F .state)) y (z .0) (z .1) (F .above (r - 1) (omega arith))))
+        (next-day t (q .query) (q .start) (q .stop) (q .lo) (R .setting) (subst (λ (c : ℕ). Falls 4096 (F .e) c tail tail x l w) g (F .state)) y (z .0) (z .1) (F .above (r - 1) (omega arith))))
 
     pub fade-left : q .lo < r → {e tail′ : ℕ} {x′ l′ w′ : List ℕ} → e ≡ getD d (r - 1) 0 → Falls 4096 e (r - 1) tail′ tail′ x′ l′ w′ → Fade d f s q (r - 1) tail′ x′ l′ w′
     unfolding dayOf at
@@ -163,7 +164,7 @@ module _ (d f s links : List ℕ) (q : Season) (R : Ready d f s links q) where
         record { e = e; state = G; above = λ j k. subst (λ (c : ℕ). getD d j 0 ≤ c) (sym ee) (R .setting .rising j (r - 1) (omega arith) (omega arith)); within = omega arith; from = omega arith; dated = λ j k. F .dated j (omega arith) }
 
     pub fade-end : r ≤ q .lo → CoreTimesAre d f s q x
-    fade-end h = record { long = F .state .len-x; times = λ u k. fall-times t (query (q .k)) (q .start) (q .end) (q .lo) (R .setting) (subst (λ (c : ℕ). Falls 4096 (F .e) c tail tail x l w) (le-antisymm h (F .from)) (F .state)) u k }
+    fade-end h = record { long = F .state .len-x; times = λ u k. fall-times t (q .query) (q .start) (q .stop) (q .lo) (R .setting) (subst (λ (c : ℕ). Falls 4096 (F .e) c tail tail x l w) (le-antisymm h (F .from)) (F .state)) u k }
 
   -- ---- count_neighbours
 
@@ -289,7 +290,7 @@ module _ (d f s links : List ℕ) (q : Season) (R : Ready d f s links q) where
 
   -- ---- the first state, and weed
 
-  pub fall-start : (x₀ : List ℕ) {x l w : List ℕ} {end : ℕ} → length x₀ ≡ 4096 → x ≡ replicate (length x₀) 0 → Counted t (q .lo) end l → 4096 ≤ length w → end ≤ length d → ((j : ℕ) → end ≤ j → j < length d → q .end < dayOf t j) → Falls 0 never end 0 0 x l w
+  pub fall-start : (x₀ : List ℕ) {x l w : List ℕ} {end : ℕ} → length x₀ ≡ 4096 → x ≡ replicate (length x₀) 0 → Counted t (q .lo) end l → 4096 ≤ length w → end ≤ length d → ((j : ℕ) → end ≤ j → j < length d → q .stop < dayOf t j) → Falls 0 never end 0 0 x l w
   fall-start x₀ {x} {l} {w} {end} n ex C m within later =
       record {
         len-x = ap length ex ∙ (length-replicate {A = ℕ} (length x₀) 0 ∙ n);
@@ -349,7 +350,7 @@ module _ (d f s links : List ℕ) (q : Season) (R : Ready d f s links q) where
     pub weed-room : (last < length w) × (u < length x)
     weed-room = let a : last < 4096 = subst (λ (c : ℕ). c < 4096) (sym (F .queue .tail-is)) (room x u k zero-u) in let b = F .len-w in let c = F .len-x in (omega arith, omega arith)
 
-    pub weed-keep : q .k ≤ getD l u 0 → Weed d f s q (u + 1) end last x l w
+    pub weed-keep : q .query .k ≤ getD l u 0 → Weed d f s q (u + 1) end last x l w
     weed-keep h =
         record {
           state = record {
@@ -363,16 +364,16 @@ module _ (d f s links : List ℕ) (q : Season) (R : Ready d f s links q) where
             times = F .times;
             passed-why = F .passed-why;
             left-why = F .left-why;
-            counts = record { degrees = F .counts .degrees; many = F .counts .many; few = F .counts .few; enough = λ v a b z. ⊎-elim (λ e. subst (λ (c : ℕ). q .k ≤ getD l c 0) (sym e) h) (λ o. F .counts .enough v o b z) (eq-or-lt-of-le (omega arith)) };
+            counts = record { degrees = F .counts .degrees; many = F .counts .many; few = F .counts .few; enough = λ v a b z. ⊎-elim (λ e. subst (λ (c : ℕ). q .query .k ≤ getD l c 0) (sym e) h) (λ o. F .counts .enough v o b z) (eq-or-lt-of-le (omega arith)) };
           };
           rest = λ v a b. W .rest v (omega arith) b;
         }
 
-    pub weed-fall : getD l u 0 < q .k → {x′ w′ : List ℕ} → x′ ≡ set x u 65535 → w′ ≡ set w last u → Weed d f s q (u + 1) end (last + 1) x′ l w′
+    pub weed-fall : getD l u 0 < q .query .k → {x′ w′ : List ℕ} → x′ ≡ set x u 65535 → w′ ≡ set w last u → Weed d f s q (u + 1) end (last + 1) x′ l w′
     weed-fall h {x′} {w′} ex ew =
         subst (λ (c : List ℕ). Weed d f s q (u + 1) end (last + 1) c l w′) (sym ex) (subst (λ (c : List ℕ). Weed d f s q (u + 1) end (last + 1) (set x u never) l c) (sym ew) fell)
       where
-        few : count (λ j. F .live j u) (length d) < q .k
+        few : count (λ j. F .live j u) (length d) < q .query .k
         few = let a : getD l u 0 ≡ count (λ j. F .live j u) (length d) = F .counts .degrees u k zero-u in omega arith
 
         fell-u : (v : ℕ) → v ≡ u → getD (set x u never) v 0 ≡ 0 → ⊥
@@ -391,13 +392,13 @@ module _ (d f s links : List ℕ) (q : Season) (R : Ready d f s links q) where
                 walked = F .walked;
                 live = F .live;
                 rows = F .rows;
-                queue = queue-fall t (query (q .k)) (q .start) (q .end) (q .lo) (R .setting) (F .len-x) (F .times) u k zero-u (F .len-w) (F .queue);
-                times = times-fall t (query (q .k)) (q .start) (q .end) (q .lo) (R .setting) (F .len-x) (F .times) u k zero-u (fall-lower t (query (q .k)) (q .start) (q .end) (q .lo) (R .setting) (F .rows) (F .queue .walked-fell) (F .times) (F .passed-why) (F .left-why) u few);
+                queue = queue-fall t (q .query) (q .start) (q .stop) (q .lo) (R .setting) (F .len-x) (F .times) u k zero-u (F .len-w) (F .queue);
+                times = times-fall t (q .query) (q .start) (q .stop) (q .lo) (R .setting) (F .len-x) (F .times) u k zero-u (fall-lower t (q .query) (q .start) (q .stop) (q .lo) (R .setting) (F .rows) (F .queue .walked-fell) (F .times) (F .passed-why) (F .left-why) u few);
                 counts = record {
                   degrees = λ v a z. ⊎-elim (λ y. absurd (fell-u v y z)) (λ y. F .counts .degrees v a (sym (same v y) ∙ z)) (same-or v u);
                   enough = λ v a b z. ⊎-elim (λ y. absurd (fell-u v y z)) (λ y. F .counts .enough v (⊎-elim (λ e. absurd (y e)) (λ o. o) (eq-or-lt-of-le (omega arith))) b (sym (same v y) ∙ z)) (same-or v u);
                   many = λ v a z. ⊎-elim (λ y. subst (λ (c : ℕ). count (λ j. F .live j c) (length d) ≤ getD l c 0) (sym y) (let m : getD l u 0 ≡ count (λ j. F .live j u) (length d) = F .counts .degrees u k zero-u in omega arith)) (λ y. F .counts .many v a (λ e. z (same v y ∙ e))) (same-or v u);
-                  few = λ v a z. ⊎-elim (λ y. subst (λ (c : ℕ). getD l c 0 < q .k) (sym y) h) (λ y. F .counts .few v a (λ e. z (same v y ∙ e))) (same-or v u);
+                  few = λ v a z. ⊎-elim (λ y. subst (λ (c : ℕ). getD l c 0 < q .query .k) (sym y) h) (λ y. F .counts .few v a (λ e. z (same v y ∙ e))) (same-or v u);
                 };
                 passed-why = λ j v a p. clash refl (sym p);
                 left-why = F .left-why;
@@ -407,8 +408,8 @@ module _ (d f s links : List ℕ) (q : Season) (R : Ready d f s links q) where
 
   -- ---- the stages together
 
-  module _ {end : ℕ} (Sp : Span d (q .end) (q .lo) end) where
-    later-day : (j : ℕ) → end ≤ j → j < length d → q .end < dayOf t j
+  module _ {end : ℕ} (Sp : Span d (q .stop) (q .lo) end) where
+    later-day : (j : ℕ) → end ≤ j → j < length d → q .stop < dayOf t j
     unfolding dayOf at
     later-day = Sp .later
 

@@ -18,7 +18,8 @@ use Rattle.rings.specs.Table.{Table, tableOf, dayOf, Split}
 use Rattle.rings.specs.Ring.{query}
 use Rattle.rings.specs.Sound.{Sound}
 use Rattle.rings.specs.CoreTimes.{never, rowTime}
-use Rattle.rings.specs.Inner.Peeling.{Season, Framed}
+use Rattle.rings.specs.Inner.Peeling.{Framed}
+use Rattle.rings.specs.declared.frame.Frame.{Frame}
 use Rattle.rings.specs.Starts.{CountsAt, DatedTime, Earliest, Prepared, TimesAt, AtStart}
 use Rattle.rings.specs.declared.Query.{Query}
 use Rattle.rings.proofs.WordLaws.{look}
@@ -68,19 +69,19 @@ least-next {f} {lo} {j} {r} {time} {r′} o L et er =
     which (_⊎_.inl y) = let a = leb-true r time y in old (omega arith) (L .reached)
     which (_⊎_.inr y) = let a = leb-false r time y in _⊎_.inr (j, o, omega arith, omega arith)
 
-pub least-end : {d f s : List ℕ} {p : Season} {j next r : ℕ} → Framed d f s p → Split d (p .start + 1) next → j ≤ next → next ≤ j → Least (rowTime (tableOf d f s) (query (p .k)) (p .end) (p .start)) (p .lo) j r → Earliest (tableOf d f s) (query (p .k)) (p .end) (p .start) r
+pub least-end : {d f s : List ℕ} {p : Frame} {j next r : ℕ} → Framed d f s p → Split d (p .start + 1) next → j ≤ next → next ≤ j → Least (rowTime (tableOf d f s) (p .query) (p .stop) (p .start)) (p .lo) j r → Earliest (tableOf d f s) (p .query) (p .stop) (p .start) r
 unfolding dayOf at
 least-end {d} {f} {s} {p} {j} {next} {r} R N a b L = record { lower = lower; reached = reach (L .reached) }
   where
-    lower : (i : ℕ) → getD d i 0 ≡ p .start → r ≤ rowTime (tableOf d f s) (query (p .k)) (p .end) (p .start) i
+    lower : (i : ℕ) → getD d i 0 ≡ p .start → r ≤ rowTime (tableOf d f s) (p .query) (p .stop) (p .start) i
     lower i e =
-        ⊎-elim (λ y. let z = row-past (tableOf d f s) (query (p .k)) (p .end) (p .start) i (leb-true (length d) i y) in let w = L .top in omega arith)
+        ⊎-elim (λ y. let z = row-past (tableOf d f s) (p .query) (p .stop) (p .start) i (leb-true (length d) i y) in let w = L .top in omega arith)
         (λ y.
         let k = leb-false (length d) i y in
         ⊎-elim (λ x. let z = R .setting .before-lo i (ltb-true i (p .lo) x) in absurd (omega arith))
         (λ x. ⊎-elim (λ v. let z = N .after i (leb-true next i v) k in absurd (omega arith)) (λ v. let g = leb-false next i v in L .lower i (ltb-false i (p .lo) x) (omega arith)) (look (leb next i))) (look (ltb i (p .lo)))) (look (leb (length d) i))
 
-    reach : (r ≡ never) ⊎ ((i : ℕ) × (p .lo ≤ i) × (i < j) × (rowTime (tableOf d f s) (query (p .k)) (p .end) (p .start) i ≡ r)) → (r ≡ never) ⊎ DatedTime (tableOf d f s) (query (p .k)) (p .end) (p .start) r
+    reach : (r ≡ never) ⊎ ((i : ℕ) × (p .lo ≤ i) × (i < j) × (rowTime (tableOf d f s) (p .query) (p .stop) (p .start) i ≡ r)) → (r ≡ never) ⊎ DatedTime (tableOf d f s) (p .query) (p .stop) (p .start) r
     reach (_⊎_.inl n) = _⊎_.inl n
     reach (_⊎_.inr w) =
         let l : w .0 < next = let y = w .2 in omega arith in

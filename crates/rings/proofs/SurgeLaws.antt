@@ -17,7 +17,8 @@ use Rattle.rings.specs.Table.{Table, tableOf, dayOf}
 use Rattle.rings.specs.CoreTimes.{never}
 use Rattle.rings.specs.Inner.Links.{pickOther, otherOf, Reading, Every}
 use Rattle.rings.specs.Ring.{query}
-use Rattle.rings.specs.Inner.Peeling.{Season, Open, guess}
+use Rattle.rings.specs.Inner.Peeling.{Open, guess}
+use Rattle.rings.specs.declared.frame.Frame.{Frame}
 use Rattle.rings.specs.Inner.Settling.{Days, Losing, Lessened, Queued}
 use Rattle.rings.specs.Inner.Counting.{timeBy, WhereCounted, Owing, Taking, Raised}
 use Rattle.rings.specs.declared.Query.{Query}
@@ -27,22 +28,22 @@ use Rattle.rings.proofs.CountingLaws.{counted-so, counted-then, owing-r
 use Rattle.rings.proofs.LossLaws.{Wave, new-most, wave-start, wave-out, wave-stop, wave-late, wave-small, wave-next}
 use Rattle.rings.proofs.ShiftLaws.{Shift, rise-start, rise-all, rise-asks, rise-row}
 
-pub record Surge (d f g links : List ℕ) (r : Season) (xs : List ℕ) (u old new tail : ℕ) (sp₀ ws₀ : List ℕ) (counting : Bool) (counts₀ : List ℕ) (p end m : ℕ) (sp ws counts : List ℕ) : Type 0 where
+pub record Surge (d f g links : List ℕ) (r : Frame) (xs : List ℕ) (u old new tail : ℕ) (sp₀ ws₀ : List ℕ) (counting : Bool) (counts₀ : List ℕ) (p end m : ℕ) (sp ws counts : List ℕ) : Type 0 where
   pub b : ℕ
   pub late : r .lo ≤ b
   pub wave : Wave d f g links r xs u old new tail sp₀ ws₀ b p end sp ws
-  pub shift : WhereCounted counting (Shift (tableOf d f g) (r .start) (r .end) u old new xs b m counts) counts₀ counts
+  pub shift : WhereCounted counting (Shift (tableOf d f g) (r .start) (r .stop) u old new xs b m counts) counts₀ counts
 
 -- the rows of u are all seen: the counts but for those that moved
-abbrev pub Owed : List ℕ → List ℕ → List ℕ → Season → List ℕ → ℕ → ℕ → List ℕ → Type 0
-Owed d f g r xs new m counts = Owing (timeBy (tableOf d f g) (guess xs) (r .start) (r .end)) (length d) new m counts
+abbrev pub Owed : List ℕ → List ℕ → List ℕ → Frame → List ℕ → ℕ → ℕ → List ℕ → Type 0
+Owed d f g r xs new m counts = Owing (timeBy (tableOf d f g) (guess xs) (r .start) (r .stop)) (length d) new m counts
 
-module _ (d f g links : List ℕ) (r : Season) (R : Open d f g links r) (xs : List ℕ) (len : length xs ≡ 4096) {u : ℕ} (small : u < 4096) (E : Every (tableOf d f g) (guess xs) (r .lo) u links) (D : Days (r .end) xs) (old new : ℕ) (en : new ≡ getD xs u 0) (tail : ℕ) (sp₀ ws₀ : List ℕ) (counting : Bool) where
+module _ (d f g links : List ℕ) (r : Frame) (R : Open d f g links r) (xs : List ℕ) (len : length xs ≡ 4096) {u : ℕ} (small : u < 4096) (E : Every (tableOf d f g) (guess xs) (r .lo) u links) (D : Days (r .stop) xs) (old new : ℕ) (en : new ≡ getD xs u 0) (tail : ℕ) (sp₀ ws₀ : List ℕ) (counting : Bool) where
   abbrev tt : Table
   tt = tableOf d f g
 
   abbrev q : Query
-  q = query (r .k)
+  q = r .query
 
   new-day : new ≤ never
   new-day = new-most d f g links r R xs len small E D old new en tail sp₀ ws₀
@@ -54,25 +55,25 @@ module _ (d f g links : List ℕ) (r : Season) (R : Open d f g links r) (xs : Li
   keeps : {A : Type 0} {i : ℕ} → (i < r .lo) ⊎ (guess xs (otherOf tt i u) ≡ never) → (i < r .lo) ⊎ ((new ≤ guess xs (otherOf tt i u)) ⊎ A)
   keeps o = ⊎-elim _⊎_.inl (λ z. _⊎_.inr (_⊎_.inl z)) (over o)
 
-  pub surge-start : {p : ℕ} {counts₀ : List ℕ} → length sp₀ ≡ 4096 → length ws₀ ≡ 4352 → Reading links u (r .lo) p → (counting ≡ true → Raised tt (r .start) (r .end) u old new xs counts₀) → Surge d f g links r xs u old new tail sp₀ ws₀ counting counts₀ p tail 0 sp₀ ws₀ counts₀
-  surge-start l m A C = record { b = r .lo; late = le-refl (r .lo); wave = wave-start d f g links r R xs len small E D old new en tail sp₀ ws₀ l m A; shift = record { counted = λ h. rise-start tt q (r .start) (r .end) (r .lo) (R .setting) u old new xs small (C h); same = λ h. refl } }
+  pub surge-start : {p : ℕ} {counts₀ : List ℕ} → length sp₀ ≡ 4096 → length ws₀ ≡ 4352 → Reading links u (r .lo) p → (counting ≡ true → Raised tt (r .start) (r .stop) u old new xs counts₀) → Surge d f g links r xs u old new tail sp₀ ws₀ counting counts₀ p tail 0 sp₀ ws₀ counts₀
+  surge-start l m A C = record { b = r .lo; late = le-refl (r .lo); wave = wave-start d f g links r R xs len small E D old new en tail sp₀ ws₀ l m A; shift = record { counted = λ h. rise-start tt q (r .start) (r .stop) (r .lo) (R .setting) u old new xs small (C h); same = λ h. refl } }
 
   module _ {p end m last : ℕ} {counts₀ sp ws counts : List ℕ} (Z : Surge d f g links r xs u old new tail sp₀ ws₀ counting counts₀ p end m sp ws counts) (ee : last ≡ getD links u 0) where
     pub surge-out : last ≤ p → (Lessened tt (guess xs) (r .lo) u (length d) old new sp₀ sp × Queued tail sp₀ ws₀ end sp ws) × WhereCounted counting (Owed d f g r xs new m counts) counts₀ counts
     surge-out h = (
       wave-out d f g links r R xs len small E D old new en tail sp₀ ws₀ (Z .wave) ee h,
-      counted-so (λ y. rise-all tt q (r .start) (r .end) (r .lo) (R .setting) u old new xs small y (λ i a k o. keeps (reading-out d f g links (R .sound) (R .shelves) small (Z .wave .reading) ee E h i a k o))) (Z .shift),
+      counted-so (λ y. rise-all tt q (r .start) (r .stop) (r .lo) (R .setting) u old new xs small y (λ i a k o. keeps (reading-out d f g links (R .sound) (R .shelves) small (Z .wave .reading) ee E h i a k o))) (Z .shift),
     )
 
     -- the walk began at lo
     pub surge-late : (more : p < last) {j : ℕ} → j ≡ getD links (8192 + p) 0 → r .lo ≤ j
     surge-late more ej = let a = Z .late in let c = reading-from d f g links (R .sound) (R .shelves) small (Z .wave .reading) ee more ej in omega arith
 
-    module _ (more : p < last) {j : ℕ} (ej : j ≡ getD links (8192 + p) 0) {day : ℕ} (ed : day ≡ getD d j 0) {until : ℕ} (eu : until ≡ min new (r .end + 1)) where
+    module _ (more : p < last) {j : ℕ} (ej : j ≡ getD links (8192 + p) 0) {day : ℕ} (ed : day ≡ getD d j 0) {until : ℕ} (eu : until ≡ min new (r .stop + 1)) where
       pub surge-stop : until ≤ day → (Lessened tt (guess xs) (r .lo) u (length d) old new sp₀ sp × Queued tail sp₀ ws₀ end sp ws) × WhereCounted counting (Owed d f g r xs new m counts) counts₀ counts
       surge-stop h = (
         wave-stop d f g links r R xs len small E D old new en tail sp₀ ws₀ (Z .wave) ee more ej ed eu h,
-        counted-so (λ y. rise-all tt q (r .start) (r .end) (r .lo) (R .setting) u old new xs small y (λ i a k o. ⊎-elim keeps (λ z. _⊎_.inr (_⊎_.inr z)) (wave-late d f g links r R xs len small E D old new en tail sp₀ ws₀ (Z .wave) ee more ej ed eu h i a k o))) (Z .shift),
+        counted-so (λ y. rise-all tt q (r .start) (r .stop) (r .lo) (R .setting) u old new xs small y (λ i a k o. ⊎-elim keeps (λ z. _⊎_.inr (_⊎_.inr z)) (wave-late d f g links r R xs len small E D old new en tail sp₀ ws₀ (Z .wave) ee more ej ed eu h i a k o))) (Z .shift),
       )
 
       module _ (before : day < until) {a e v z : ℕ} (ea : a ≡ getD f j 0) (eb : e ≡ getD g j 0) (ev : v ≡ pickOther (eqb a u) a e) (ez : z ≡ getD xs v 0) {own time : ℕ} (eo : own ≡ max old day) (et : time ≡ max own z) where
@@ -86,7 +87,7 @@ module _ (d f g links : List ℕ) (r : Season) (R : Open d f g links r) (xs : Li
         z-is : z ≡ guess xs (otherOf tt j u)
         z-is = ez ∙ (sym (guess-at xs v len v-small) ∙ ap (guess xs) (reading-other d f g links (R .sound) (R .shelves) small (Z .wave .reading) ee more ej ea eb ev))
 
-        z-day : (z ≤ r .end) ⊎ (z ≡ never)
+        z-day : (z ≤ r .stop) ⊎ (z ≡ never)
         z-day = ⊎-elim (λ y. _⊎_.inl (omega arith)) (λ y. _⊎_.inr (ez ∙ y)) (D v v-small)
 
         from : Z .b ≤ j
@@ -102,7 +103,7 @@ module _ (d f g links : List ℕ) (r : Season) (R : Open d f g links r) (xs : Li
           pub surge-asks : counting ≡ true → (length counts ≡ 1025) × (m < 16384) × (test ≡ true → (time < 1025) × (1 ≤ getD counts time 0))
           surge-asks h =
               let dd = w-day in
-              rise-asks tt q (r .start) (r .end) (r .lo) (R .setting) u old new xs small (Z .shift .counted h) from (reading-row d f g links (R .sound) (R .shelves) small (Z .wave .reading) ee more ej)
+              rise-asks tt q (r .start) (r .stop) (r .lo) (R .setting) u old new xs small (Z .shift .counted h) from (reading-row d f g links (R .sound) (R .shelves) small (Z .wave .reading) ee more ej)
               (reading-touch d f g links (R .sound) (R .shelves) small (Z .wave .reading) ee more ej) (λ i a k o. over (reading-gap d f g links (R .sound) (R .shelves) small (Z .wave .reading) ee more ej E i a k o)) (omega arith) (omega arith) z-is (omega arith) yes not z-day new-day (R .sound .most)
 
           pub surge-next : {fr lost : Bool} {end′ m′ : ℕ} {sp′ ws′ counts′ : List ℕ} → end < 4352 → fr ≡ (leb (r .lo) j and leb (getD links (8192 + 2 * length d + j) 0) (r .lo)) → lost ≡ (leb own z && ltb z new) → Losing (fr && lost) v end sp ws sp′ ws′ end′ → WhereCounted counting (Taking test time m counts counts′ m′) counts counts′ → Surge d f g links r xs u old new tail sp₀ ws₀ counting counts₀ (p + 1) end′ m′ sp′ ws′ counts′
@@ -113,12 +114,12 @@ module _ (d f g links : List ℕ) (r : Season) (R : Open d f g links r) (xs : Li
                 late = let a = Z .late in let c = from in omega arith;
                 wave = wave-next d f g links r R xs len small E D old new en tail sp₀ ws₀ (Z .wave) ee more ej ed ea eb ev room ef ez eo el L;
                 shift = counted-then (Z .shift) (record {
-                  counted = λ h. rise-row tt q (r .start) (r .end) (r .lo) (R .setting) u old new xs small (Z .shift .counted h) from (reading-row d f g links (R .sound) (R .shelves) small (Z .wave .reading) ee more ej)
+                  counted = λ h. rise-row tt q (r .start) (r .stop) (r .lo) (R .setting) u old new xs small (Z .shift .counted h) from (reading-row d f g links (R .sound) (R .shelves) small (Z .wave .reading) ee more ej)
                       (reading-touch d f g links (R .sound) (R .shelves) small (Z .wave .reading) ee more ej) (λ i a k o. over (reading-gap d f g links (R .sound) (R .shelves) small (Z .wave .reading) ee more ej E i a k o)) (omega arith) (omega arith) z-is (omega arith) yes not z-day new-day (T .counted h);
                   same = T .same;
                 });
               }
 
 -- what is still to be counted
-pub surge-pays : {d f g links : List ℕ} (xs : List ℕ) {r : Season} {u new m : ℕ} {counts : List ℕ} → Open d f g links r → u < 4096 → Days (r .end) xs → new ≡ getD xs u 0 → r .end ≤ 1024 → Owed d f g r xs new m counts → (length counts ≡ 1025) × ((new ≡ never → ⊥) → (new < 1025) × (getD counts new 0 + m < 65536))
+pub surge-pays : {d f g links : List ℕ} (xs : List ℕ) {r : Frame} {u new m : ℕ} {counts : List ℕ} → Open d f g links r → u < 4096 → Days (r .stop) xs → new ≡ getD xs u 0 → r .stop ≤ 1024 → Owed d f g r xs new m counts → (length counts ≡ 1025) × ((new ≡ never → ⊥) → (new < 1025) × (getD counts new 0 + m < 65536))
 surge-pays xs {u = u} R small D en top O = owing-room O (R .sound .most) (⊎-elim (λ y. _⊎_.inl (omega arith)) (λ y. _⊎_.inr (en ∙ y)) (D u small))

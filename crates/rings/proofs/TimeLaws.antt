@@ -15,37 +15,38 @@ use Rattle.rings.specs.Words.{at, run}
 use Rattle.rings.specs.Table.{tableOf, dayOf, firstOf, secondOf}
 use Rattle.rings.specs.CoreTimes.{never, accountTime, rowTime}
 use Rattle.rings.specs.Ring.{query}
-use Rattle.rings.specs.Inner.Peeling.{Season, Framed, Span, CoreTimesAre}
+use Rattle.rings.specs.Inner.Peeling.{Framed, Span, CoreTimesAre}
+use Rattle.rings.specs.declared.frame.Frame.{Frame}
 use Rattle.rings.proofs.WordLaws.{length-run, getD-run}
 use Rattle.rings.proofs.CoreTimeLaws.{row-max, row-before, row-after}
 
-module _ (d f s : List ℕ) (q : Season) (R : Framed d f s q) {end : ℕ} (Sp : Span d (q .end) (q .lo) end) {x : List ℕ} (C : CoreTimesAre d f s q x) {j : ℕ} (b : j < length d) where
+module _ (d f s : List ℕ) (q : Frame) (R : Framed d f s q) {end : ℕ} (Sp : Span d (q .stop) (q .lo) end) {x : List ℕ} (C : CoreTimesAre d f s q x) {j : ℕ} (b : j < length d) where
   a-small : getD f j 0 < 4096
   a-small = let y = R .sound .rows j b in let z = y .accounts in let k = y .account-to in omega arith
 
   b-small : getD s j 0 < 4096
   b-small = let k = R .sound .rows j b .account-to in omega arith
 
-  pub row-early : j < q .lo → never ≡ rowTime (tableOf d f s) (query (q .k)) (q .end) (q .start) j
-  row-early h = sym (row-before (tableOf d f s) (query (q .k)) (q .end) (q .start) j (R .setting .before-lo j h))
+  pub row-early : j < q .lo → never ≡ rowTime (tableOf d f s) (q .query) (q .stop) (q .start) j
+  row-early h = sym (row-before (tableOf d f s) (q .query) (q .stop) (q .start) j (R .setting .before-lo j h))
 
-  pub row-late : end ≤ j → never ≡ rowTime (tableOf d f s) (query (q .k)) (q .end) (q .start) j
+  pub row-late : end ≤ j → never ≡ rowTime (tableOf d f s) (q .query) (q .stop) (q .start) j
   unfolding dayOf at
-  row-late h = sym (row-after (tableOf d f s) (query (q .k)) (q .end) (q .start) j (Sp .later j h b))
+  row-late h = sym (row-after (tableOf d f s) (q .query) (q .stop) (q .start) j (Sp .later j h b))
 
   pub row-reads : {a c : ℕ} → a ≡ getD f j 0 → c ≡ getD s j 0 → (a < 4096) × (c < 4096) × (a < length x) × (c < length x)
   row-reads ea ec = let y = a-small in let z = b-small in let n = C .long in (omega arith, omega arith, omega arith, omega arith)
 
-  pub row-mid : q .lo ≤ j → j < end → {a c g g′ : ℕ} → a ≡ getD f j 0 → c ≡ getD s j 0 → g ≡ max (getD x a 0) (getD x c 0) → g′ ≡ max g (getD d j 0) → g′ ≡ rowTime (tableOf d f s) (query (q .k)) (q .end) (q .start) j
+  pub row-mid : q .lo ≤ j → j < end → {a c g g′ : ℕ} → a ≡ getD f j 0 → c ≡ getD s j 0 → g ≡ max (getD x a 0) (getD x c 0) → g′ ≡ max g (getD d j 0) → g′ ≡ rowTime (tableOf d f s) (q .query) (q .stop) (q .start) j
   unfolding firstOf secondOf dayOf at
   row-mid h k {a} {c} {g} {g′} ea ec eg eg′ =
-      eg′ ∙ (ap (λ (y : ℕ). max y (getD d j 0)) (eg ∙ (ap (λ (y : ℕ). max y (getD x c 0)) one ∙ ap (max (accountTime (tableOf d f s) (query (q .k)) (q .end) (q .start) (getD f j 0))) two))
-      ∙ sym (row-max (tableOf d f s) (query (q .k)) (q .end) (q .start) (R .setting .fits) j (record { row = b; from = R .setting .from-lo j b h; to = Sp .inside j k })))
+      eg′ ∙ (ap (λ (y : ℕ). max y (getD d j 0)) (eg ∙ (ap (λ (y : ℕ). max y (getD x c 0)) one ∙ ap (max (accountTime (tableOf d f s) (q .query) (q .stop) (q .start) (getD f j 0))) two))
+      ∙ sym (row-max (tableOf d f s) (q .query) (q .stop) (q .start) (R .setting .fits) j (record { row = b; from = R .setting .from-lo j b h; to = Sp .inside j k })))
     where
-      one : getD x a 0 ≡ accountTime (tableOf d f s) (query (q .k)) (q .end) (q .start) (getD f j 0)
+      one : getD x a 0 ≡ accountTime (tableOf d f s) (q .query) (q .stop) (q .start) (getD f j 0)
       one = ap (λ (y : ℕ). getD x y 0) ea ∙ C .times (getD f j 0) a-small
 
-      two : getD x c 0 ≡ accountTime (tableOf d f s) (query (q .k)) (q .end) (q .start) (getD s j 0)
+      two : getD x c 0 ≡ accountTime (tableOf d f s) (q .query) (q .stop) (q .start) (getD s j 0)
       two = ap (λ (y : ℕ). getD x y 0) ec ∙ C .times (getD s j 0) b-small
 
 -- ---- a column filled from the front
@@ -66,5 +67,5 @@ fill-end g {j} {n} {m₀} {m} F e h =
     ext-getD 0 m (run g 0 n) (F .long ∙ (e ∙ sym (length-run g 0 n)))
     (λ i l. let a = F .long in F .done i (omega arith) ∙ sym (getD-run g 0 n i 0 (omega arith) ∙ ap g (zero-add i)))
 
-pub accounts-are : {d f s : List ℕ} {q : Season} {x : List ℕ} → CoreTimesAre d f s q x → x ≡ run (accountTime (tableOf d f s) (query (q .k)) (q .end) (q .start)) 0 4096
-accounts-are {d} {f} {s} {q} {x} C = fill-end (accountTime (tableOf d f s) (query (q .k)) (q .end) (q .start)) {j = 4096} {m₀ = x} (record { long = refl; done = C .times }) (C .long) (omega arith)
+pub accounts-are : {d f s : List ℕ} {q : Frame} {x : List ℕ} → CoreTimesAre d f s q x → x ≡ run (accountTime (tableOf d f s) (q .query) (q .stop) (q .start)) 0 4096
+accounts-are {d} {f} {s} {q} {x} C = fill-end (accountTime (tableOf d f s) (q .query) (q .stop) (q .start)) {j = 4096} {m₀ = x} (record { long = refl; done = C .times }) (C .long) (omega arith)

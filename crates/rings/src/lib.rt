@@ -4,6 +4,7 @@
 pub mod checks;
 mod choice;
 mod counts;
+mod frame;
 mod links;
 mod look;
 mod loss;

@@ -23,7 +23,8 @@ use Rattle.rings.specs.Words.{count}
 use Rattle.rings.specs.Table.{Table, tableOf, size, dayOf, firstOf, secondOf, inWindow}
 use Rattle.rings.specs.CoreTimes.{never, rowTime}
 use Rattle.rings.specs.Ring.{query}
-use Rattle.rings.specs.Inner.Peeling.{guess, Season, Open, CoreTimesAre}
+use Rattle.rings.specs.Inner.Peeling.{guess, Open, CoreTimesAre}
+use Rattle.rings.specs.declared.frame.Frame.{Frame}
 use Rattle.rings.specs.Inner.Links.{Covered}
 use Rattle.rings.specs.Inner.Settling.{Spare}
 use Rattle.rings.specs.declared.Query.{Query}
@@ -83,9 +84,9 @@ pub record Raised (t : Table) (s hi u old new : ℕ) (xs counts : List ℕ) : Ty
 abbrev pub Timed : Table → Query → ℕ → ℕ → ℕ → List ℕ → Type 0
 Timed t q hi s n xs = Histogram (rowTime t q hi s) n xs
 
-pub record Started (d f g sc : List ℕ) (p : Season) (times spare counts : List ℕ) : Type 0 where
+pub record Started (d f g sc : List ℕ) (p : Frame) (times spare counts : List ℕ) : Type 0 where
   pub opened : Open d f g sc p
   pub covered : Covered (tableOf d f g) (guess times) (p .lo) sc
   pub times-are : CoreTimesAre d f g p times
-  pub spares : Spare (tableOf d f g) (query (p .k)) (p .start) times spare
-  pub timed : Timed (tableOf d f g) (query (p .k)) (p .end) (p .start) (length d) counts
+  pub spares : Spare (tableOf d f g) (p .query) (p .start) times spare
+  pub timed : Timed (tableOf d f g) (p .query) (p .stop) (p .start) (length d) counts

@@ -7,7 +7,7 @@
 --     Degrees      d counts the rows that count, and no account below b that has not fallen has fewer than k; who has fallen has fewer, and the rows that count at least
 --     Times        x is a lower bound of the core times, closed at the fallen; no core time that is still open passes e
 --     Fall         all of it
---     Season       what is peeled
+--     season       the frame of a start, by its numbers
 --     Ready        what peeling works on: an accepted table, its links with the heads at the first day, and the setting
 --     Framed       the same without links
 --     Placed       with the earlier rows alone
@@ -31,6 +31,7 @@ use Rattle.rings.specs.Sound.{Sound}
 use Rattle.rings.specs.Inner.Links.{otherOf, fresh, Linked, Paired, Shelves}
 use Rattle.rings.specs.Inner.Support.{supporters}
 use Rattle.rings.specs.declared.Query.{Query}
+use Rattle.rings.specs.declared.frame.Frame.{Frame}
 
 -- account v loses a neighbour: x are the times, d the numbers of neighbours left, w the queue up to tail. With the k-th it falls; who fell before has fewer than k left
 pub data Lost (k e tail v : ℕ) (x d w x′ d′ w′ : List ℕ) (tail′ : ℕ) : Type 0 where
@@ -129,42 +130,36 @@ pub record Walk (t : Table) (q : Query) (s hi lo b e r head tail u : ℕ) (x d w
   pub front : head < tail
   pub at-front : getD w head 0 ≡ u
 
--- what is peeled: k, the first day, the last day of the range, and the first row from the first day on
-pub record Season : Type 0 where
-  pub k : ℕ
-  pub start : ℕ
-  pub end : ℕ
-  pub lo : ℕ
+-- the frame of a start, by its numbers
+abbrev pub season : ℕ → ℕ → ℕ → ℕ → Frame
+season k s e lo = record { query = query k; start = s; stop = e; lo = lo }
 
-abbrev pub season : ℕ → ℕ → ℕ → ℕ → Season
-season k s e lo = record { k = k; start = s; end = e; lo = lo }
-
-pub record Ready (d f s links : List ℕ) (p : Season) : Type 0 where
+pub record Ready (d f s links : List ℕ) (p : Frame) : Type 0 where
   pub sound : Sound d f s
   pub linked : Linked (tableOf d f s) (p .start) links
-  pub setting : Setting (tableOf d f s) (query (p .k)) (p .start) (p .end) (p .lo)
+  pub setting : Setting (tableOf d f s) (p .query) (p .start) (p .stop) (p .lo)
 
-pub record Framed (d f s : List ℕ) (p : Season) : Type 0 where
+pub record Framed (d f s : List ℕ) (p : Frame) : Type 0 where
   pub sound : Sound d f s
-  pub setting : Setting (tableOf d f s) (query (p .k)) (p .start) (p .end) (p .lo)
+  pub setting : Setting (tableOf d f s) (p .query) (p .start) (p .stop) (p .lo)
 
-pub record Placed (d f s links : List ℕ) (p : Season) : Type 0 where
+pub record Placed (d f s links : List ℕ) (p : Frame) : Type 0 where
   pub sound : Sound d f s
   pub paired : Paired (tableOf d f s) links
-  pub setting : Setting (tableOf d f s) (query (p .k)) (p .start) (p .end) (p .lo)
+  pub setting : Setting (tableOf d f s) (p .query) (p .start) (p .stop) (p .lo)
 
-pub record Open (d f s links : List ℕ) (p : Season) : Type 0 where
+pub record Open (d f s links : List ℕ) (p : Frame) : Type 0 where
   pub sound : Sound d f s
   pub shelves : Shelves (tableOf d f s) links
   pub within : p .lo ≤ length d
-  pub setting : Setting (tableOf d f s) (query (p .k)) (p .start) (p .end) (p .lo)
+  pub setting : Setting (tableOf d f s) (p .query) (p .start) (p .stop) (p .lo)
 
 -- the states for the season p of the table of three columns
-abbrev pub Falling : List ℕ → List ℕ → List ℕ → Season → ℕ → ℕ → ℕ → ℕ → ℕ → List ℕ → List ℕ → List ℕ → Type 0
-Falling d f s p b e r head tail x l w = Fall (tableOf d f s) (query (p .k)) (p .start) (p .end) (p .lo) b e r head tail nothing x l w
+abbrev pub Falling : List ℕ → List ℕ → List ℕ → Frame → ℕ → ℕ → ℕ → ℕ → ℕ → List ℕ → List ℕ → List ℕ → Type 0
+Falling d f s p b e r head tail x l w = Fall (tableOf d f s) (p .query) (p .start) (p .stop) (p .lo) b e r head tail nothing x l w
 
-abbrev pub Walking : List ℕ → List ℕ → List ℕ → Season → ℕ → ℕ → ℕ → ℕ → ℕ → ℕ → List ℕ → List ℕ → List ℕ → Type 0
-Walking d f s p b e r head tail u x l w = Walk (tableOf d f s) (query (p .k)) (p .start) (p .end) (p .lo) b e r head tail u x l w
+abbrev pub Walking : List ℕ → List ℕ → List ℕ → Frame → ℕ → ℕ → ℕ → ℕ → ℕ → ℕ → List ℕ → List ℕ → List ℕ → Type 0
+Walking d f s p b e r head tail u x l w = Walk (tableOf d f s) (p .query) (p .start) (p .stop) (p .lo) b e r head tail u x l w
 
 -- l holds, by account, the fresh rows from lo on that are below end
 pub record Counted (t : Table) (lo end : ℕ) (l : List ℕ) : Type 0 where
@@ -172,13 +167,13 @@ pub record Counted (t : Table) (lo end : ℕ) (l : List ℕ) : Type 0 where
   pub rows : (u : ℕ) → u < 4096 → getD l u 0 ≡ count (λ j. (fresh t lo j and ltb j end) and touches t j u) (size t)
 
 -- the rows from r on have left, and nobody waits
-pub record Fade (d f s : List ℕ) (p : Season) (r tail : ℕ) (x l w : List ℕ) : Type 0 where
+pub record Fade (d f s : List ℕ) (p : Frame) (r tail : ℕ) (x l w : List ℕ) : Type 0 where
   pub e : ℕ
   pub state : Falling d f s p 4096 e r tail tail x l w
   pub above : (j : ℕ) → j < r → dayOf (tableOf d f s) j ≤ e
   pub within : r ≤ length d
   pub from : p .lo ≤ r
-  pub dated : (j : ℕ) → j < r → (1 ≤ dayOf (tableOf d f s) j) × (dayOf (tableOf d f s) j ≤ p .end)
+  pub dated : (j : ℕ) → j < r → (1 ≤ dayOf (tableOf d f s) j) × (dayOf (tableOf d f s) j ≤ p .stop)
 
 -- the rows dated by stop are those below end, and lo is among them or their end
 pub record Span (d : List ℕ) (stop lo end : ℕ) : Type 0 where
@@ -188,6 +183,6 @@ pub record Span (d : List ℕ) (stop lo end : ℕ) : Type 0 where
   pub later : (j : ℕ) → end ≤ j → j < length d → stop < getD d j 0
 
 -- x holds the core times of the accounts
-pub record CoreTimesAre (d f s : List ℕ) (p : Season) (x : List ℕ) : Type 0 where
+pub record CoreTimesAre (d f s : List ℕ) (p : Frame) (x : List ℕ) : Type 0 where
   pub long : length x ≡ 4096
-  pub times : (u : ℕ) → u < 4096 → getD x u 0 ≡ accountTime (tableOf d f s) (query (p .k)) (p .end) (p .start) u
+  pub times : (u : ℕ) → u < 4096 → getD x u 0 ≡ accountTime (tableOf d f s) (p .query) (p .stop) (p .start) u
