@@ -347,8 +347,11 @@ module _ (d f s links : List ℕ) (q : Frame) (R : Ready d f s links q) where
     zero-u : getD x u 0 ≡ 0
     zero-u = W .rest u (le-refl u) k
 
+    pub weed-small : last < 4096
+    weed-small = subst (λ (c : ℕ). c < 4096) (sym (F .queue .tail-is)) (room x u k zero-u)
+
     pub weed-room : (last < length w) × (u < length x)
-    weed-room = let a : last < 4096 = subst (λ (c : ℕ). c < 4096) (sym (F .queue .tail-is)) (room x u k zero-u) in let b = F .len-w in let c = F .len-x in (omega arith, omega arith)
+    weed-room = let a = weed-small in let b = F .len-w in let c = F .len-x in (omega arith, omega arith)
 
     pub weed-keep : q .query .k ≤ getD l u 0 → Weed d f s q (u + 1) end last x l w
     weed-keep h =

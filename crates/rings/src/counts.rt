@@ -10,6 +10,7 @@ ghost use Rattle.rings.specs.Inner.Peeling.{season, Framed, Span, CoreTi
 ghost use Rattle.rings.specs.Inner.Counting.{CountsBy, WhereCounted, Timed, Adding, Removing, Taking, Moving};
 use crate::choice::one;
 use crate::choice::pick;
+use crate::frame::Frame;
 use crate::links::clear;
 use crate::links::wide;
 use crate::times::row_time;
@@ -82,23 +83,20 @@ pub(crate) fn count_times(
     days: &[u16],
     first: &[u16],
     second: &[u16],
-    k: u16,
-    s: u16,
-    te: u16,
-    lo: usize,
+    frame: Frame,
     end: usize,
     times: &[u16],
     counts: &mut [u16],
 )
-    requires { ⌜ Framed (now days) (now first) (now second) (season k s te lo) ⌝ }
-    requires { ⌜ Span (now days) te lo end × CoreTimesAre (now days) (now first) (now second) (season k s te lo) (now times) ⌝ }
-    requires { ⌜ (length (now counts) ≡ 1025) × (te ≤ 1024) ⌝ }
-    ensures { λ _. ⌜ Timed (tableOf (now (days .entry)) (now (first .entry)) (now (second .entry))) (query k) te s (length (now (days .entry))) (now (counts .exit)) ⌝ }
+    requires { ⌜ Framed (now days) (now first) (now second) frame ⌝ }
+    requires { ⌜ Span (now days) (frame .stop) (frame .lo) end × CoreTimesAre (now days) (now first) (now second) frame (now times) ⌝ }
+    requires { ⌜ (length (now counts) ≡ 1025) × (frame .stop ≤ 1024) ⌝ }
+    ensures { λ _. ⌜ Timed (tableOf (now (days .entry)) (now (first .entry)) (now (second .entry))) (frame .query) (frame .stop) (frame .start) (length (now (days .entry))) (now (counts .exit)) ⌝ }
 {
     clear(counts);
-    let mut j = lo;
+    let mut j = frame.lo;
     while j < end {
-        let time = row_time(days, first, second, k, s, te, lo, end, times, j);
+        let time = row_time(days, first, second, frame, end, times, j);
         add_count(counts, time, 1);
         j += 1;
     }
@@ -109,23 +107,20 @@ pub(crate) fn drop_rows(
     days: &[u16],
     first: &[u16],
     second: &[u16],
-    k: u16,
-    s: u16,
-    te: u16,
-    lo: usize,
+    frame: Frame,
     next: usize,
     end: usize,
     times: &[u16],
     counts: &mut [u16],
 )
-    requires { ⌜ Framed (now days) (now first) (now second) (season k s te lo) ⌝ }
-    requires { ⌜ Span (now days) te lo end × CoreTimesAre (now days) (now first) (now second) (season k s te lo) (now times) × (te ≤ 1024) × Split (now days) (s + 1) next ⌝ }
-    requires { ⌜ Timed (tableOf (now days) (now first) (now second)) (query k) te s (length (now days)) (now counts) ⌝ }
-    ensures { λ _. ⌜ CountsBy (now (days .entry)) (now (first .entry)) (now (second .entry)) (s + 1) te (now (times .entry)) (now (counts .exit)) ⌝ }
+    requires { ⌜ Framed (now days) (now first) (now second) frame ⌝ }
+    requires { ⌜ Span (now days) (frame .stop) (frame .lo) end × CoreTimesAre (now days) (now first) (now second) frame (now times) × (frame .stop ≤ 1024) × Split (now days) (frame .start + 1) next ⌝ }
+    requires { ⌜ Timed (tableOf (now days) (now first) (now second)) (frame .query) (frame .stop) (frame .start) (length (now days)) (now counts) ⌝ }
+    ensures { λ _. ⌜ CountsBy (now (days .entry)) (now (first .entry)) (now (second .entry)) (frame .start + 1) (frame .stop) (now (times .entry)) (now (counts .exit)) ⌝ }
 {
-    let mut j = lo;
+    let mut j = frame.lo;
     while j < next {
-        let time = row_time(days, first, second, k, s, te, lo, end, times, j);
+        let time = row_time(days, first, second, frame, end, times, j);
         drop_count(counts, time);
         j += 1;
     }

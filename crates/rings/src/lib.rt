@@ -19,6 +19,7 @@ mod table;
 mod times;
 mod windows;
 
+pub use frame::Frame;
 pub use links::clear;
 pub use recalling::recall;
 pub use refusal::Counted;

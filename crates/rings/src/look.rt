@@ -11,6 +11,7 @@ ghost use Rattle.rings.specs.Inner.Links.{Shelves, Reading, Every};
 ghost use Rattle.rings.specs.Inner.Settling.{Days, Over, Noting, Glanced, Behind, Gathered, Short, Spared, Looked};
 use crate::choice::one;
 use crate::choice::pick;
+use crate::frame::Frame;
 use crate::links::entry;
 use crate::links::other;
 use crate::links::put;
@@ -90,18 +91,15 @@ fn look_at(
     first: &[u16],
     second: &[u16],
     links: &[u16],
-    k: u16,
-    start: u16,
-    stop: u16,
-    lo: usize,
+    frame: Frame,
     times: &[u16],
     u: usize,
     from: usize,
     c: u16,
 ) -> Found
-    requires { ⌜ Open (now days) (now first) (now second) (now links) (season k start stop lo) ⌝ }
-    requires { ⌜ (u < 4096) × (length (now times) ≡ 4096) × Days stop (now times) × (c ≤ stop) × Reading (now links) u lo from × Every (tableOf (now days) (now first) (now second)) (guess (now times)) lo u (now links) ⌝ }
-    ensures { λ r. ⌜ Glanced (tableOf (now (days .entry)) (now (first .entry)) (now (second .entry))) (guess (now (times .entry))) lo stop c u (length (now (days .entry))) k (r .count) (r .above) (r .more) × (r .walked ≤ 32768) × (r .count + r .more ≤ 16384) ⌝ }
+    requires { ⌜ Open (now days) (now first) (now second) (now links) frame ⌝ }
+    requires { ⌜ (u < 4096) × (length (now times) ≡ 4096) × Days (frame .stop) (now times) × (c ≤ frame .stop) × Reading (now links) u (frame .lo) from × Every (tableOf (now days) (now first) (now second)) (guess (now times)) (frame .lo) u (now links) ⌝ }
+    ensures { λ r. ⌜ Glanced (tableOf (now (days .entry)) (now (first .entry)) (now (second .entry))) (guess (now (times .entry))) (frame .lo) (frame .stop) c u (length (now (days .entry))) (frame .query .k) (r .count) (r .above) (r .more) × (r .walked ≤ 32768) × (r .count + r .more ≤ 16384) ⌝ }
 {
     let n = days.len();
     let last = entry(links, u);
@@ -112,7 +110,7 @@ fn look_at(
     while p < last {
         let j = entry(links, 8192 + p);
         let day = days[j];
-        if is_over(day, c, stop, above, k, count) {
+        if is_over(day, c, frame.stop, above, frame.query.k, count) {
             return Found {
                 count: count,
                 above: above,
@@ -121,7 +119,7 @@ fn look_at(
             };
         }
         p += 1;
-        let fresh = is_first(links, n, lo, j);
+        let fresh = is_first(links, n, frame.lo, j);
         let a = entry(first, j);
         let b = entry(second, j);
         let v = other(a, b, u);
@@ -145,10 +143,7 @@ pub(crate) fn gather(
     first: &[u16],
     second: &[u16],
     links: &[u16],
-    k: u16,
-    start: u16,
-    stop: u16,
-    lo: usize,
+    frame: Frame,
     times: &[u16],
     u: usize,
     from: usize,
@@ -156,11 +151,11 @@ pub(crate) fn gather(
     tail: usize,
     queue: &mut [u16],
 ) -> Harvest
-    requires { ⌜ Open (now days) (now first) (now second) (now links) (season k start stop lo) ⌝ }
-    requires { ⌜ (u < 4096) × (length (now times) ≡ 4096) × Days stop (now times) × (c ≤ stop) × Reading (now links) u lo from × Every (tableOf (now days) (now first) (now second)) (guess (now times)) lo u (now links) ⌝ }
+    requires { ⌜ Open (now days) (now first) (now second) (now links) frame ⌝ }
+    requires { ⌜ (u < 4096) × (length (now times) ≡ 4096) × Days (frame .stop) (now times) × (c ≤ frame .stop) × Reading (now links) u (frame .lo) from × Every (tableOf (now days) (now first) (now second)) (guess (now times)) (frame .lo) u (now links) ⌝ }
     requires { ⌜ (length (now queue) ≡ 4352) × (tail + getD (now links) u 0 ≤ from + 4352) ⌝ }
-    ensures { λ r. ⌜ Glanced (tableOf (now (days .entry)) (now (first .entry)) (now (second .entry))) (guess (now (times .entry))) lo stop c u (length (now (days .entry))) k (r .count) (r .above) (r .more) × (r .walked ≤ 32768) × (r .count + r .more ≤ 16384) × (r .end ≤ 4352) ⌝ }
-    ensures { λ r. ⌜ (r .count < k → Gathered (tableOf (now (days .entry)) (now (first .entry)) (now (second .entry))) (guess (now (times .entry))) lo stop c u (length (now (days .entry))) (r .above) (r .moved) tail (r .end) (now (queue .exit))) × Behind tail (now (queue .entry)) (now (queue .exit)) ⌝ }
+    ensures { λ r. ⌜ Glanced (tableOf (now (days .entry)) (now (first .entry)) (now (second .entry))) (guess (now (times .entry))) (frame .lo) (frame .stop) c u (length (now (days .entry))) (frame .query .k) (r .count) (r .above) (r .more) × (r .walked ≤ 32768) × (r .count + r .more ≤ 16384) × (r .end ≤ 4352) ⌝ }
+    ensures { λ r. ⌜ (r .count < frame .query .k → Gathered (tableOf (now (days .entry)) (now (first .entry)) (now (second .entry))) (guess (now (times .entry))) (frame .lo) (frame .stop) c u (length (now (days .entry))) (r .above) (r .moved) tail (r .end) (now (queue .exit))) × Behind tail (now (queue .entry)) (now (queue .exit)) ⌝ }
 {
     let n = days.len();
     let last = entry(links, u);
@@ -173,7 +168,7 @@ pub(crate) fn gather(
     while p < last {
         let j = entry(links, 8192 + p);
         let day = days[j];
-        if is_over(day, c, stop, above, k, count) {
+        if is_over(day, c, frame.stop, above, frame.query.k, count) {
             return Harvest {
                 count: count,
                 above: above,
@@ -184,7 +179,7 @@ pub(crate) fn gather(
             };
         }
         p += 1;
-        let fresh = is_first(links, n, lo, j);
+        let fresh = is_first(links, n, frame.lo, j);
         let a = entry(first, j);
         let b = entry(second, j);
         let v = other(a, b, u);
@@ -229,20 +224,17 @@ pub(crate) fn look(
     first: &[u16],
     second: &[u16],
     links: &[u16],
-    k: u16,
-    start: u16,
-    stop: u16,
-    lo: usize,
+    frame: Frame,
     times: &[u16],
     u: usize,
     from: usize,
     day: u16,
     budget: usize,
 ) -> View
-    requires { ⌜ Open (now days) (now first) (now second) (now links) (season k start stop lo) ⌝ }
-    requires { ⌜ (u < 4096) × (length (now times) ≡ 4096) × Days stop (now times) × (budget ≤ 65536) × Reading (now links) u lo from × ((getD (now times) u 0 ≡ never → ⊥) → Every (tableOf (now days) (now first) (now second)) (guess (now times)) lo u (now links)) ⌝ }
-    requires { ⌜ Short (tableOf (now days) (now first) (now second)) (guess (now times)) start k stop (getD (now times) u 0) u day ⌝ }
-    ensures { λ r. ⌜ ((r .time ≡ 0 → ⊥) → Looked (tableOf (now (days .entry)) (now (first .entry)) (now (second .entry))) (guess (now (times .entry))) start k stop (getD (now (times .entry)) u 0) u (r .time) (r .spare)) × (r .walked ≤ 98304) ⌝ }
+    requires { ⌜ Open (now days) (now first) (now second) (now links) frame ⌝ }
+    requires { ⌜ (u < 4096) × (length (now times) ≡ 4096) × Days (frame .stop) (now times) × (budget ≤ 65536) × Reading (now links) u (frame .lo) from × ((getD (now times) u 0 ≡ never → ⊥) → Every (tableOf (now days) (now first) (now second)) (guess (now times)) (frame .lo) u (now links)) ⌝ }
+    requires { ⌜ Short (tableOf (now days) (now first) (now second)) (guess (now times)) (frame .start) (frame .query .k) (frame .stop) (getD (now times) u 0) u day ⌝ }
+    ensures { λ r. ⌜ ((r .time ≡ 0 → ⊥) → Looked (tableOf (now (days .entry)) (now (first .entry)) (now (second .entry))) (guess (now (times .entry))) (frame .start) (frame .query .k) (frame .stop) (getD (now (times .entry)) u 0) u (r .time) (r .spare)) × (r .walked ≤ 98304) ⌝ }
 {
     let mut walked: usize = 0;
     let mut c = day;
@@ -254,25 +246,12 @@ pub(crate) fn look(
                 walked: walked,
             };
         }
-        let seen = look_at(
-            days,
-            first,
-            second,
-            links,
-            k,
-            start,
-            stop,
-            lo,
-            times,
-            u,
-            from,
-            c,
-        );
+        let seen = look_at(days, first, second, links, frame, times, u, from, c);
         walked = walked + seen.walked;
-        if k <= seen.count {
+        if frame.query.k <= seen.count {
             return View {
                 time: c,
-                spare: seen.count + 1 - k,
+                spare: seen.count + 1 - frame.query.k,
                 walked: walked,
             };
         }
@@ -285,10 +264,10 @@ pub(crate) fn look(
             };
         }
         let both = seen.count + seen.more;
-        if k <= both {
+        if frame.query.k <= both {
             return View {
                 time: c,
-                spare: both + 1 - k,
+                spare: both + 1 - frame.query.k,
                 walked: walked,
             };
         }

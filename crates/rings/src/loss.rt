@@ -14,6 +14,7 @@ use crate::choice::lesser;
 use crate::choice::one;
 use crate::counts::pay_counts;
 use crate::counts::take_count;
+use crate::frame::Frame;
 use crate::links::entry;
 use crate::links::other;
 use crate::links::put;
@@ -62,10 +63,7 @@ pub(crate) fn lose_others(
     first: &[u16],
     second: &[u16],
     links: &[u16],
-    k: u16,
-    start: u16,
-    stop: u16,
-    lo: usize,
+    frame: Frame,
     times: &[u16],
     u: usize,
     from: usize,
@@ -77,20 +75,20 @@ pub(crate) fn lose_others(
     counting: bool,
     counts: &mut [u16],
 ) -> usize
-    requires { ⌜ Open (now days) (now first) (now second) (now links) (season k start stop lo) ⌝ }
-    requires { ⌜ (u < 4096) × (length (now times) ≡ 4096) × (length (now spare) ≡ 4096) × (length (now queue) ≡ 4352) × Reading (now links) u lo from × Every (tableOf (now days) (now first) (now second)) (guess (now times)) lo u (now links) × Days stop (now times) × (new ≡ getD (now times) u 0) ⌝ }
-    requires { ⌜ (counting ≡ true → Raised (tableOf (now days) (now first) (now second)) start stop u old new (now times) (now counts)) ⌝ }
+    requires { ⌜ Open (now days) (now first) (now second) (now links) frame ⌝ }
+    requires { ⌜ (u < 4096) × (length (now times) ≡ 4096) × (length (now spare) ≡ 4096) × (length (now queue) ≡ 4352) × Reading (now links) u (frame .lo) from × Every (tableOf (now days) (now first) (now second)) (guess (now times)) (frame .lo) u (now links) × Days (frame .stop) (now times) × (new ≡ getD (now times) u 0) ⌝ }
+    requires { ⌜ (counting ≡ true → Raised (tableOf (now days) (now first) (now second)) (frame .start) (frame .stop) u old new (now times) (now counts)) ⌝ }
     ensures { λ r. ⌜ (r ≤ 4352 →
-        Lessened (tableOf (now (days .entry)) (now (first .entry)) (now (second .entry))) (guess (now (times .entry))) lo u
+        Lessened (tableOf (now (days .entry)) (now (first .entry)) (now (second .entry))) (guess (now (times .entry))) (frame .lo) u
         (length (now (days .entry))) old new (now (spare .entry)) (now (spare .exit))
         × Queued tail (now (spare .entry)) (now (queue .entry)) r (now (spare .exit)) (now (queue .exit))) ⌝ }
     ensures { λ r. ⌜ WhereCounted counting
-        (r ≤ 4352 → CountsBy (now (days .entry)) (now (first .entry)) (now (second .entry)) start stop (now (times .entry)) (now (counts .exit)))
+        (r ≤ 4352 → CountsBy (now (days .entry)) (now (first .entry)) (now (second .entry)) (frame .start) (frame .stop) (now (times .entry)) (now (counts .exit)))
         (now (counts .entry)) (now (counts .exit)) ⌝ }
 {
     let n = days.len();
     let last = entry(links, u);
-    let until = lesser(new, stop + 1);
+    let until = lesser(new, frame.stop + 1);
     let mut p = from;
     let mut end = tail;
     let mut moved = 0;
@@ -105,7 +103,7 @@ pub(crate) fn lose_others(
             return 4353;
         }
         p += 1;
-        let fresh = is_first(links, n, lo, j);
+        let fresh = is_first(links, n, frame.lo, j);
         let a = entry(first, j);
         let b = entry(second, j);
         let v = other(a, b, u);

@@ -9,6 +9,7 @@ ghost use Rattle.rings.specs.Words.{_and_};
 ghost use Rattle.rings.specs.Table.{tableOf};
 ghost use Rattle.rings.specs.CoreTimes.{never};
 ghost use Rattle.rings.specs.Inner.Peeling.{Lost, Ready, season, Falling, Walking, Counted, Fade, Span, CoreTimesAre};
+use crate::frame::Frame;
 use crate::links::clear;
 use crate::links::entry;
 use crate::links::other;
@@ -62,10 +63,7 @@ fn walk(
     first: &[u16],
     second: &[u16],
     links: &[u16],
-    k: u16,
-    start: u16,
-    stop: u16,
-    lo: usize,
+    frame: Frame,
     e: u16,
     r: usize,
     head: usize,
@@ -75,9 +73,9 @@ fn walk(
     left: &mut [u16],
     queue: &mut [u16],
 ) -> usize
-    requires { ⌜ Ready (now days) (now first) (now second) (now links) (season k start stop lo) ⌝ }
-    requires { ⌜ Walking (now days) (now first) (now second) (season k start stop lo) 0 e r head tail u (now times) (now left) (now queue) ⌝ }
-    ensures { λ t. ⌜ Falling (now (days .entry)) (now (first .entry)) (now (second .entry)) (season k start stop lo) 4096 e r (head + 1) t (now (times .exit)) (now (left .exit)) (now (queue .exit)) ⌝ }
+    requires { ⌜ Ready (now days) (now first) (now second) (now links) frame ⌝ }
+    requires { ⌜ Walking (now days) (now first) (now second) frame 0 e r head tail u (now times) (now left) (now queue) ⌝ }
+    ensures { λ t. ⌜ Falling (now (days .entry)) (now (first .entry)) (now (second .entry)) frame 4096 e r (head + 1) t (now (times .exit)) (now (left .exit)) (now (queue .exit)) ⌝ }
 {
     let n = days.len();
     let end = entry(links, u);
@@ -89,11 +87,11 @@ fn walk(
             return last;
         }
         p += 1;
-        if is_fresh(links, n, lo, j) {
+        if is_fresh(links, n, frame.lo, j) {
             let a = entry(first, j);
             let b = entry(second, j);
             let v = other(a, b, u);
-            last = lose(k, e, last, v, times, left, queue);
+            last = lose(frame.query.k, e, last, v, times, left, queue);
             continue;
         }
     }
@@ -106,10 +104,7 @@ fn drain(
     first: &[u16],
     second: &[u16],
     links: &[u16],
-    k: u16,
-    start: u16,
-    stop: u16,
-    lo: usize,
+    frame: Frame,
     e: u16,
     r: usize,
     head: usize,
@@ -118,9 +113,9 @@ fn drain(
     left: &mut [u16],
     queue: &mut [u16],
 ) -> usize
-    requires { ⌜ Ready (now days) (now first) (now second) (now links) (season k start stop lo) ⌝ }
-    requires { ⌜ Falling (now days) (now first) (now second) (season k start stop lo) 4096 e r head tail (now times) (now left) (now queue) ⌝ }
-    ensures { λ t. ⌜ Falling (now (days .entry)) (now (first .entry)) (now (second .entry)) (season k start stop lo) 4096 e r t t (now (times .exit)) (now (left .exit)) (now (queue .exit)) ⌝ }
+    requires { ⌜ Ready (now days) (now first) (now second) (now links) frame ⌝ }
+    requires { ⌜ Falling (now days) (now first) (now second) frame 4096 e r head tail (now times) (now left) (now queue) ⌝ }
+    ensures { λ t. ⌜ Falling (now (days .entry)) (now (first .entry)) (now (second .entry)) frame 4096 e r t t (now (times .exit)) (now (left .exit)) (now (queue .exit)) ⌝ }
 {
     let mut front = head;
     let mut last = tail;
@@ -131,10 +126,7 @@ fn drain(
             first,
             second,
             links,
-            k,
-            start,
-            stop,
-            lo,
+            frame,
             e,
             r,
             front,
@@ -155,10 +147,7 @@ fn leave(
     first: &[u16],
     second: &[u16],
     links: &[u16],
-    k: u16,
-    start: u16,
-    stop: u16,
-    lo: usize,
+    frame: Frame,
     e: u16,
     j: usize,
     tail: usize,
@@ -166,13 +155,13 @@ fn leave(
     left: &mut [u16],
     queue: &mut [u16],
 ) -> usize
-    requires { ⌜ Ready (now days) (now first) (now second) (now links) (season k start stop lo) ⌝ }
+    requires { ⌜ Ready (now days) (now first) (now second) (now links) frame ⌝ }
     requires { ⌜ (j < length (now days)) × (e ≡ getD (now days) j 0) ⌝ }
-    requires { ⌜ Falling (now days) (now first) (now second) (season k start stop lo) 4096 e (j + 1) tail tail (now times) (now left) (now queue) ⌝ }
-    ensures { λ t. ⌜ Falling (now (days .entry)) (now (first .entry)) (now (second .entry)) (season k start stop lo) 4096 e j t t (now (times .exit)) (now (left .exit)) (now (queue .exit)) ⌝ }
+    requires { ⌜ Falling (now days) (now first) (now second) frame 4096 e (j + 1) tail tail (now times) (now left) (now queue) ⌝ }
+    ensures { λ t. ⌜ Falling (now (days .entry)) (now (first .entry)) (now (second .entry)) frame 4096 e j t t (now (times .exit)) (now (left .exit)) (now (queue .exit)) ⌝ }
 {
     let n = days.len();
-    if is_fresh(links, n, lo, j) {
+    if is_fresh(links, n, frame.lo, j) {
         let a = entry(first, j);
         let b = entry(second, j);
         if entry(times, a) != 0 {
@@ -181,17 +170,14 @@ fn leave(
         if entry(times, b) != 0 {
             return tail;
         }
-        let one = lose(k, e, tail, a, times, left, queue);
-        let two = lose(k, e, one, b, times, left, queue);
+        let one = lose(frame.query.k, e, tail, a, times, left, queue);
+        let two = lose(frame.query.k, e, one, b, times, left, queue);
         return drain(
             days,
             first,
             second,
             links,
-            k,
-            start,
-            stop,
-            lo,
+            frame,
             e,
             j,
             tail,
@@ -210,23 +196,20 @@ fn fade(
     first: &[u16],
     second: &[u16],
     links: &[u16],
-    k: u16,
-    start: u16,
-    stop: u16,
-    lo: usize,
+    frame: Frame,
     end: usize,
     tail: usize,
     times: &mut [u16],
     left: &mut [u16],
     queue: &mut [u16],
 )
-    requires { ⌜ Ready (now days) (now first) (now second) (now links) (season k start stop lo) ⌝ }
-    requires { ⌜ Fade (now days) (now first) (now second) (season k start stop lo) end tail (now times) (now left) (now queue) ⌝ }
-    ensures { λ _. ⌜ CoreTimesAre (now (days .entry)) (now (first .entry)) (now (second .entry)) (season k start stop lo) (now (times .exit)) ⌝ }
+    requires { ⌜ Ready (now days) (now first) (now second) (now links) frame ⌝ }
+    requires { ⌜ Fade (now days) (now first) (now second) frame end tail (now times) (now left) (now queue) ⌝ }
+    ensures { λ _. ⌜ CoreTimesAre (now (days .entry)) (now (first .entry)) (now (second .entry)) frame (now (times .exit)) ⌝ }
 {
     let mut r = end;
     let mut last = tail;
-    while lo < r {
+    while frame.lo < r {
         let j = r - 1;
         let e = days[j];
         last = leave(
@@ -234,10 +217,7 @@ fn fade(
             first,
             second,
             links,
-            k,
-            start,
-            stop,
-            lo,
+            frame,
             e,
             j,
             last,
@@ -255,22 +235,19 @@ fn count_neighbours(
     first: &[u16],
     second: &[u16],
     links: &[u16],
-    k: u16,
-    start: u16,
-    stop: u16,
-    lo: usize,
+    frame: Frame,
     end: usize,
     left: &mut [u16],
 )
-    requires { ⌜ Ready (now days) (now first) (now second) (now links) (season k start stop lo) ⌝ }
-    requires { ⌜ (lo ≤ end) × (end ≤ length (now days)) ⌝ }
-    requires { ⌜ Counted (tableOf (now days) (now first) (now second)) lo lo (now left) ⌝ }
-    ensures { λ _. ⌜ Counted (tableOf (now (days .entry)) (now (first .entry)) (now (second .entry))) lo end (now (left .exit)) ⌝ }
+    requires { ⌜ Ready (now days) (now first) (now second) (now links) frame ⌝ }
+    requires { ⌜ (frame .lo ≤ end) × (end ≤ length (now days)) ⌝ }
+    requires { ⌜ Counted (tableOf (now days) (now first) (now second)) (frame .lo) (frame .lo) (now left) ⌝ }
+    ensures { λ _. ⌜ Counted (tableOf (now (days .entry)) (now (first .entry)) (now (second .entry))) (frame .lo) end (now (left .exit)) ⌝ }
 {
     let n = days.len();
-    let mut j = lo;
+    let mut j = frame.lo;
     while j < end {
-        if is_fresh(links, n, lo, j) {
+        if is_fresh(links, n, frame.lo, j) {
             let a = entry(first, j);
             let b = entry(second, j);
             let x = entry(left, a);
@@ -290,23 +267,20 @@ fn weed(
     first: &[u16],
     second: &[u16],
     links: &[u16],
-    k: u16,
-    start: u16,
-    stop: u16,
-    lo: usize,
+    frame: Frame,
     end: usize,
     times: &mut [u16],
     left: &mut [u16],
     queue: &mut [u16],
 ) -> usize
-    requires { ⌜ Ready (now days) (now first) (now second) (now links) (season k start stop lo) ⌝ }
-    requires { ⌜ Falling (now days) (now first) (now second) (season k start stop lo) 0 never end 0 0 (now times) (now left) (now queue) ⌝ }
-    ensures { λ t. ⌜ Falling (now (days .entry)) (now (first .entry)) (now (second .entry)) (season k start stop lo) 4096 never end 0 t (now (times .exit)) (now (left .exit)) (now (queue .exit)) ⌝ }
+    requires { ⌜ Ready (now days) (now first) (now second) (now links) frame ⌝ }
+    requires { ⌜ Falling (now days) (now first) (now second) frame 0 never end 0 0 (now times) (now left) (now queue) ⌝ }
+    ensures { λ t. ⌜ Falling (now (days .entry)) (now (first .entry)) (now (second .entry)) frame 4096 never end 0 t (now (times .exit)) (now (left .exit)) (now (queue .exit)) ⌝ }
 {
     let mut u = 0;
     let mut last = 0;
     while u < 4096 {
-        if left[u] < k {
+        if left[u] < frame.query.k {
             put(times, u, 65535);
             put(queue, last, u);
             last += 1;
@@ -324,46 +298,27 @@ pub(crate) fn core(
     first: &[u16],
     second: &[u16],
     links: &[u16],
-    k: u16,
-    start: u16,
-    stop: u16,
-    lo: usize,
+    frame: Frame,
     end: usize,
     times: &mut [u16],
     left: &mut [u16],
     queue: &mut [u16],
 ) -> usize
-    requires { ⌜ Ready (now days) (now first) (now second) (now links) (season k start stop lo) ⌝ }
-    requires { ⌜ Span (now days) stop lo end ⌝ }
+    requires { ⌜ Ready (now days) (now first) (now second) (now links) frame ⌝ }
+    requires { ⌜ Span (now days) (frame .stop) (frame .lo) end ⌝ }
     requires { ⌜ (length (now times) ≡ 4096) × (length (now left) ≡ 4096) × (4096 ≤ length (now queue)) ⌝ }
-    ensures { λ t. ⌜ Falling (now (days .entry)) (now (first .entry)) (now (second .entry)) (season k start stop lo) 4096 never end t t (now (times .exit)) (now (left .exit)) (now (queue .exit)) ⌝ }
+    ensures { λ t. ⌜ Falling (now (days .entry)) (now (first .entry)) (now (second .entry)) frame 4096 never end t t (now (times .exit)) (now (left .exit)) (now (queue .exit)) ⌝ }
 {
     clear(times);
     clear(left);
-    count_neighbours(days, first, second, links, k, start, stop, lo, end, left);
-    let waiting = weed(
-        days,
-        first,
-        second,
-        links,
-        k,
-        start,
-        stop,
-        lo,
-        end,
-        times,
-        left,
-        queue,
-    );
+    count_neighbours(days, first, second, links, frame, end, left);
+    let waiting = weed(days, first, second, links, frame, end, times, left, queue);
     drain(
         days,
         first,
         second,
         links,
-        k,
-        start,
-        stop,
-        lo,
+        frame,
         65535,
         end,
         0,
@@ -380,43 +335,24 @@ pub(crate) fn peel(
     first: &[u16],
     second: &[u16],
     links: &[u16],
-    k: u16,
-    start: u16,
-    stop: u16,
-    lo: usize,
+    frame: Frame,
     end: usize,
     times: &mut [u16],
     left: &mut [u16],
     queue: &mut [u16],
 )
-    requires { ⌜ Ready (now days) (now first) (now second) (now links) (season k start stop lo) ⌝ }
-    requires { ⌜ Span (now days) stop lo end ⌝ }
+    requires { ⌜ Ready (now days) (now first) (now second) (now links) frame ⌝ }
+    requires { ⌜ Span (now days) (frame .stop) (frame .lo) end ⌝ }
     requires { ⌜ (length (now times) ≡ 4096) × (length (now left) ≡ 4096) × (4096 ≤ length (now queue)) ⌝ }
-    ensures { λ _. ⌜ CoreTimesAre (now (days .entry)) (now (first .entry)) (now (second .entry)) (season k start stop lo) (now (times .exit)) ⌝ }
+    ensures { λ _. ⌜ CoreTimesAre (now (days .entry)) (now (first .entry)) (now (second .entry)) frame (now (times .exit)) ⌝ }
 {
-    let tail = core(
-        days,
-        first,
-        second,
-        links,
-        k,
-        start,
-        stop,
-        lo,
-        end,
-        times,
-        left,
-        queue,
-    );
+    let tail = core(days, first, second, links, frame, end, times, left, queue);
     fade(
         days,
         first,
         second,
         links,
-        k,
-        start,
-        stop,
-        lo,
+        frame,
         end,
         tail,
         times,

@@ -14,6 +14,7 @@ ghost use Rattle.rings.specs.Inner.Peeling.{season, Falling, Ready, Span
 use crate::Query;
 use crate::checks::check_call;
 use crate::checks::is_window;
+use crate::frame::Frame;
 use crate::links::clear;
 use crate::links::entry;
 use crate::links::link;
@@ -101,10 +102,12 @@ fn mark_part(
         first,
         second,
         scratch,
-        k,
-        s,
-        e,
-        0,
+        Frame {
+            query: Query { k: k },
+            start: s,
+            stop: e,
+            lo: 0,
+        },
         n,
         &mut times,
         &mut left,

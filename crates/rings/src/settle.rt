@@ -9,11 +9,13 @@ ghost use lib.ListN.{length, getD};
 ghost use Rattle.rings.specs.Table.{tableOf, Split};
 ghost use Rattle.rings.specs.CoreTimes.{never};
 ghost use Rattle.rings.specs.Ring.{query};
-ghost use Rattle.rings.specs.Inner.Peeling.{guess, season, Ready, Placed, Open, Span, CoreTimesAre};
+ghost use Rattle.rings.specs.Inner.Peeling.{guess, nextFrame, Ready, Placed, Open, Span, CoreTimesAre};
 ghost use Rattle.rings.specs.Inner.Links.{Every, Reading, Covered};
 ghost use Rattle.rings.specs.Inner.Counting.{CountsBy, WhereCounted, Timed};
 ghost use Rattle.rings.specs.Inner.Settling.{Days, Behind, Short, Leaving, Queued, Rising, Spare, Risen};
 use crate::counts::move_counts;
+use crate::frame::Frame;
+use crate::frame::next_frame;
 use crate::links::entry;
 use crate::links::put;
 use crate::look::first_from;
@@ -48,10 +50,7 @@ fn settle_near(
     first: &[u16],
     second: &[u16],
     links: &[u16],
-    k: u16,
-    start: u16,
-    stop: u16,
-    lo: usize,
+    frame: Frame,
     head: usize,
     tail: usize,
     risen: usize,
@@ -63,15 +62,15 @@ fn settle_near(
     counting: bool,
     counts: &mut [u16],
 ) -> Near
-    requires { ⌜ Open (now days) (now first) (now second) (now links) (season k start stop lo) ⌝ }
-    requires { ⌜ (head < tail) × (tail ≤ 4352) × (risen ≤ head) × (length (now times) ≡ 4096) × (length (now spare) ≡ 4096) × (length (now queue) ≡ 4352) × (u < 4096) × (getD (now queue) head 0 ≡ u) × Reading (now links) u lo from × Days stop (now times) × Covered (tableOf (now days) (now first) (now second)) (guess (now times)) lo (now links) ⌝ }
-    requires { ⌜ (counting ≡ true → (stop ≤ 1024) × CountsBy (now days) (now first) (now second) start stop (now times) (now counts)) ⌝ }
-    ensures { λ r. ⌜ (r .walked ≤ 32768) × (r .tail ≤ 4352 → (xs : List ℕ) → Rising (tableOf (now (days .entry)) (now (first .entry)) (now (second .entry))) (query k) stop start xs (now (times .entry)) (now (spare .entry)) (now (queue .entry)) head tail risen → Rising (tableOf (now (days .entry)) (now (first .entry)) (now (second .entry))) (query k) stop start xs (now (times .exit)) (now (spare .exit)) (now (queue .exit)) (head + 1) (r .tail) (r .risen)) ⌝ }
+    requires { ⌜ Open (now days) (now first) (now second) (now links) frame ⌝ }
+    requires { ⌜ (head < tail) × (tail ≤ 4352) × (risen ≤ head) × (length (now times) ≡ 4096) × (length (now spare) ≡ 4096) × (length (now queue) ≡ 4352) × (u < 4096) × (getD (now queue) head 0 ≡ u) × Reading (now links) u (frame .lo) from × Days (frame .stop) (now times) × Covered (tableOf (now days) (now first) (now second)) (guess (now times)) (frame .lo) (now links) ⌝ }
+    requires { ⌜ (counting ≡ true → (frame .stop ≤ 1024) × CountsBy (now days) (now first) (now second) (frame .start) (frame .stop) (now times) (now counts)) ⌝ }
+    ensures { λ r. ⌜ (r .walked ≤ 32768) × (r .tail ≤ 4352 → (xs : List ℕ) → Rising (tableOf (now (days .entry)) (now (first .entry)) (now (second .entry))) (frame .query) (frame .stop) (frame .start) xs (now (times .entry)) (now (spare .entry)) (now (queue .entry)) head tail risen → Rising (tableOf (now (days .entry)) (now (first .entry)) (now (second .entry))) (frame .query) (frame .stop) (frame .start) xs (now (times .exit)) (now (spare .exit)) (now (queue .exit)) (head + 1) (r .tail) (r .risen)) ⌝ }
     ensures { λ _. ⌜ ((v : ℕ) → guess (now (times .entry)) v ≡ never → guess (now (times .exit)) v ≡ never) ⌝ }
     ensures { λ r. ⌜ WhereCounted counting
-        (r .tail ≤ 4352 → CountsBy (now (days .entry)) (now (first .entry)) (now (second .entry)) start stop (now (times .exit)) (now (counts .exit)))
+        (r .tail ≤ 4352 → CountsBy (now (days .entry)) (now (first .entry)) (now (second .entry)) (frame .start) (frame .stop) (now (times .exit)) (now (counts .exit)))
         (now (counts .entry)) (now (counts .exit)) ⌝ }
-    ensures { λ r. ⌜ (4352 < r .tail → (now (times .exit) ≡ now (times .entry)) × (now (spare .exit) ≡ now (spare .entry)) × (now (counts .exit) ≡ now (counts .entry)) × Behind tail (now (queue .entry)) (now (queue .exit)) × Short (tableOf (now (days .entry)) (now (first .entry)) (now (second .entry))) (guess (now (times .entry))) start k stop (getD (now (times .entry)) u 0) u (r .day)) ⌝ }
+    ensures { λ r. ⌜ (4352 < r .tail → (now (times .exit) ≡ now (times .entry)) × (now (spare .exit) ≡ now (spare .entry)) × (now (counts .exit) ≡ now (counts .entry)) × Behind tail (now (queue .entry)) (now (queue .exit)) × Short (tableOf (now (days .entry)) (now (first .entry)) (now (second .entry))) (guess (now (times .entry))) (frame .start) (frame .query .k) (frame .stop) (getD (now (times .entry)) u 0) u (r .day)) ⌝ }
 {
     let old = times[u];
     if old == 65535 {
@@ -96,10 +95,7 @@ fn settle_near(
         first,
         second,
         links,
-        k,
-        start,
-        stop,
-        lo,
+        frame,
         times,
         u,
         from,
@@ -107,8 +103,8 @@ fn settle_near(
         tail,
         queue,
     );
-    if k <= seen.count {
-        spare[u] = seen.count + 1 - k;
+    if frame.query.k <= seen.count {
+        spare[u] = seen.count + 1 - frame.query.k;
         return Near {
             risen: risen,
             tail: tail,
@@ -117,7 +113,7 @@ fn settle_near(
         };
     }
     let new = seen.above;
-    let left = spare_above(new, seen.count + seen.more, k);
+    let left = spare_above(new, seen.count + seen.more, frame.query.k);
     if left == 0 {
         return Near {
             risen: risen,
@@ -145,10 +141,7 @@ fn settle_far(
     first: &[u16],
     second: &[u16],
     links: &[u16],
-    k: u16,
-    start: u16,
-    stop: u16,
-    lo: usize,
+    frame: Frame,
     budget: usize,
     head: usize,
     tail: usize,
@@ -162,14 +155,14 @@ fn settle_far(
     counting: bool,
     counts: &mut [u16],
 ) -> Standing
-    requires { ⌜ Open (now days) (now first) (now second) (now links) (season k start stop lo) ⌝ }
-    requires { ⌜ (budget ≤ 65536) × (head < tail) × (tail ≤ 4352) × (risen ≤ head) × (length (now times) ≡ 4096) × (length (now spare) ≡ 4096) × (length (now queue) ≡ 4352) × (u < 4096) × (getD (now queue) head 0 ≡ u) × Reading (now links) u lo from × Days stop (now times) × Covered (tableOf (now days) (now first) (now second)) (guess (now times)) lo (now links) ⌝ }
-    requires { ⌜ Short (tableOf (now days) (now first) (now second)) (guess (now times)) start k stop (getD (now times) u 0) u day ⌝ }
-    requires { ⌜ (counting ≡ true → (stop ≤ 1024) × CountsBy (now days) (now first) (now second) start stop (now times) (now counts)) ⌝ }
-    ensures { λ r. ⌜ (r .walked ≤ 98304) × (r .tail ≤ 4352 → (xs : List ℕ) → Rising (tableOf (now (days .entry)) (now (first .entry)) (now (second .entry))) (query k) stop start xs (now (times .entry)) (now (spare .entry)) (now (queue .entry)) head tail risen → Rising (tableOf (now (days .entry)) (now (first .entry)) (now (second .entry))) (query k) stop start xs (now (times .exit)) (now (spare .exit)) (now (queue .exit)) (head + 1) (r .tail) (r .risen)) ⌝ }
+    requires { ⌜ Open (now days) (now first) (now second) (now links) frame ⌝ }
+    requires { ⌜ (budget ≤ 65536) × (head < tail) × (tail ≤ 4352) × (risen ≤ head) × (length (now times) ≡ 4096) × (length (now spare) ≡ 4096) × (length (now queue) ≡ 4352) × (u < 4096) × (getD (now queue) head 0 ≡ u) × Reading (now links) u (frame .lo) from × Days (frame .stop) (now times) × Covered (tableOf (now days) (now first) (now second)) (guess (now times)) (frame .lo) (now links) ⌝ }
+    requires { ⌜ Short (tableOf (now days) (now first) (now second)) (guess (now times)) (frame .start) (frame .query .k) (frame .stop) (getD (now times) u 0) u day ⌝ }
+    requires { ⌜ (counting ≡ true → (frame .stop ≤ 1024) × CountsBy (now days) (now first) (now second) (frame .start) (frame .stop) (now times) (now counts)) ⌝ }
+    ensures { λ r. ⌜ (r .walked ≤ 98304) × (r .tail ≤ 4352 → (xs : List ℕ) → Rising (tableOf (now (days .entry)) (now (first .entry)) (now (second .entry))) (frame .query) (frame .stop) (frame .start) xs (now (times .entry)) (now (spare .entry)) (now (queue .entry)) head tail risen → Rising (tableOf (now (days .entry)) (now (first .entry)) (now (second .entry))) (frame .query) (frame .stop) (frame .start) xs (now (times .exit)) (now (spare .exit)) (now (queue .exit)) (head + 1) (r .tail) (r .risen)) ⌝ }
     ensures { λ _. ⌜ ((v : ℕ) → guess (now (times .entry)) v ≡ never → guess (now (times .exit)) v ≡ never) ⌝ }
     ensures { λ r. ⌜ WhereCounted counting
-        (r .tail ≤ 4352 → CountsBy (now (days .entry)) (now (first .entry)) (now (second .entry)) start stop (now (times .exit)) (now (counts .exit)))
+        (r .tail ≤ 4352 → CountsBy (now (days .entry)) (now (first .entry)) (now (second .entry)) (frame .start) (frame .stop) (now (times .exit)) (now (counts .exit)))
         (now (counts .entry)) (now (counts .exit)) ⌝ }
 {
     let old = times[u];
@@ -178,10 +171,7 @@ fn settle_far(
         first,
         second,
         links,
-        k,
-        start,
-        stop,
-        lo,
+        frame,
         times,
         u,
         from,
@@ -211,10 +201,7 @@ fn settle_far(
         first,
         second,
         links,
-        k,
-        start,
-        stop,
-        lo,
+        frame,
         times,
         u,
         from,
@@ -239,10 +226,7 @@ fn settle_account(
     first: &[u16],
     second: &[u16],
     links: &[u16],
-    k: u16,
-    start: u16,
-    stop: u16,
-    lo: usize,
+    frame: Frame,
     budget: usize,
     head: usize,
     tail: usize,
@@ -253,26 +237,23 @@ fn settle_account(
     counting: bool,
     counts: &mut [u16],
 ) -> Standing
-    requires { ⌜ Open (now days) (now first) (now second) (now links) (season k start stop lo) ⌝ }
-    requires { ⌜ (budget ≤ 65536) × (head < tail) × (tail ≤ 4352) × (risen ≤ head) × (length (now times) ≡ 4096) × (length (now spare) ≡ 4096) × (length (now queue) ≡ 4352) × (getD (now queue) head 0 < 4096) × Days stop (now times) × Covered (tableOf (now days) (now first) (now second)) (guess (now times)) lo (now links) ⌝ }
-    requires { ⌜ (counting ≡ true → (stop ≤ 1024) × CountsBy (now days) (now first) (now second) start stop (now times) (now counts)) ⌝ }
-    ensures { λ r. ⌜ (r .walked ≤ 131072) × (r .tail ≤ 4352 → (xs : List ℕ) → Rising (tableOf (now (days .entry)) (now (first .entry)) (now (second .entry))) (query k) stop start xs (now (times .entry)) (now (spare .entry)) (now (queue .entry)) head tail risen → Rising (tableOf (now (days .entry)) (now (first .entry)) (now (second .entry))) (query k) stop start xs (now (times .exit)) (now (spare .exit)) (now (queue .exit)) (head + 1) (r .tail) (r .risen)) ⌝ }
+    requires { ⌜ Open (now days) (now first) (now second) (now links) frame ⌝ }
+    requires { ⌜ (budget ≤ 65536) × (head < tail) × (tail ≤ 4352) × (risen ≤ head) × (length (now times) ≡ 4096) × (length (now spare) ≡ 4096) × (length (now queue) ≡ 4352) × (getD (now queue) head 0 < 4096) × Days (frame .stop) (now times) × Covered (tableOf (now days) (now first) (now second)) (guess (now times)) (frame .lo) (now links) ⌝ }
+    requires { ⌜ (counting ≡ true → (frame .stop ≤ 1024) × CountsBy (now days) (now first) (now second) (frame .start) (frame .stop) (now times) (now counts)) ⌝ }
+    ensures { λ r. ⌜ (r .walked ≤ 131072) × (r .tail ≤ 4352 → (xs : List ℕ) → Rising (tableOf (now (days .entry)) (now (first .entry)) (now (second .entry))) (frame .query) (frame .stop) (frame .start) xs (now (times .entry)) (now (spare .entry)) (now (queue .entry)) head tail risen → Rising (tableOf (now (days .entry)) (now (first .entry)) (now (second .entry))) (frame .query) (frame .stop) (frame .start) xs (now (times .exit)) (now (spare .exit)) (now (queue .exit)) (head + 1) (r .tail) (r .risen)) ⌝ }
     ensures { λ _. ⌜ ((v : ℕ) → guess (now (times .entry)) v ≡ never → guess (now (times .exit)) v ≡ never) ⌝ }
     ensures { λ r. ⌜ WhereCounted counting
-        (r .tail ≤ 4352 → CountsBy (now (days .entry)) (now (first .entry)) (now (second .entry)) start stop (now (times .exit)) (now (counts .exit)))
+        (r .tail ≤ 4352 → CountsBy (now (days .entry)) (now (first .entry)) (now (second .entry)) (frame .start) (frame .stop) (now (times .exit)) (now (counts .exit)))
         (now (counts .entry)) (now (counts .exit)) ⌝ }
 {
     let u = entry(queue, head);
-    let from = first_from(days, first, second, links, u, lo);
+    let from = first_from(days, first, second, links, u, frame.lo);
     let near = settle_near(
         days,
         first,
         second,
         links,
-        k,
-        start,
-        stop,
-        lo,
+        frame,
         head,
         tail,
         risen,
@@ -296,10 +277,7 @@ fn settle_account(
         first,
         second,
         links,
-        k,
-        start,
-        stop,
-        lo,
+        frame,
         budget,
         head,
         tail,
@@ -326,10 +304,7 @@ fn settle(
     first: &[u16],
     second: &[u16],
     links: &[u16],
-    k: u16,
-    start: u16,
-    stop: u16,
-    lo: usize,
+    frame: Frame,
     budget: usize,
     waiting: usize,
     times: &mut [u16],
@@ -338,12 +313,12 @@ fn settle(
     counting: bool,
     counts: &mut [u16],
 ) -> usize
-    requires { ⌜ Open (now days) (now first) (now second) (now links) (season k start stop lo) ⌝ }
-    requires { ⌜ (budget ≤ 65536) × (length (now times) ≡ 4096) × (length (now spare) ≡ 4096) × (length (now queue) ≡ 4352) × (waiting ≤ 4352 → Rising (tableOf (now days) (now first) (now second)) (query k) stop start (now times) (now times) (now spare) (now queue) 0 waiting 0) × Covered (tableOf (now days) (now first) (now second)) (guess (now times)) lo (now links) ⌝ }
-    requires { ⌜ (counting ≡ true → (stop ≤ 1024) × CountsBy (now days) (now first) (now second) start stop (now times) (now counts)) ⌝ }
-    ensures { λ r. ⌜ (r ≤ 4352 → CoreTimesAre (now (days .entry)) (now (first .entry)) (now (second .entry)) (season k start stop lo) (now (times .exit)) × Spare (tableOf (now (days .entry)) (now (first .entry)) (now (second .entry))) (query k) start (now (times .exit)) (now (spare .exit)) × Risen (now (times .entry)) (now (times .exit)) (now (queue .exit)) r) ⌝ }
+    requires { ⌜ Open (now days) (now first) (now second) (now links) frame ⌝ }
+    requires { ⌜ (budget ≤ 65536) × (length (now times) ≡ 4096) × (length (now spare) ≡ 4096) × (length (now queue) ≡ 4352) × (waiting ≤ 4352 → Rising (tableOf (now days) (now first) (now second)) (frame .query) (frame .stop) (frame .start) (now times) (now times) (now spare) (now queue) 0 waiting 0) × Covered (tableOf (now days) (now first) (now second)) (guess (now times)) (frame .lo) (now links) ⌝ }
+    requires { ⌜ (counting ≡ true → (frame .stop ≤ 1024) × CountsBy (now days) (now first) (now second) (frame .start) (frame .stop) (now times) (now counts)) ⌝ }
+    ensures { λ r. ⌜ (r ≤ 4352 → CoreTimesAre (now (days .entry)) (now (first .entry)) (now (second .entry)) frame (now (times .exit)) × Spare (tableOf (now (days .entry)) (now (first .entry)) (now (second .entry))) (frame .query) (frame .start) (now (times .exit)) (now (spare .exit)) × Risen (now (times .entry)) (now (times .exit)) (now (queue .exit)) r) ⌝ }
     ensures { λ r. ⌜ WhereCounted counting
-        (r ≤ 4352 → CountsBy (now (days .entry)) (now (first .entry)) (now (second .entry)) start stop (now (times .exit)) (now (counts .exit)))
+        (r ≤ 4352 → CountsBy (now (days .entry)) (now (first .entry)) (now (second .entry)) (frame .start) (frame .stop) (now (times .exit)) (now (counts .exit)))
         (now (counts .entry)) (now (counts .exit)) ⌝ }
 {
     let mut head = 0;
@@ -362,10 +337,7 @@ fn settle(
             first,
             second,
             links,
-            k,
-            start,
-            stop,
-            lo,
+            frame,
             budget,
             head,
             tail,
@@ -390,25 +362,22 @@ fn leave_row(
     first: &[u16],
     second: &[u16],
     links: &[u16],
-    k: u16,
-    s: u16,
-    te: u16,
-    lo: usize,
+    frame: Frame,
     times: &[u16],
     tail: usize,
     j: usize,
     spare: &mut [u16],
     queue: &mut [u16],
 ) -> usize
-    requires { ⌜ Placed (now days) (now first) (now second) (now links) (season k s te lo) ⌝ }
-    requires { ⌜ (j < length (now days)) × (length (now times) ≡ 4096) × Days te (now times) × (length (now spare) ≡ 4096) × (length (now queue) ≡ 4352) ⌝ }
-    ensures { λ r. ⌜ (r ≤ 4352 → Queued tail (now (spare .entry)) (now (queue .entry)) r (now (spare .exit)) (now (queue .exit)) × ((sp : List ℕ) → Leaving (tableOf (now (days .entry)) (now (first .entry)) (now (second .entry))) (guess (now (times .entry))) lo j sp (now (spare .entry)) → Leaving (tableOf (now (days .entry)) (now (first .entry)) (now (second .entry))) (guess (now (times .entry))) lo (j + 1) sp (now (spare .exit)))) ⌝ }
+    requires { ⌜ Placed (now days) (now first) (now second) (now links) frame ⌝ }
+    requires { ⌜ (j < length (now days)) × (length (now times) ≡ 4096) × Days (frame .stop) (now times) × (length (now spare) ≡ 4096) × (length (now queue) ≡ 4352) ⌝ }
+    ensures { λ r. ⌜ (r ≤ 4352 → Queued tail (now (spare .entry)) (now (queue .entry)) r (now (spare .exit)) (now (queue .exit)) × ((sp : List ℕ) → Leaving (tableOf (now (days .entry)) (now (first .entry)) (now (second .entry))) (guess (now (times .entry))) (frame .lo) j sp (now (spare .entry)) → Leaving (tableOf (now (days .entry)) (now (first .entry)) (now (second .entry))) (guess (now (times .entry))) (frame .lo) (j + 1) sp (now (spare .exit)))) ⌝ }
 {
     if 4351 <= tail {
         return 4353;
     }
     let n = days.len();
-    let fresh = is_fresh(links, n, lo, j);
+    let fresh = is_fresh(links, n, frame.lo, j);
     let a = entry(first, j);
     let b = entry(second, j);
     let x = times[a];
@@ -426,31 +395,25 @@ fn leave_rows(
     first: &[u16],
     second: &[u16],
     links: &[u16],
-    k: u16,
-    s: u16,
-    te: u16,
-    lo: usize,
+    frame: Frame,
     next: usize,
     times: &[u16],
     spare: &mut [u16],
     queue: &mut [u16],
 ) -> usize
-    requires { ⌜ Placed (now days) (now first) (now second) (now links) (season k s te lo) ⌝ }
-    requires { ⌜ (lo ≤ next) × (next ≤ length (now days)) × (length (now times) ≡ 4096) × Days te (now times) × (length (now spare) ≡ 4096) × (length (now queue) ≡ 4352) ⌝ }
-    ensures { λ r. ⌜ (r ≤ 4352 → Queued 0 (now (spare .entry)) (now (queue .entry)) r (now (spare .exit)) (now (queue .exit)) × Leaving (tableOf (now (days .entry)) (now (first .entry)) (now (second .entry))) (guess (now (times .entry))) lo next (now (spare .entry)) (now (spare .exit))) ⌝ }
+    requires { ⌜ Placed (now days) (now first) (now second) (now links) frame ⌝ }
+    requires { ⌜ (frame .lo ≤ next) × (next ≤ length (now days)) × (length (now times) ≡ 4096) × Days (frame .stop) (now times) × (length (now spare) ≡ 4096) × (length (now queue) ≡ 4352) ⌝ }
+    ensures { λ r. ⌜ (r ≤ 4352 → Queued 0 (now (spare .entry)) (now (queue .entry)) r (now (spare .exit)) (now (queue .exit)) × Leaving (tableOf (now (days .entry)) (now (first .entry)) (now (second .entry))) (guess (now (times .entry))) (frame .lo) next (now (spare .entry)) (now (spare .exit))) ⌝ }
 {
     let mut tail = 0;
-    let mut j = lo;
+    let mut j = frame.lo;
     while j < next {
         tail = leave_row(
             days,
             first,
             second,
             links,
-            k,
-            s,
-            te,
-            lo,
+            frame,
             times,
             tail,
             j,
@@ -492,34 +455,18 @@ pub(crate) fn begin(
     first: &[u16],
     second: &[u16],
     links: &[u16],
-    k: u16,
-    s: u16,
-    te: u16,
-    lo: usize,
+    frame: Frame,
     end: usize,
     times: &mut [u16],
     spare: &mut [u16],
     queue: &mut [u16],
 )
-    requires { ⌜ Ready (now days) (now first) (now second) (now links) (season k s te lo) ⌝ }
-    requires { ⌜ Span (now days) te lo end ⌝ }
+    requires { ⌜ Ready (now days) (now first) (now second) (now links) frame ⌝ }
+    requires { ⌜ Span (now days) (frame .stop) (frame .lo) end ⌝ }
     requires { ⌜ (length (now times) ≡ 4096) × (length (now spare) ≡ 4096) × (length (now queue) ≡ 4352) ⌝ }
-    ensures { λ _. ⌜ CoreTimesAre (now (days .entry)) (now (first .entry)) (now (second .entry)) (season k s te lo) (now (times .exit)) × Spare (tableOf (now (days .entry)) (now (first .entry)) (now (second .entry))) (query k) s (now (times .exit)) (now (spare .exit)) ⌝ }
+    ensures { λ _. ⌜ CoreTimesAre (now (days .entry)) (now (first .entry)) (now (second .entry)) frame (now (times .exit)) × Spare (tableOf (now (days .entry)) (now (first .entry)) (now (second .entry))) (frame .query) (frame .start) (now (times .exit)) (now (spare .exit)) ⌝ }
 {
-    peel(
-        days,
-        first,
-        second,
-        links,
-        k,
-        s,
-        te,
-        lo,
-        end,
-        times,
-        spare,
-        queue,
-    );
+    peel(days, first, second, links, frame, end, times, spare, queue);
     spare_none(spare);
 }
 
@@ -529,10 +476,7 @@ pub(crate) fn step(
     first: &[u16],
     second: &[u16],
     links: &[u16],
-    k: u16,
-    s: u16,
-    te: u16,
-    lo: usize,
+    frame: Frame,
     next: usize,
     end: usize,
     times: &mut [u16],
@@ -541,40 +485,25 @@ pub(crate) fn step(
     counting: bool,
     counts: &mut [u16],
 ) -> usize
-    requires { ⌜ Open (now days) (now first) (now second) (now links) (season k (s + 1) te next) ⌝ }
-    requires { ⌜ (s ≤ te) × (te ≤ 1024) × Split (now days) s lo × Split (now days) (s + 1) next × Split (now days) (te + 1) end ⌝ }
-    requires { ⌜ CoreTimesAre (now days) (now first) (now second) (season k s te lo) (now times) × Spare (tableOf (now days) (now first) (now second)) (query k) s (now times) (now spare) × (length (now queue) ≡ 4352) × Covered (tableOf (now days) (now first) (now second)) (guess (now times)) next (now links) ⌝ }
-    requires { ⌜ (counting ≡ true → CountsBy (now days) (now first) (now second) (s + 1) te (now times) (now counts)) ⌝ }
-    ensures { λ r. ⌜ (r ≤ 4352 → CoreTimesAre (now (days .entry)) (now (first .entry)) (now (second .entry)) (season k (s + 1) te next) (now (times .exit)) × Spare (tableOf (now (days .entry)) (now (first .entry)) (now (second .entry))) (query k) (s + 1) (now (times .exit)) (now (spare .exit)) × Risen (now (times .entry)) (now (times .exit)) (now (queue .exit)) r) ⌝ }
+    requires { ⌜ Open (now days) (now first) (now second) (now links) (nextFrame frame next) ⌝ }
+    requires { ⌜ (frame .start ≤ frame .stop) × (frame .stop ≤ 1024) × Split (now days) (frame .start) (frame .lo) × Split (now days) (frame .start + 1) next × Split (now days) (frame .stop + 1) end ⌝ }
+    requires { ⌜ CoreTimesAre (now days) (now first) (now second) frame (now times) × Spare (tableOf (now days) (now first) (now second)) (frame .query) (frame .start) (now times) (now spare) × (length (now queue) ≡ 4352) × Covered (tableOf (now days) (now first) (now second)) (guess (now times)) next (now links) ⌝ }
+    requires { ⌜ (counting ≡ true → CountsBy (now days) (now first) (now second) (frame .start + 1) (frame .stop) (now times) (now counts)) ⌝ }
+    ensures { λ r. ⌜ (r ≤ 4352 → CoreTimesAre (now (days .entry)) (now (first .entry)) (now (second .entry)) (nextFrame frame next) (now (times .exit)) × Spare (tableOf (now (days .entry)) (now (first .entry)) (now (second .entry))) (frame .query) (frame .start + 1) (now (times .exit)) (now (spare .exit)) × Risen (now (times .entry)) (now (times .exit)) (now (queue .exit)) r) ⌝ }
     ensures { λ r. ⌜ WhereCounted counting
-        (r ≤ 4352 → Timed (tableOf (now (days .entry)) (now (first .entry)) (now (second .entry))) (query k) te (s + 1)
+        (r ≤ 4352 → Timed (tableOf (now (days .entry)) (now (first .entry)) (now (second .entry))) (frame .query) (frame .stop) (frame .start + 1)
         (length (now (days .entry))) (now (counts .exit)))
         (now (counts .entry)) (now (counts .exit)) ⌝ }
 {
-    let waiting = leave_rows(
-        days,
-        first,
-        second,
-        links,
-        k,
-        s,
-        te,
-        lo,
-        next,
-        times,
-        spare,
-        queue,
-    );
+    let waiting = leave_rows(days, first, second, links, frame, next, times, spare, queue);
     let budget = 4 * (end - next);
+    let after = next_frame(frame, next);
     settle(
         days,
         first,
         second,
         links,
-        k,
-        s + 1,
-        te,
-        next,
+        after,
         budget,
         waiting,
         times,
@@ -591,10 +520,7 @@ pub(crate) fn advance(
     first: &[u16],
     second: &[u16],
     links: &[u16],
-    k: u16,
-    s: u16,
-    te: u16,
-    lo: usize,
+    frame: Frame,
     next: usize,
     end: usize,
     times: &mut [u16],
@@ -602,10 +528,10 @@ pub(crate) fn advance(
     queue: &mut [u16],
     counts: &mut [u16],
 ) -> usize
-    requires { ⌜ Ready (now days) (now first) (now second) (now links) (season k (s + 1) te next) ⌝ }
-    requires { ⌜ (s ≤ te) × (te ≤ 1024) × Split (now days) s lo × Split (now days) (s + 1) next × Split (now days) (te + 1) end ⌝ }
-    requires { ⌜ CoreTimesAre (now days) (now first) (now second) (season k s te lo) (now times) × Spare (tableOf (now days) (now first) (now second)) (query k) s (now times) (now spare) × (length (now queue) ≡ 4352) ⌝ }
-    ensures { λ r. ⌜ CoreTimesAre (now (days .entry)) (now (first .entry)) (now (second .entry)) (season k (s + 1) te next) (now (times .exit)) × Spare (tableOf (now (days .entry)) (now (first .entry)) (now (second .entry))) (query k) (s + 1) (now (times .exit)) (now (spare .exit)) × Risen (now (times .entry)) (now (times .exit)) (now (queue .exit)) r ⌝ }
+    requires { ⌜ Ready (now days) (now first) (now second) (now links) (nextFrame frame next) ⌝ }
+    requires { ⌜ (frame .start ≤ frame .stop) × (frame .stop ≤ 1024) × Split (now days) (frame .start) (frame .lo) × Split (now days) (frame .start + 1) next × Split (now days) (frame .stop + 1) end ⌝ }
+    requires { ⌜ CoreTimesAre (now days) (now first) (now second) frame (now times) × Spare (tableOf (now days) (now first) (now second)) (frame .query) (frame .start) (now times) (now spare) × (length (now queue) ≡ 4352) ⌝ }
+    ensures { λ r. ⌜ CoreTimesAre (now (days .entry)) (now (first .entry)) (now (second .entry)) (nextFrame frame next) (now (times .exit)) × Spare (tableOf (now (days .entry)) (now (first .entry)) (now (second .entry))) (frame .query) (frame .start + 1) (now (times .exit)) (now (spare .exit)) × Risen (now (times .entry)) (now (times .exit)) (now (queue .exit)) r ⌝ }
     ensures { λ _. ⌜ now (counts .exit) ≡ now (counts .entry) ⌝ }
 {
     let counting = false;
@@ -614,10 +540,7 @@ pub(crate) fn advance(
         first,
         second,
         links,
-        k,
-        s,
-        te,
-        lo,
+        frame,
         next,
         end,
         times,
@@ -629,20 +552,8 @@ pub(crate) fn advance(
     if risen <= 4352 {
         return risen;
     }
-    begin(
-        days,
-        first,
-        second,
-        links,
-        k,
-        s + 1,
-        te,
-        next,
-        end,
-        times,
-        spare,
-        queue,
-    );
+    let after = next_frame(frame, next);
+    begin(days, first, second, links, after, end, times, spare, queue);
     list_all(queue);
     4096
 }

@@ -10,6 +10,8 @@ ghost use Rattle.rings.specs.Starts.{Earliest, Prepared, TimesAt, AtStar
 use crate::choice::lesser;
 use crate::counts::count_times;
 use crate::counts::drop_rows;
+use crate::frame::Frame;
+use crate::frame::next_frame;
 use crate::links::bind;
 use crate::links::move_heads;
 use crate::links::pair_rows;
@@ -36,10 +38,7 @@ pub fn first_start(
     first: &[u16],
     second: &[u16],
     scratch: &mut [u16],
-    k: u16,
-    s: u16,
-    te: u16,
-    lo: usize,
+    frame: Frame,
     end: usize,
     times: &mut [u16],
     spare: &mut [u16],
@@ -48,30 +47,27 @@ pub fn first_start(
 )
     requires { ⌜ Sound (now days) (now first) (now second) ⌝ }
     requires { ⌜ Prepared (tableOf (now days) (now first) (now second)) (now scratch) ⌝ }
-    requires { ⌜ (1 ≤ k) × (s ≤ te + 1) × (te ≤ 1024) × Split (now days) s lo × Split (now days) (te + 1) end ⌝ }
+    requires { ⌜ (1 ≤ frame .query .k) × (frame .start ≤ frame .stop + 1) × (frame .stop ≤ 1024) × Split (now days) (frame .start) (frame .lo) × Split (now days) (frame .stop + 1) end ⌝ }
     requires { ⌜ (length (now times) ≡ 4096) × (length (now spare) ≡ 4096) × (length (now queue) ≡ 4352) × (length (now counts) ≡ 1025) ⌝ }
     ensures { λ _. ⌜ (
         let t = tableOf (now (days .entry)) (now (first .entry)) (now (second .entry)) in
-        AtStart t (query k) te s lo (now (scratch .exit)) (now (times .exit)) (now (spare .exit)) (now (counts .exit))) ⌝ }
+        AtStart t (frame .query) (frame .stop) (frame .start) (frame .lo) (now (scratch .exit)) (now (times .exit)) (now (spare .exit)) (now (counts .exit))) ⌝ }
 {
     bind(days, first, second, scratch);
-    move_heads(days, first, second, scratch, 0, s, 0, lo);
+    move_heads(days, first, second, scratch, 0, frame.start, 0, frame.lo);
     begin(
         days,
         first,
         second,
         scratch,
-        k,
-        s,
-        te,
-        lo,
+        frame,
         end,
         times,
         spare,
         queue,
     );
-    count_times(days, first, second, k, s, te, lo, end, times, counts);
-    trim(days, first, second, scratch, s, times);
+    count_times(days, first, second, frame, end, times, counts);
+    trim(days, first, second, scratch, frame.start, times);
 }
 
 // The times of the next start and their counts, from those of this one: what a start costs is what changes in it. Where that grows dear, from nothing.
@@ -80,10 +76,7 @@ pub fn next_start(
     first: &[u16],
     second: &[u16],
     scratch: &mut [u16],
-    k: u16,
-    s: u16,
-    te: u16,
-    lo: usize,
+    frame: Frame,
     next: usize,
     end: usize,
     times: &mut [u16],
@@ -91,24 +84,21 @@ pub fn next_start(
     queue: &mut [u16],
     counts: &mut [u16],
 )
-    requires { ⌜ AtStart (tableOf (now days) (now first) (now second)) (query k) te s lo (now scratch) (now times) (now spare) (now counts) ⌝ }
-    requires { ⌜ (s ≤ te) × (te ≤ 1024) × Split (now days) s lo × Split (now days) (s + 1) next × Split (now days) (te + 1) end ⌝ }
+    requires { ⌜ AtStart (tableOf (now days) (now first) (now second)) (frame .query) (frame .stop) (frame .start) (frame .lo) (now scratch) (now times) (now spare) (now counts) ⌝ }
+    requires { ⌜ (frame .start ≤ frame .stop) × (frame .stop ≤ 1024) × Split (now days) (frame .start) (frame .lo) × Split (now days) (frame .start + 1) next × Split (now days) (frame .stop + 1) end ⌝ }
     requires { ⌜ length (now queue) ≡ 4352 ⌝ }
     ensures { λ _. ⌜ (
         let t = tableOf (now (days .entry)) (now (first .entry)) (now (second .entry)) in
-        AtStart t (query k) te (s + 1) next (now (scratch .exit)) (now (times .exit)) (now (spare .exit)) (now (counts .exit))) ⌝ }
+        AtStart t (frame .query) (frame .stop) (frame .start + 1) next (now (scratch .exit)) (now (times .exit)) (now (spare .exit)) (now (counts .exit))) ⌝ }
 {
-    drop_rows(days, first, second, k, s, te, lo, next, end, times, counts);
-    pass_heads(days, first, second, scratch, lo, next);
+    drop_rows(days, first, second, frame, next, end, times, counts);
+    pass_heads(days, first, second, scratch, frame.lo, next);
     let risen = step(
         days,
         first,
         second,
         scratch,
-        k,
-        s,
-        te,
-        lo,
+        frame,
         next,
         end,
         times,
@@ -120,15 +110,13 @@ pub fn next_start(
     if risen <= 4352 {
         return;
     }
+    let after = next_frame(frame, next);
     first_start(
         days,
         first,
         second,
         scratch,
-        k,
-        s + 1,
-        te,
-        next,
+        after,
         end,
         times,
         spare,
@@ -142,22 +130,19 @@ pub fn first_time(
     days: &[u16],
     first: &[u16],
     second: &[u16],
-    k: u16,
-    s: u16,
-    te: u16,
-    lo: usize,
+    frame: Frame,
     next: usize,
     end: usize,
     times: &[u16],
 ) -> u16
-    requires { ⌜ TimesAt (tableOf (now days) (now first) (now second)) (query k) te s lo (now times) ⌝ }
-    requires { ⌜ (s ≤ te) × Split (now days) s lo × Split (now days) (s + 1) next × Split (now days) (te + 1) end ⌝ }
-    ensures { λ r. ⌜ Earliest (tableOf (now (days .entry)) (now (first .entry)) (now (second .entry))) (query k) te s r ⌝ }
+    requires { ⌜ TimesAt (tableOf (now days) (now first) (now second)) (frame .query) (frame .stop) (frame .start) (frame .lo) (now times) ⌝ }
+    requires { ⌜ (frame .start ≤ frame .stop) × Split (now days) (frame .start) (frame .lo) × Split (now days) (frame .start + 1) next × Split (now days) (frame .stop + 1) end ⌝ }
+    ensures { λ r. ⌜ Earliest (tableOf (now (days .entry)) (now (first .entry)) (now (second .entry))) (frame .query) (frame .stop) (frame .start) r ⌝ }
 {
     let mut least = 65535;
-    let mut j = lo;
+    let mut j = frame.lo;
     while j < next {
-        let time = row_time(days, first, second, k, s, te, lo, end, times, j);
+        let time = row_time(days, first, second, frame, end, times, j);
         least = lesser(least, time);
         j += 1;
     }

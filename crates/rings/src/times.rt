@@ -14,6 +14,7 @@ use crate::Query;
 use crate::checks::are_equal;
 use crate::checks::check_call;
 use crate::checks::is_start;
+use crate::frame::Frame;
 use crate::links::clear;
 use crate::links::entry;
 use crate::links::link;
@@ -34,21 +35,18 @@ pub(crate) fn row_time(
     days: &[u16],
     first: &[u16],
     second: &[u16],
-    k: u16,
-    start: u16,
-    stop: u16,
-    lo: usize,
+    frame: Frame,
     end: usize,
     times: &[u16],
     j: usize,
 ) -> u16
-    requires { ⌜ Framed (now days) (now first) (now second) (season k start stop lo) ⌝ }
-    requires { ⌜ Span (now days) stop lo end ⌝ }
-    requires { ⌜ CoreTimesAre (now days) (now first) (now second) (season k start stop lo) (now times) ⌝ }
+    requires { ⌜ Framed (now days) (now first) (now second) frame ⌝ }
+    requires { ⌜ Span (now days) (frame .stop) (frame .lo) end ⌝ }
+    requires { ⌜ CoreTimesAre (now days) (now first) (now second) frame (now times) ⌝ }
     requires { ⌜ j < length (now days) ⌝ }
-    ensures { λ r. ⌜ r ≡ rowTime (tableOf (now (days .entry)) (now (first .entry)) (now (second .entry))) (query k) stop start j ⌝ }
+    ensures { λ r. ⌜ r ≡ rowTime (tableOf (now (days .entry)) (now (first .entry)) (now (second .entry))) (frame .query) (frame .stop) (frame .start) j ⌝ }
 {
-    if j < lo {
+    if j < frame.lo {
         return 65535;
     }
     if end <= j {
@@ -64,23 +62,20 @@ fn time_rows(
     days: &[u16],
     first: &[u16],
     second: &[u16],
-    k: u16,
-    start: u16,
-    stop: u16,
-    lo: usize,
+    frame: Frame,
     end: usize,
     times: &[u16],
     rows: &mut [u16],
 )
-    requires { ⌜ Framed (now days) (now first) (now second) (season k start stop lo) ⌝ }
-    requires { ⌜ Span (now days) stop lo end ⌝ }
-    requires { ⌜ CoreTimesAre (now days) (now first) (now second) (season k start stop lo) (now times) ⌝ }
+    requires { ⌜ Framed (now days) (now first) (now second) frame ⌝ }
+    requires { ⌜ Span (now days) (frame .stop) (frame .lo) end ⌝ }
+    requires { ⌜ CoreTimesAre (now days) (now first) (now second) frame (now times) ⌝ }
     requires { ⌜ length (now rows) ≡ length (now days) ⌝ }
-    ensures { λ _. ⌜ now (rows .exit) ≡ run (rowTime (tableOf (now (days .entry)) (now (first .entry)) (now (second .entry))) (query k) stop start) 0 (length (now (days .entry))) ⌝ }
+    ensures { λ _. ⌜ now (rows .exit) ≡ run (rowTime (tableOf (now (days .entry)) (now (first .entry)) (now (second .entry))) (frame .query) (frame .stop) (frame .start)) 0 (length (now (days .entry))) ⌝ }
 {
     let mut j = 0;
     while j < days.len() {
-        rows[j] = row_time(days, first, second, k, start, stop, lo, end, times, j);
+        rows[j] = row_time(days, first, second, frame, end, times, j);
         j += 1;
     }
 }
@@ -112,16 +107,31 @@ fn find_times(
         first,
         second,
         scratch,
-        k,
-        s,
-        te,
-        lo,
+        Frame {
+            query: Query { k: k },
+            start: s,
+            stop: te,
+            lo: lo,
+        },
         end,
         accounts,
         &mut left,
         &mut queue,
     );
-    time_rows(days, first, second, k, s, te, lo, end, accounts, rows);
+    time_rows(
+        days,
+        first,
+        second,
+        Frame {
+            query: Query { k: k },
+            start: s,
+            stop: te,
+            lo: lo,
+        },
+        end,
+        accounts,
+        rows,
+    );
     clear(scratch);
 }
 

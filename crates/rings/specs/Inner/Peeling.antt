@@ -7,7 +7,7 @@
 --     Degrees      d counts the rows that count, and no account below b that has not fallen has fewer than k; who has fallen has fewer, and the rows that count at least
 --     Times        x is a lower bound of the core times, closed at the fallen; no core time that is still open passes e
 --     Fall         all of it
---     season       the frame of a start, by its numbers
+--     season, nextFrame    the frame of a start by its numbers, and that of the start after it
 --     Ready        what peeling works on: an accepted table, its links with the heads at the first day, and the setting
 --     Framed       the same without links
 --     Placed       with the earlier rows alone
@@ -133,6 +133,10 @@ pub record Walk (t : Table) (q : Query) (s hi lo b e r head tail u : ℕ) (x d w
 -- the frame of a start, by its numbers
 abbrev pub season : ℕ → ℕ → ℕ → ℕ → Frame
 season k s e lo = record { query = query k; start = s; stop = e; lo = lo }
+
+-- the frame of the start after it, whose first row is lo
+abbrev pub nextFrame : Frame → ℕ → Frame
+nextFrame p lo = record { query = p .query; start = p .start + 1; stop = p .stop; lo = lo }
 
 pub record Ready (d f s links : List ℕ) (p : Frame) : Type 0 where
   pub sound : Sound d f s

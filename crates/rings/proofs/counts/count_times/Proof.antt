@@ -18,10 +18,10 @@ use Rattle.rings.proofs.links.clear.Reads as clear-reads
 use Rattle.rings.proofs.times.row_time.Reads as row-time-reads
 
 abbrev Inv-loop : tie.InvT-loop
-Inv-loop days first second k s te lo end times counts₀ j₀ counts j = (lo ≤ j) × (j ≤ end) × Histogram (rowTime (tableOf days first second) (query k) te s) j counts
+Inv-loop days first second frame end times counts₀ j₀ counts j = (frame .lo ≤ j) × (j ≤ end) × Histogram (rowTime (tableOf days first second) (frame .query) (frame .stop) (frame .start)) j counts
 
 abbrev μ-loop : tie.MeasureT-loop
-μ-loop days first second k s te lo end times counts₀ j₀ counts j = end - j
+μ-loop days first second frame end times counts₀ j₀ counts j = end - j
 
 -- src/counts.rt:83:5
 clear-requires : tie.Need-clear-requires Inv-loop μ-loop

@@ -16,10 +16,10 @@ use Rattle.rings.proofs.counts.drop_count.Reads as drop-count-reads
 use Rattle.rings.proofs.times.row_time.Reads as row-time-reads
 
 abbrev Inv-loop : tie.InvT-loop
-Inv-loop days first second k s te lo next end times counts₀ j₀ counts j = (lo ≤ j) × (j ≤ next) × Histogram (mixed (rowTime (tableOf days first second) (query k) te s) (timeBy (tableOf days first second) (guess times) (s + 1) te) j) (length days) counts
+Inv-loop days first second frame next end times counts₀ j₀ counts j = (frame .lo ≤ j) × (j ≤ next) × Histogram (mixed (rowTime (tableOf days first second) (frame .query) (frame .stop) (frame .start)) (timeBy (tableOf days first second) (guess times) (frame .start + 1) (frame .stop)) j) (length days) counts
 
 abbrev μ-loop : tie.MeasureT-loop
-μ-loop days first second k s te lo next end times counts₀ j₀ counts j = next - j
+μ-loop days first second frame next end times counts₀ j₀ counts j = next - j
 
 -- src/counts.rt:112:5
 loop-holds : tie.Need-loop-holds Inv-loop μ-loop

@@ -24,10 +24,10 @@ use Rattle.rings.proofs.peel.is_first.Reads as is-first-reads
 use Rattle.rings.proofs.times.greater.Reads as greater-reads
 
 abbrev Inv-loop : tie.InvT-loop
-Inv-loop days first second links k start stop lo times u from c tail queue₀ n last p₀ count₀ above₀ more₀ moved₀ end₀ queue p count above more moved end = (n ≡ length days) × (last ≡ getD links u 0) × Gathering days first second links (season k start stop lo) times u c tail queue₀ p count above more moved end queue × (from ≤ p) × (p ≤ 32768) × (end + from ≤ tail + p)
+Inv-loop days first second links frame times u from c tail queue₀ n last p₀ count₀ above₀ more₀ moved₀ end₀ queue p count above more moved end = (n ≡ length days) × (last ≡ getD links u 0) × Gathering days first second links frame times u c tail queue₀ p count above more moved end queue × (from ≤ p) × (p ≤ 32768) × (end + from ≤ tail + p)
 
 abbrev μ-loop : tie.MeasureT-loop
-μ-loop days first second links k start stop lo times u from c tail queue₀ n last p₀ count₀ above₀ more₀ moved₀ end₀ queue p count above more moved end = last - p
+μ-loop days first second links frame times u from c tail queue₀ n last p₀ count₀ above₀ more₀ moved₀ end₀ queue p count above more moved end = last - p
 
 -- src/look.rt:166:9
 entry-requires : tie.Need-entry-requires Inv-loop μ-loop
@@ -95,8 +95,8 @@ is-over-requires : tie.Need-is-over-requires Inv-loop μ-loop
 is-over-requires c κs = search needs
 
 -- src/look.rt:183:25
-sub-t38 : tie.Need-sub-t38 Inv-loop μ-loop
-sub-t38 c =
+sub-t35 : tie.Need-sub-t35 Inv-loop μ-loop
+sub-t35 c =
     let loop = c .before .before .before .before .before .loop in
     omega (arith, loop .inv .3)
 
@@ -346,8 +346,8 @@ loop-again c =
     )
 
 -- src/look.rt:208:17
-sub-t45 : tie.Need-sub-t45 Inv-loop μ-loop
-sub-t45 c =
+sub-t42 : tie.Need-sub-t42 Inv-loop μ-loop
+sub-t42 c =
     let loop = c .before .loop in
     omega (arith, loop .inv .3)
 
@@ -375,8 +375,4 @@ pub gather-spec : {M : Type 1} → statement M
 gather-spec =
     tie.close
     (
-    tie.spec Inv-loop μ-loop entry-requires loop-holds add-entry entry-requires-2 mul-day shared-slice-read-day
-    is-over-requires sub-t38 same-length returns add-p is-first-requires entry-requires-3 entry-requires-4
-    other-requires mul-x shared-slice-read-x greater-requires put-requires one-requires wide-requires add-end
-    one-requires-2 add-moved note-requires loop-less loop-again sub-t45 same-length-2 returns-2
-    )
+    tie.spec Inv-loop μ-loop entry-requires loop-holds add-entry entry-requires-2 mul-day shared-slice-read-day is-over-requires sub-t35 same-length returns add-p is-first-requires entry-requires-3 entry-requires-4 other-requires mul-x shared-slice-read-x greater-requires put-requires one-requires wide-requires add-end one-requires-2 add-moved note-requires loop-less loop-again sub-t42 same-length-2 returns-2)

@@ -14,10 +14,10 @@ use Rattle.rings.proofs.look.look.Lts as lts
 use Rattle.rings.proofs.look.look_at.Reads as look-at-reads
 
 abbrev Inv-loop : tie.InvT-loop
-Inv-loop days first second links k start stop lo times u from day budget walked₀ c₀ walked c = Short (tableOf days first second) (guess times) start k stop (getD times u 0) u c × (walked ≤ budget + 32768)
+Inv-loop days first second links frame times u from day budget walked₀ c₀ walked c = Short (tableOf days first second) (guess times) (frame .start) (frame .query .k) (frame .stop) (getD times u 0) u c × (walked ≤ budget + 32768)
 
 abbrev μ-loop : tie.MeasureT-loop
-μ-loop days first second links k start stop lo times u from day budget walked₀ c₀ walked c = 65535 - c
+μ-loop days first second links frame times u from day budget walked₀ c₀ walked c = 65535 - c
 
 -- src/look.rt:249:5
 loop-holds : tie.Need-loop-holds Inv-loop μ-loop
@@ -58,26 +58,26 @@ add-walked c =
     omega (arith, look-at .ensures .1, if1 .left, pre .1 .0 .3)
 
 -- src/look.rt:275:24
-add-t19 : tie.Need-add-t19 Inv-loop μ-loop
-add-t19 c =
-    let look-at = c .before .before .before .before .look-at in
+add-t16 : tie.Need-add-t16 Inv-loop μ-loop
+add-t16 c =
+    let look-at = c .before .before .before .before .before .look-at in
     omega (arith, look-at .ensures .2)
 
 -- src/look.rt:275:24
-sub-t20 : tie.Need-sub-t20 Inv-loop μ-loop
-sub-t20 c =
-    let if2 = c .before .if2 in
+sub-t17 : tie.Need-sub-t17 Inv-loop μ-loop
+sub-t17 c =
+    let if2 = c .before .before .if2 in
     omega (arith, if2 .taken)
 
 -- src/look.rt:273:13
 returns-2 : tie.Need-returns-2 Inv-loop μ-loop
 returns-2 c =
-    let if2 = c .before .if2 in
-    let look-at = c .before .before .before .before .look-at in
-    let if1 = c .before .before .before .before .before .if1 in
-    let loop-test = c .before .before .before .before .before .before .loop-test in
-    let loop = c .before .before .before .before .before .before .before .loop in
-    let pre = c .before .before .before .before .before .before .before .before .before .before .before .before .before .pre in (
+    let if2 = c .before .before .if2 in
+    let look-at = c .before .before .before .before .before .before .look-at in
+    let if1 = c .before .before .before .before .before .before .before .if1 in
+    let loop-test = c .before .before .before .before .before .before .before .before .loop-test in
+    let loop = c .before .before .before .before .before .before .before .before .before .loop in
+    let pre = c .before .before .before .before .before .before .before .before .before .before .before .before .before .before .before .pre in (
       λ z. look-found _ _ _ _ _ (pre .0 .setting) _ (loop .inv .0 .fewer) (loop .inv .0 .from) (look-at .ensures .0)
           (if2 .taken) (⊎-elim (λ h. h) (λ h. absurd (omega (arith, h, loop-test .taken))) (loop .inv .0 .day)) refl,
       omega (arith, look-at .ensures .1, if1 .left, pre .1 .0 .3),
@@ -87,10 +87,10 @@ returns-2 c =
 returns-3 : tie.Need-returns-3 Inv-loop μ-loop
 returns-3 c =
     let if2 = c .before .if2 in
-    let look-at = c .before .before .before .before .look-at in
-    let if1 = c .before .before .before .before .before .if1 in
-    let loop = c .before .before .before .before .before .before .before .loop in
-    let pre = c .before .before .before .before .before .before .before .before .before .before .before .before .before .pre in (
+    let look-at = c .before .before .before .before .before .look-at in
+    let if1 = c .before .before .before .before .before .before .if1 in
+    let loop = c .before .before .before .before .before .before .before .before .loop in
+    let pre = c .before .before .before .before .before .before .before .before .before .before .before .before .before .before .pre in (
       λ z. look-never _ _ _ _ _ (pre .0 .setting) _
           (short-next _ _ _ _ _ (pre .0 .setting) _ (loop .inv .0) (look-at .ensures .0) (if2 .left) .fewer)
           (short-next _ _ _ _ _ (pre .0 .setting) _ (loop .inv .0) (look-at .ensures .0) (if2 .left) .from)
@@ -101,41 +101,41 @@ returns-3 c =
 -- src/look.rt:287:20
 add-both : tie.Need-add-both Inv-loop μ-loop
 add-both c =
-    let look-at = c .before .before .before .before .before .look-at in
-    omega (arith, look-at .ensures .2)
-
--- src/look.rt:291:24
-add-t21 : tie.Need-add-t21 Inv-loop μ-loop
-add-t21 c =
     let look-at = c .before .before .before .before .before .before .look-at in
     omega (arith, look-at .ensures .2)
 
 -- src/look.rt:291:24
-sub-t22 : tie.Need-sub-t22 Inv-loop μ-loop
-sub-t22 c = omega (arith, c .if4 .taken)
+add-t18 : tie.Need-add-t18 Inv-loop μ-loop
+add-t18 c =
+    let look-at = c .before .before .before .before .before .before .before .before .look-at in
+    omega (arith, look-at .ensures .2)
+
+-- src/look.rt:291:24
+sub-t19 : tie.Need-sub-t19 Inv-loop μ-loop
+sub-t19 c = omega (arith, c .before .if4 .taken)
 
 -- src/look.rt:289:13
 returns-4 : tie.Need-returns-4 Inv-loop μ-loop
 returns-4 c =
-    let if3 = c .before .before .if3 in
-    let if2 = c .before .before .before .if2 in
-    let look-at = c .before .before .before .before .before .before .look-at in
-    let if1 = c .before .before .before .before .before .before .before .if1 in
-    let loop = c .before .before .before .before .before .before .before .before .before .loop in
-    let pre = c .before .before .before .before .before .before .before .before .before .before .before .before .before .before .before .pre in (
+    let if3 = c .before .before .before .before .if3 in
+    let if2 = c .before .before .before .before .before .if2 in
+    let look-at = c .before .before .before .before .before .before .before .before .before .look-at in
+    let if1 = c .before .before .before .before .before .before .before .before .before .before .if1 in
+    let loop = c .before .before .before .before .before .before .before .before .before .before .before .before .loop in
+    let pre = c .before .before .before .before .before .before .before .before .before .before .before .before .before .before .before .before .before .before .pre in (
       λ z. look-then _ _ _ _ _ (pre .0 .setting) _ (loop .inv .0 .fewer) (loop .inv .0 .from) (look-at .ensures .0)
-          (if2 .left) (if3 .left) (c .if4 .taken) refl,
+          (if2 .left) (if3 .left) (c .before .if4 .taken) refl,
       omega (arith, look-at .ensures .1, if1 .left, pre .1 .0 .3),
     )
 
 -- src/look.rt:249:5
 loop-less : tie.Need-loop-less Inv-loop μ-loop
 loop-less c =
-    let if2 = c .before .before .before .if2 in
-    let look-at = c .before .before .before .before .before .before .look-at in
-    let loop-test = c .before .before .before .before .before .before .before .before .loop-test in
-    let loop = c .before .before .before .before .before .before .before .before .before .loop in
-    let pre = c .before .before .before .before .before .before .before .before .before .before .before .before .before .before .before .pre in
+    let if2 = c .before .before .before .before .if2 in
+    let look-at = c .before .before .before .before .before .before .before .before .look-at in
+    let loop-test = c .before .before .before .before .before .before .before .before .before .before .loop-test in
+    let loop = c .before .before .before .before .before .before .before .before .before .before .before .loop in
+    let pre = c .before .before .before .before .before .before .before .before .before .before .before .before .before .before .before .before .before .pre in
     omega (
       arith,
       look-next _ _ _ _ _ (pre .0 .setting) _ (loop .inv .0 .fewer) (look-at .ensures .0) (if2 .left) .1,
@@ -145,11 +145,11 @@ loop-less c =
 -- src/look.rt:249:5
 loop-again : tie.Need-loop-again Inv-loop μ-loop
 loop-again c =
-    let if2 = c .before .before .before .if2 in
-    let look-at = c .before .before .before .before .before .before .look-at in
-    let if1 = c .before .before .before .before .before .before .before .if1 in
-    let loop = c .before .before .before .before .before .before .before .before .before .loop in
-    let pre = c .before .before .before .before .before .before .before .before .before .before .before .before .before .before .before .pre in (
+    let if2 = c .before .before .before .before .if2 in
+    let look-at = c .before .before .before .before .before .before .before .before .look-at in
+    let if1 = c .before .before .before .before .before .before .before .before .before .if1 in
+    let loop = c .before .before .before .before .before .before .before .before .before .before .before .loop in
+    let pre = c .before .before .before .before .before .before .before .before .before .before .before .before .before .before .before .before .before .pre in (
       short-next _ _ _ _ _ (pre .0 .setting) _ (loop .inv .0) (look-at .ensures .0) (if2 .left),
       omega (arith, look-at .ensures .1, if1 .left),
     )
@@ -171,6 +171,4 @@ pub look-spec : {M : Type 1} → statement M
 look-spec =
     tie.close
     (
-    tie.spec Inv-loop μ-loop loop-holds returns look-at-requires add-walked add-t19 sub-t20 returns-2 returns-3
-    add-both add-t21 sub-t22 returns-4 loop-less loop-again returns-5
-    )
+    tie.spec Inv-loop μ-loop loop-holds returns look-at-requires add-walked add-t16 sub-t17 returns-2 returns-3 add-both add-t18 sub-t19 returns-4 loop-less loop-again returns-5)

@@ -21,10 +21,10 @@ use Rattle.rings.proofs.peel.is_first.Reads as is-first-reads
 use Rattle.rings.proofs.times.greater.Reads as greater-reads
 
 abbrev Inv-loop : tie.InvT-loop
-Inv-loop days first second links k start stop lo times u from c n last p₀ count₀ above₀ more₀ p count above more = (n ≡ length days) × (last ≡ getD links u 0) × Glance days first second links (season k start stop lo) times u c p count above more × (from ≤ p) × (p ≤ 32768)
+Inv-loop days first second links frame times u from c n last p₀ count₀ above₀ more₀ p count above more = (n ≡ length days) × (last ≡ getD links u 0) × Glance days first second links frame times u c p count above more × (from ≤ p) × (p ≤ 32768)
 
 abbrev μ-loop : tie.MeasureT-loop
-μ-loop days first second links k start stop lo times u from c n last p₀ count₀ above₀ more₀ p count above more = last - p
+μ-loop days first second links frame times u from c n last p₀ count₀ above₀ more₀ p count above more = last - p
 
 -- src/look.rt:95:9
 entry-requires : tie.Need-entry-requires Inv-loop μ-loop
@@ -90,8 +90,8 @@ is-over-requires : tie.Need-is-over-requires Inv-loop μ-loop
 is-over-requires c κs = search needs
 
 -- src/look.rt:108:25
-sub-t32 : tie.Need-sub-t32 Inv-loop μ-loop
-sub-t32 c =
+sub-t29 : tie.Need-sub-t29 Inv-loop μ-loop
+sub-t29 c =
     let loop = c .before .before .before .before .before .loop in
     omega (arith, loop .inv .3)
 
@@ -268,8 +268,8 @@ loop-again c =
     )
 
 -- src/look.rt:126:17
-sub-t34 : tie.Need-sub-t34 Inv-loop μ-loop
-sub-t34 c =
+sub-t31 : tie.Need-sub-t31 Inv-loop μ-loop
+sub-t31 c =
     let loop = c .before .loop in
     omega (arith, loop .inv .3)
 
@@ -289,8 +289,4 @@ pub look-at-spec : {M : Type 1} → statement M
 look-at-spec =
     tie.close
     (
-    tie.spec Inv-loop μ-loop entry-requires loop-holds add-entry entry-requires-2 mul-day shared-slice-read-day
-    is-over-requires sub-t32 returns add-p is-first-requires entry-requires-3 entry-requires-4 other-requires
-    mul-greater shared-slice-read-greater greater-requires pick-requires note-requires loop-less loop-again
-    sub-t34 returns-2
-    )
+    tie.spec Inv-loop μ-loop entry-requires loop-holds add-entry entry-requires-2 mul-day shared-slice-read-day is-over-requires sub-t29 returns add-p is-first-requires entry-requires-3 entry-requires-4 other-requires mul-greater shared-slice-read-greater greater-requires pick-requires note-requires loop-less loop-again sub-t31 returns-2)

@@ -22,10 +22,10 @@ use Rattle.rings.proofs.loss.lose.Reads as lose-reads
 use Rattle.rings.proofs.times.greater.Reads as greater-reads
 
 abbrev Inv-loop : tie.InvT-loop
-Inv-loop days first second links k start stop lo times u from old new tail spare₀ queue₀ counting counts₀ n last until p₀ end₀ moved₀ spare queue counts p end moved = (n ≡ length days) × (last ≡ getD links u 0) × (length counts ≡ length counts₀) × Surge days first second links (season k start stop lo) times u old new tail spare₀ queue₀ counting counts₀ p end moved spare queue counts
+Inv-loop days first second links frame times u from old new tail spare₀ queue₀ counting counts₀ n last until p₀ end₀ moved₀ spare queue counts p end moved = (n ≡ length days) × (last ≡ getD links u 0) × (length counts ≡ length counts₀) × Surge days first second links frame times u old new tail spare₀ queue₀ counting counts₀ p end moved spare queue counts
 
 abbrev μ-loop : tie.MeasureT-loop
-μ-loop days first second links k start stop lo times u from old new tail spare₀ queue₀ counting counts₀ n last until p₀ end₀ moved₀ spare queue counts p end moved = last - p
+μ-loop days first second links frame times u from old new tail spare₀ queue₀ counting counts₀ n last until p₀ end₀ moved₀ spare queue counts p end moved = last - p
 
 -- src/settle.rt:271:9
 entry-requires : tie.Need-entry-requires Inv-loop μ-loop
@@ -36,7 +36,7 @@ entry-requires c κs =
 -- src/settle.rt:272:29
 add-lesser : tie.Need-add-lesser Inv-loop μ-loop
 add-lesser c =
-    let pre = c .before .before .before .before .before .before .before .before .before .pre in
+    let pre = c .before .before .before .before .before .before .before .before .before .before .pre in
     omega (arith, pre .0 .setting .fits)
 
 -- src/settle.rt:272:9
@@ -46,8 +46,8 @@ lesser-requires c κs = search needs
 -- src/settle.rt:276:5
 loop-holds : tie.Need-loop-holds Inv-loop μ-loop
 loop-holds c =
-    let entry = c .before .entry in
-    let pre = c .before .before .before .before .before .before .before .before .before .before .pre in (
+    let entry = c .before .before .entry in
+    let pre = c .before .before .before .before .before .before .before .before .before .before .before .pre in (
       refl,
       entry .ensures,
       refl,
@@ -59,7 +59,7 @@ loop-holds c =
 add-entry : tie.Need-add-entry Inv-loop μ-loop
 add-entry c =
     let loop = c .before .loop in
-    let pre = c .before .before .before .before .before .before .before .before .before .before .before .before .pre in
+    let pre = c .before .before .before .before .before .before .before .before .before .before .before .before .before .pre in
     omega (
       arith,
       reading-few _ _ _ _ (pre .0 .sound) (pre .0 .shelves) (pre .1 .0 .0) (loop .inv .3 .wave .reading)
@@ -70,7 +70,7 @@ add-entry c =
 entry-requires-2 : tie.Need-entry-requires-2 Inv-loop μ-loop
 entry-requires-2 c κs =
     let loop = c .before .loop in
-    let pre = c .before .before .before .before .before .before .before .before .before .before .before .before .pre in
+    let pre = c .before .before .before .before .before .before .before .before .before .before .before .before .before .pre in
     reading-place _ _ _ _ (pre .0 .sound) (pre .0 .shelves) (pre .1 .0 .0) (loop .inv .3 .wave .reading) (loop .inv .1)
     (c .loop-test .taken)
 
@@ -79,7 +79,7 @@ mul-day : tie.Need-mul-day Inv-loop μ-loop
 mul-day c =
     let loop-test = c .before .loop-test in
     let loop = c .before .before .loop in
-    let pre = c .before .before .before .before .before .before .before .before .before .before .before .before .before .pre in
+    let pre = c .before .before .before .before .before .before .before .before .before .before .before .before .before .before .pre in
     omega (
       arith,
       reading-row _ _ _ _ (pre .0 .sound) (pre .0 .shelves) (pre .1 .0 .0) (loop .inv .3 .wave .reading)
@@ -93,7 +93,7 @@ shared-slice-read-day c =
     let entry2 = c .before .entry2 in
     let loop-test = c .before .before .loop-test in
     let loop = c .before .before .before .loop in
-    let pre = c .before .before .before .before .before .before .before .before .before .before .before .before .before .before .pre in
+    let pre = c .before .before .before .before .before .before .before .before .before .before .before .before .before .before .before .pre in
     reading-row _ _ _ _ (pre .0 .sound) (pre .0 .shelves) (pre .1 .0 .0) (loop .inv .3 .wave .reading) (loop .inv .1)
     (loop-test .taken) (entry2 .ensures)
 
@@ -105,8 +105,8 @@ pay-counts-requires c κs =
     let loop-test = c .before .before .before .before .loop-test in
     let loop = c .before .before .before .before .before .loop in
     let lesser = c .before .before .before .before .before .before .lesser in
-    let args = c .before .before .before .before .before .before .before .before .before .before .before .before .before .before .before .before .args in
-    let pre = c .before .before .before .before .before .before .before .before .before .before .before .before .before .before .before .before .pre in
+    let args = c .before .before .before .before .before .before .before .before .before .before .before .before .before .before .before .before .before .args in
+    let pre = c .before .before .before .before .before .before .before .before .before .before .before .before .before .before .before .before .before .pre in
     λ h. surge-pays (args .times .now) (pre .0) (pre .1 .0 .0) (pre .1 .0 .6) (pre .1 .0 .7) (pre .1 .1 h .top)
     (
     surge-stop _ _ _ _ _ (pre .0) _ (pre .1 .0 .1) (pre .1 .0 .0) (pre .1 .0 .5) (pre .1 .0 .6) _ _ (pre .1 .0 .7) _
@@ -118,14 +118,14 @@ pay-counts-requires c κs =
 same-length : tie.Need-same-length Inv-loop μ-loop
 same-length c =
     let loop = c .before .before .before .before .before .before .before .before .loop in
-    let pre = c .before .before .before .before .before .before .before .before .before .before .before .before .before .before .before .before .before .before .before .pre in
+    let pre = c .before .before .before .before .before .before .before .before .before .before .before .before .before .before .before .before .before .before .before .before .pre in
     loop .inv .3 .wave .done .long ∙ sym (pre .1 .0 .2)
 
 -- src/settle.rt:281:13
 same-length-2 : tie.Need-same-length-2 Inv-loop μ-loop
 same-length-2 c =
     let loop = c .before .before .before .before .before .before .before .before .loop in
-    let pre = c .before .before .before .before .before .before .before .before .before .before .before .before .before .before .before .before .before .before .before .pre in
+    let pre = c .before .before .before .before .before .before .before .before .before .before .before .before .before .before .before .before .before .before .before .before .pre in
     loop .inv .3 .wave .queued .long ∙ sym (pre .1 .0 .3)
 
 -- src/settle.rt:281:13
@@ -143,7 +143,7 @@ returns c =
     let loop-test = c .before .before .before .before .before .before .before .loop-test in
     let loop = c .before .before .before .before .before .before .before .before .loop in
     let lesser = c .before .before .before .before .before .before .before .before .before .lesser in
-    let pre = c .before .before .before .before .before .before .before .before .before .before .before .before .before .before .before .before .before .before .before .pre in (
+    let pre = c .before .before .before .before .before .before .before .before .before .before .before .before .before .before .before .before .before .before .before .before .pre in (
       λ h. surge-stop _ _ _ _ _ (pre .0) _ (pre .1 .0 .1) (pre .1 .0 .0) (pre .1 .0 .5) (pre .1 .0 .6) _ _
           (pre .1 .0 .7) _ _ _ _ (loop .inv .3) (loop .inv .1) (loop-test .taken) (entry2 .ensures) refl (lesser .ensures)
           (if1 .taken) .0,
@@ -159,14 +159,14 @@ returns c =
 same-length-4 : tie.Need-same-length-4 Inv-loop μ-loop
 same-length-4 c =
     let loop = c .before .before .before .before .before .loop in
-    let pre = c .before .before .before .before .before .before .before .before .before .before .before .before .before .before .before .before .pre in
+    let pre = c .before .before .before .before .before .before .before .before .before .before .before .before .before .before .before .before .before .pre in
     loop .inv .3 .wave .done .long ∙ sym (pre .1 .0 .2)
 
 -- src/settle.rt:284:13
 same-length-5 : tie.Need-same-length-5 Inv-loop μ-loop
 same-length-5 c =
     let loop = c .before .before .before .before .before .loop in
-    let pre = c .before .before .before .before .before .before .before .before .before .before .before .before .before .before .before .before .pre in
+    let pre = c .before .before .before .before .before .before .before .before .before .before .before .before .before .before .before .before .before .pre in
     loop .inv .3 .wave .queued .long ∙ sym (pre .1 .0 .3)
 
 -- src/settle.rt:284:13
@@ -186,7 +186,7 @@ add-p : tie.Need-add-p Inv-loop μ-loop
 add-p c =
     let loop-test = c .before .before .before .before .loop-test in
     let loop = c .before .before .before .before .before .loop in
-    let pre = c .before .before .before .before .before .before .before .before .before .before .before .before .before .before .before .before .pre in
+    let pre = c .before .before .before .before .before .before .before .before .before .before .before .before .before .before .before .before .before .pre in
     omega (
       arith,
       reading-few _ _ _ _ (pre .0 .sound) (pre .0 .shelves) (pre .1 .0 .0) (loop .inv .3 .wave .reading)
@@ -199,7 +199,7 @@ is-first-requires c κs =
     let entry2 = c .before .before .before .entry2 in
     let loop-test = c .before .before .before .before .loop-test in
     let loop = c .before .before .before .before .before .loop in
-    let pre = c .before .before .before .before .before .before .before .before .before .before .before .before .before .before .before .before .pre in
+    let pre = c .before .before .before .before .before .before .before .before .before .before .before .before .before .before .before .before .before .pre in
     rw (loop .inv .0)
     (
     let a = reading-fresh-place _ _ _ _ (pre .0 .sound) (pre .0 .shelves) (pre .1 .0 .0)
@@ -218,7 +218,7 @@ entry-requires-3 c κs =
     let entry2 = c .before .before .before .before .entry2 in
     let loop-test = c .before .before .before .before .before .loop-test in
     let loop = c .before .before .before .before .before .before .loop in
-    let pre = c .before .before .before .before .before .before .before .before .before .before .before .before .before .before .before .before .before .pre in
+    let pre = c .before .before .before .before .before .before .before .before .before .before .before .before .before .before .before .before .before .before .pre in
     omega (
       arith,
       reading-row _ _ _ _ (pre .0 .sound) (pre .0 .shelves) (pre .1 .0 .0) (loop .inv .3 .wave .reading)
@@ -232,7 +232,7 @@ entry-requires-4 c κs =
     let entry2 = c .before .before .before .before .before .entry2 in
     let loop-test = c .before .before .before .before .before .before .loop-test in
     let loop = c .before .before .before .before .before .before .before .loop in
-    let pre = c .before .before .before .before .before .before .before .before .before .before .before .before .before .before .before .before .before .before .pre in
+    let pre = c .before .before .before .before .before .before .before .before .before .before .before .before .before .before .before .before .before .before .before .pre in
     omega (
       arith,
       reading-row _ _ _ _ (pre .0 .sound) (pre .0 .shelves) (pre .1 .0 .0) (loop .inv .3 .wave .reading)
@@ -247,7 +247,7 @@ other-requires c κs =
     let entry2 = c .before .before .before .before .before .before .entry2 in
     let loop-test = c .before .before .before .before .before .before .before .loop-test in
     let loop = c .before .before .before .before .before .before .before .before .loop in
-    let pre = c .before .before .before .before .before .before .before .before .before .before .before .before .before .before .before .before .before .before .before .pre in
+    let pre = c .before .before .before .before .before .before .before .before .before .before .before .before .before .before .before .before .before .before .before .before .pre in
     reading-ends _ _ _ _ (pre .0 .sound) (pre .0 .shelves) (pre .1 .0 .0) (loop .inv .3 .wave .reading) (loop .inv .1)
     (loop-test .taken) (entry2 .ensures) (entry3 .ensures) (c .entry4 .ensures)
 
@@ -259,7 +259,7 @@ mul-z c =
     let entry2 = c .before .before .before .before .before .before .before .entry2 in
     let loop-test = c .before .before .before .before .before .before .before .before .loop-test in
     let loop = c .before .before .before .before .before .before .before .before .before .loop in
-    let pre = c .before .before .before .before .before .before .before .before .before .before .before .before .before .before .before .before .before .before .before .before .pre in
+    let pre = c .before .before .before .before .before .before .before .before .before .before .before .before .before .before .before .before .before .before .before .before .before .pre in
     omega (
       arith,
       wave-small _ _ _ _ _ (pre .0) _ (pre .1 .0 .1) (pre .1 .0 .0) (pre .1 .0 .5) (pre .1 .0 .6) _ _ (pre .1 .0 .7) _
@@ -276,7 +276,7 @@ shared-slice-read-z c =
     let entry2 = c .before .before .before .before .before .before .before .before .entry2 in
     let loop-test = c .before .before .before .before .before .before .before .before .before .loop-test in
     let loop = c .before .before .before .before .before .before .before .before .before .before .loop in
-    let pre = c .before .before .before .before .before .before .before .before .before .before .before .before .before .before .before .before .before .before .before .before .before .pre in
+    let pre = c .before .before .before .before .before .before .before .before .before .before .before .before .before .before .before .before .before .before .before .before .before .before .pre in
     omega (
       arith,
       wave-small _ _ _ _ _ (pre .0) _ (pre .1 .0 .1) (pre .1 .0 .0) (pre .1 .0 .5) (pre .1 .0 .6) _ _ (pre .1 .0 .7) _
@@ -299,7 +299,7 @@ lose-requires c κs =
     let entry2 = c .before .before .before .before .before .before .before .before .before .before .before .entry2 in
     let loop-test = c .before .before .before .before .before .before .before .before .before .before .before .before .loop-test in
     let loop = c .before .before .before .before .before .before .before .before .before .before .before .before .before .loop in
-    let pre = c .before .before .before .before .before .before .before .before .before .before .before .before .before .before .before .before .before .before .before .before .before .before .before .before .pre in (
+    let pre = c .before .before .before .before .before .before .before .before .before .before .before .before .before .before .before .before .before .before .before .before .before .before .before .before .before .pre in (
       loop .inv .3 .wave .done .long,
       loop .inv .3 .wave .queued .long,
       wave-small _ _ _ _ _ (pre .0) _ (pre .1 .0 .1) (pre .1 .0 .0) (pre .1 .0 .5) (pre .1 .0 .6) _ _ (pre .1 .0 .7) _ _
@@ -325,7 +325,7 @@ take-count-requires c κs =
     let loop-test = c .before .before .before .before .before .before .before .before .before .before .before .before .before .before .before .before .before .before .before .loop-test in
     let loop = c .before .before .before .before .before .before .before .before .before .before .before .before .before .before .before .before .before .before .before .before .loop in
     let lesser = c .before .before .before .before .before .before .before .before .before .before .before .before .before .before .before .before .before .before .before .before .before .lesser in
-    let pre = c .before .before .before .before .before .before .before .before .before .before .before .before .before .before .before .before .before .before .before .before .before .before .before .before .before .before .before .before .before .before .before .pre in
+    let pre = c .before .before .before .before .before .before .before .before .before .before .before .before .before .before .before .before .before .before .before .before .before .before .before .before .before .before .before .before .before .before .before .before .pre in
     λ h. surge-asks _ _ _ _ _ (pre .0) _ (pre .1 .0 .1) (pre .1 .0 .0) (pre .1 .0 .5) (pre .1 .0 .6) _ _ (pre .1 .0 .7)
     _ _ _ _ (loop .inv .3) (loop .inv .1) (loop-test .taken) (entry2 .ensures) refl (lesser .ensures) (if1 .left)
     (entry3 .ensures) (entry4 .ensures) (other .ensures) refl (greater .ensures) (greater2 .ensures) refl h
@@ -353,7 +353,7 @@ loop-again c =
     let loop-test = c .before .before .before .before .before .before .before .before .before .before .before .before .before .before .before .before .before .before .before .before .before .before .loop-test in
     let loop = c .before .before .before .before .before .before .before .before .before .before .before .before .before .before .before .before .before .before .before .before .before .before .before .loop in
     let lesser = c .before .before .before .before .before .before .before .before .before .before .before .before .before .before .before .before .before .before .before .before .before .before .before .before .lesser in
-    let pre = c .before .before .before .before .before .before .before .before .before .before .before .before .before .before .before .before .before .before .before .before .before .before .before .before .before .before .before .before .before .before .before .before .before .before .pre in (
+    let pre = c .before .before .before .before .before .before .before .before .before .before .before .before .before .before .before .before .before .before .before .before .before .before .before .before .before .before .before .before .before .before .before .before .before .before .before .pre in (
       loop .inv .0,
       loop .inv .1,
       search (needs, loop .inv .2),
@@ -369,8 +369,8 @@ pay-counts-requires-2 : tie.Need-pay-counts-requires-2 Inv-loop μ-loop
 pay-counts-requires-2 c κs =
     let loop-test = c .before .loop-test in
     let loop = c .before .before .loop in
-    let args = c .before .before .before .before .before .before .before .before .before .before .before .before .before .args in
-    let pre = c .before .before .before .before .before .before .before .before .before .before .before .before .before .pre in
+    let args = c .before .before .before .before .before .before .before .before .before .before .before .before .before .before .args in
+    let pre = c .before .before .before .before .before .before .before .before .before .before .before .before .before .before .pre in
     λ h. surge-pays (args .times .now) (pre .0) (pre .1 .0 .0) (pre .1 .0 .6) (pre .1 .0 .7) (pre .1 .1 h .top)
     (
     surge-out _ _ _ _ _ (pre .0) _ (pre .1 .0 .1) (pre .1 .0 .0) (pre .1 .0 .5) (pre .1 .0 .6) _ _ (pre .1 .0 .7) _
@@ -381,14 +381,14 @@ pay-counts-requires-2 c κs =
 same-length-7 : tie.Need-same-length-7 Inv-loop μ-loop
 same-length-7 c =
     let loop = c .before .before .before .before .before .loop in
-    let pre = c .before .before .before .before .before .before .before .before .before .before .before .before .before .before .before .before .pre in
+    let pre = c .before .before .before .before .before .before .before .before .before .before .before .before .before .before .before .before .before .pre in
     loop .inv .3 .wave .done .long ∙ sym (pre .1 .0 .2)
 
 -- src/settle.rt:245:1
 same-length-8 : tie.Need-same-length-8 Inv-loop μ-loop
 same-length-8 c =
     let loop = c .before .before .before .before .before .loop in
-    let pre = c .before .before .before .before .before .before .before .before .before .before .before .before .before .before .before .before .pre in
+    let pre = c .before .before .before .before .before .before .before .before .before .before .before .before .before .before .before .before .before .pre in
     loop .inv .3 .wave .queued .long ∙ sym (pre .1 .0 .3)
 
 -- src/settle.rt:245:1
@@ -403,7 +403,7 @@ returns-3 c =
     let pay-counts2 = c .before .before .pay-counts2 in
     let loop-test = c .before .before .before .before .loop-test in
     let loop = c .before .before .before .before .before .loop in
-    let pre = c .before .before .before .before .before .before .before .before .before .before .before .before .before .before .before .before .pre in (
+    let pre = c .before .before .before .before .before .before .before .before .before .before .before .before .before .before .before .before .before .pre in (
       λ h. surge-out _ _ _ _ _ (pre .0) _ (pre .1 .0 .1) (pre .1 .0 .0) (pre .1 .0 .5) (pre .1 .0 .6) _ _ (pre .1 .0 .7)
           _ _ _ _ (loop .inv .3) (loop .inv .1) (loop-test .left) .0,
       counted-paid

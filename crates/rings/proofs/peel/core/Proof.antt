@@ -56,7 +56,7 @@ same-length c =
     let drain = c .before .before .before .before .before .before .drain in
     let weed = c .before .before .before .before .before .before .before .before .before .before .before .before .before .before .before .before .weed in
     let clear = c .before .before .before .before .before .before .before .before .before .before .before .before .before .before .before .before .before .before .before .before .before .before .before .before .before .before .before .before .before .before .clear in
-    drain .kept .1 .1 .1 .1 .1 .1 .1 .1 .1 .1 .1 .1 .0 ∙ (weed .kept .1 .1 .1 .1 .1 .1 .1 .1 .1 .0 ∙ clear .kept .0)
+    drain .kept .1 .1 .1 .1 .1 .1 .1 .1 .1 .0 ∙ (weed .kept .1 .1 .1 .1 .1 .1 .0 ∙ clear .kept .0)
 
 -- src/peel.rt:322:1
 same-length-2 : tie.Need-same-length-2
@@ -65,10 +65,10 @@ same-length-2 c =
     let weed = c .before .before .before .before .before .before .before .before .before .before .before .before .before .before .before .before .weed in
     let count-neighbours = c .before .before .before .before .before .before .before .before .before .before .before .before .before .before .before .before .before .before .before .before .before .before .count-neighbours in
     let clear2 = c .before .before .before .before .before .before .before .before .before .before .before .before .before .before .before .before .before .before .before .before .before .before .before .before .before .before .clear2 in
-    drain .kept .1 .1 .1 .1 .1 .1 .1 .1 .1 .1 .1 .1 .1 .0 ∙
+    drain .kept .1 .1 .1 .1 .1 .1 .1 .1 .1 .1 .0 ∙
     (
-    weed .kept .1 .1 .1 .1 .1 .1 .1 .1 .1 .1 .0 ∙
-    (count-neighbours .kept .1 .1 .1 .1 .1 .1 .1 .1 .1 .0 ∙ clear2 .kept .0)
+    weed .kept .1 .1 .1 .1 .1 .1 .1 .0 ∙
+    (count-neighbours .kept .1 .1 .1 .1 .1 .1 .0 ∙ clear2 .kept .0)
     )
 
 -- src/peel.rt:322:1

@@ -16,10 +16,10 @@ use Rattle.rings.proofs.links.put.Reads as put-reads
 use Rattle.rings.proofs.peel.is_fresh.Reads as is-fresh-reads
 
 abbrev Inv-loop : tie.InvT-loop
-Inv-loop days first second links k start stop lo end left₀ n j₀ left j = (n ≡ length days) × (length left ≡ length left₀) × (j ≤ end) × Counted (tableOf days first second) lo j left
+Inv-loop days first second links frame end left₀ n j₀ left j = (n ≡ length days) × (length left ≡ length left₀) × (j ≤ end) × Counted (tableOf days first second) (frame .lo) j left
 
 abbrev μ-loop : tie.MeasureT-loop
-μ-loop days first second links k start stop lo end left₀ n j₀ left j = end - j
+μ-loop days first second links frame end left₀ n j₀ left j = end - j
 
 -- src/peel.rt:144:5
 loop-holds : tie.Need-loop-holds Inv-loop μ-loop

@@ -13,10 +13,10 @@ use Rattle.rings.proofs.links.entry.Reads as entry-reads
 use Rattle.rings.proofs.peel.walk.Reads as walk-reads
 
 abbrev Inv-loop : tie.InvT-loop
-Inv-loop days first second links k start stop lo e r head tail times₀ left₀ queue₀ front₀ last₀ times left queue front last = ((length times ≡ length times₀) × (length left ≡ length left₀) × (length queue ≡ length queue₀)) × Falling days first second (season k start stop lo) 4096 e r front last times left queue
+Inv-loop days first second links frame e r head tail times₀ left₀ queue₀ front₀ last₀ times left queue front last = ((length times ≡ length times₀) × (length left ≡ length left₀) × (length queue ≡ length queue₀)) × Falling days first second frame 4096 e r front last times left queue
 
 abbrev μ-loop : tie.MeasureT-loop
-μ-loop days first second links k start stop lo e r head tail times₀ left₀ queue₀ front₀ last₀ times left queue front last = 4096 - front
+μ-loop days first second links frame e r head tail times₀ left₀ queue₀ front₀ last₀ times left queue front last = 4096 - front
 
 -- src/peel.rt:87:5
 loop-holds : tie.Need-loop-holds Inv-loop μ-loop
@@ -62,7 +62,7 @@ loop-again : tie.Need-loop-again Inv-loop μ-loop
 loop-again c =
     let walk = c .before .before .before .before .before .before .walk in
     let loop = c .before .before .before .before .before .before .before .before .before .before .before .before .before .loop in (
-      (walk .kept .1 .1 .1 .1 .1 .1 .1 .1 .1 .1 .1 .1 .1 .0 ∙ loop .inv .0 .0, walk .kept .1 .1 .1 .1 .1 .1 .1 .1 .1 .1 .1 .1 .1 .1 .0 ∙ loop .inv .0 .1, walk .kept .1 .1 .1 .1 .1 .1 .1 .1 .1 .1 .1 .1 .1 .1 .1 .0 ∙ loop .inv .0 .2),
+      (walk .kept .1 .1 .1 .1 .1 .1 .1 .1 .1 .1 .0 ∙ loop .inv .0 .0, walk .kept .1 .1 .1 .1 .1 .1 .1 .1 .1 .1 .1 .0 ∙ loop .inv .0 .1, walk .kept .1 .1 .1 .1 .1 .1 .1 .1 .1 .1 .1 .1 .0 ∙ loop .inv .0 .2),
       walk .ensures,
     )
 

@@ -17,10 +17,10 @@ use Rattle.rings.proofs.peel.is_fresh.Reads as is-fresh-reads
 use Rattle.rings.proofs.peel.lose.Reads as lose-reads
 
 abbrev Inv-loop : tie.InvT-loop
-Inv-loop days first second links k start stop lo e r head tail u times₀ left₀ queue₀ n end p₀ last₀ times left queue p last = (n ≡ length days) × ((length times ≡ length times₀) × (length left ≡ length left₀) × (length queue ≡ length queue₀)) × (end ≡ placeOf (tableOf days first second) (suc u)) × At days first second (season k start stop lo) e r head u p last times left queue
+Inv-loop days first second links frame e r head tail u times₀ left₀ queue₀ n end p₀ last₀ times left queue p last = (n ≡ length days) × ((length times ≡ length times₀) × (length left ≡ length left₀) × (length queue ≡ length queue₀)) × (end ≡ placeOf (tableOf days first second) (suc u)) × At days first second frame e r head u p last times left queue
 
 abbrev μ-loop : tie.MeasureT-loop
-μ-loop days first second links k start stop lo e r head tail u times₀ left₀ queue₀ n end p₀ last₀ times left queue p last = end - p
+μ-loop days first second links frame e r head tail u times₀ left₀ queue₀ n end p₀ last₀ times left queue p last = end - p
 
 -- src/peel.rt:57:9
 entry-requires : tie.Need-entry-requires Inv-loop μ-loop

@@ -1,4 +1,4 @@
-use Rattle.rings.proofs.StageLaws.{Weed, weed-start, weed-end, weed-room, weed-keep, weed-fall}
+use Rattle.rings.proofs.StageLaws.{Weed, weed-start, weed-end, weed-small, weed-room, weed-keep, weed-fall}
 use Rattle.rings.specs.Inner.Peeling.{season}
 use mathlib.Core.Path.{_≡_, refl, _∙_}
 use lib.ListN.{length}
@@ -12,10 +12,10 @@ use Rattle.rings.proofs.peel.weed.Lts as lts
 use Rattle.rings.proofs.links.put.Reads as put-reads
 
 abbrev Inv-loop : tie.InvT-loop
-Inv-loop days first second links k start stop lo end times₀ left queue₀ u₀ last₀ times queue u last = ((length times ≡ length times₀) × (length queue ≡ length queue₀)) × (u ≤ 4096) × Weed days first second (season k start stop lo) u end last times left queue
+Inv-loop days first second links frame end times₀ left queue₀ u₀ last₀ times queue u last = ((length times ≡ length times₀) × (length queue ≡ length queue₀)) × (u ≤ 4096) × Weed days first second frame u end last times left queue
 
 abbrev μ-loop : tie.MeasureT-loop
-μ-loop days first second links k start stop lo end times₀ left queue₀ u₀ last₀ times queue u last = 4096 - u
+μ-loop days first second links frame end times₀ left queue₀ u₀ last₀ times queue u last = 4096 - u
 
 -- src/peel.rt:167:5
 loop-holds : tie.Need-loop-holds Inv-loop μ-loop
@@ -37,41 +37,38 @@ slice-read-if1 c =
 -- src/peel.rt:169:13
 put-requires : tie.Need-put-requires Inv-loop μ-loop
 put-requires c κs =
-    let loop-test = c .before .before .before .loop-test in
-    let loop = c .before .before .before .before .loop in
-    let pre = c .before .before .before .before .before .before .before .before .before .before .before .before .pre in
+    let loop-test = c .before .before .before .before .loop-test in
+    let loop = c .before .before .before .before .before .loop in
+    let pre = c .before .before .before .before .before .before .before .before .before .before .before .before .before .pre in
     (weed-room _ _ _ _ _ (pre .0) (loop .inv .2) (loop-test .taken) .1, omega arith)
 
 -- src/peel.rt:170:13
 put-requires-2 : tie.Need-put-requires-2 Inv-loop μ-loop
 put-requires-2 c κs =
-    let loop-test = c .before .before .before .before .before .before .before .loop-test in
-    let loop = c .before .before .before .before .before .before .before .before .loop in
-    let pre = c .before .before .before .before .before .before .before .before .before .before .before .before .before .before .before .before .pre in
+    let loop-test = c .before .before .before .before .before .before .before .before .loop-test in
+    let loop = c .before .before .before .before .before .before .before .before .before .loop in
+    let pre = c .before .before .before .before .before .before .before .before .before .before .before .before .before .before .before .before .before .pre in
     (weed-room _ _ _ _ _ (pre .0) (loop .inv .2) (loop-test .taken) .0, omega (arith, loop-test .taken))
 
 -- src/peel.rt:171:13
 add-last : tie.Need-add-last Inv-loop μ-loop
 add-last c =
-    omega (
-      arith,
-      weed-room _ _ _ _ _
-          (c .before .before .before .before .before .before .before .before .before .before .before .before .before .before .before .before .before .before .before .pre .0)
-          (c .before .before .before .before .before .before .before .before .before .before .before .loop .inv .2)
-          (c .before .before .before .before .before .before .before .before .before .before .loop-test .taken),
-      c .before .before .before .before .before .before .before .before .before .before .before .loop .inv .2 .state .len-w,
-    )
+    let loop-test = c .before .before .before .before .before .before .before .before .before .before .before .loop-test in
+    let loop = c .before .before .before .before .before .before .before .before .before .before .before .before .loop in
+    let pre = c .before .before .before .before .before .before .before .before .before .before .before .before .before .before .before .before .before .before .before .before .pre in
+    let small = weed-small _ _ _ _ _ (pre .0) (loop .inv .2) (loop-test .taken) in
+    omega (arith, small)
 
 -- src/peel.rt:172:13
 add-u : tie.Need-add-u Inv-loop μ-loop
 add-u c =
-    let loop-test = c .before .before .before .before .before .before .before .before .before .before .loop-test in
+    let loop-test = c .before .before .before .before .before .before .before .before .before .before .before .loop-test in
     omega (arith, loop-test .taken)
 
 -- src/peel.rt:167:5
 loop-less : tie.Need-loop-less Inv-loop μ-loop
 loop-less c =
-    let loop-test = c .before .before .before .before .before .before .before .before .before .before .loop-test in
+    let loop-test = c .before .before .before .before .before .before .before .before .before .before .before .loop-test in
     omega (arith, loop-test .taken)
 
 -- src/peel.rt:167:5
@@ -80,9 +77,9 @@ loop-again c =
     let put2 = c .before .before .put2 in
     let put = c .before .before .before .before .before .before .put in
     let if1 = c .before .before .before .before .before .before .before .before .if1 in
-    let loop-test = c .before .before .before .before .before .before .before .before .before .before .loop-test in
-    let loop = c .before .before .before .before .before .before .before .before .before .before .before .loop in
-    let pre = c .before .before .before .before .before .before .before .before .before .before .before .before .before .before .before .before .before .before .before .pre in (
+    let loop-test = c .before .before .before .before .before .before .before .before .before .before .before .loop-test in
+    let loop = c .before .before .before .before .before .before .before .before .before .before .before .before .loop in
+    let pre = c .before .before .before .before .before .before .before .before .before .before .before .before .before .before .before .before .before .before .before .before .pre in (
       (put .kept .0 ∙ loop .inv .0 .0, put2 .kept .0 ∙ loop .inv .0 .1),
       omega (arith, loop-test .taken),
       weed-fall _ _ _ _ _ (pre .0) (loop .inv .2) (loop-test .taken) (if1 .taken) (put .ensures) (put2 .ensures),
@@ -91,21 +88,21 @@ loop-again c =
 -- src/peel.rt:175:9
 add-u-2 : tie.Need-add-u-2 Inv-loop μ-loop
 add-u-2 c =
-    let loop-test = c .before .before .loop-test in
+    let loop-test = c .before .before .before .loop-test in
     omega (arith, loop-test .taken)
 
 -- src/peel.rt:167:5
 loop-less-2 : tie.Need-loop-less-2 Inv-loop μ-loop
 loop-less-2 c =
-    let loop-test = c .before .before .loop-test in
+    let loop-test = c .before .before .before .loop-test in
     omega (arith, loop-test .taken)
 
 -- src/peel.rt:167:5
 loop-again-2 : tie.Need-loop-again-2 Inv-loop μ-loop
 loop-again-2 c =
-    let loop-test = c .before .before .loop-test in
-    let loop = c .before .before .before .loop in
-    let pre = c .before .before .before .before .before .before .before .before .before .before .before .pre in (
+    let loop-test = c .before .before .before .loop-test in
+    let loop = c .before .before .before .before .loop in
+    let pre = c .before .before .before .before .before .before .before .before .before .before .before .before .pre in (
       loop .inv .0,
       omega (arith, loop-test .taken),
       weed-keep _ _ _ _ _ (pre .0) (loop .inv .2) (loop-test .taken) (c .if1 .left),

@@ -50,21 +50,23 @@ returns c =
     (step .ensures .0 (c .if1 .taken), step .ensures .1 .same refl)
 
 -- src/settle.rt:699:9
-add-begin : tie.Need-add-begin
-add-begin c = search needs
+next-frame-requires : tie.Need-next-frame-requires
+next-frame-requires c = search needs
 
 -- src/settle.rt:693:5
 begin-requires : tie.Need-begin-requires
 begin-requires c κs =
-    let step = c .before .before .before .before .before .before .before .before .before .before .before .before .step in
-    let pre = c .before .before .before .before .before .before .before .before .before .before .before .before .before .before .before .before .before .before .before .before .before .before .before .before .before .pre in (
+    let next = c .before .before .before .next-frame in
+    let step = c .before .before .before .before .before .before .before .before .before .before .before .before .before .step in
+    let pre = c .before .before .before .before .before .before .before .before .before .before .before .before .before .before .before .before .before .before .before .before .before .before .before .before .before .before .pre in
+    rw (next .ensures) (
       pre .0,
       (
         (span-after (omega (arith, pre .1 .0 .0)) (pre .1 .0 .3) (pre .1 .0 .4)),
         (
-          step .kept .1 .1 .1 .1 .1 .1 .1 .1 .1 .1 .0 ∙ pre .1 .1 .0 .long,
-          step .kept .1 .1 .1 .1 .1 .1 .1 .1 .1 .1 .1 .0 ∙ pre .1 .1 .1 .long,
-          step .kept .1 .1 .1 .1 .1 .1 .1 .1 .1 .1 .1 .1 .0 ∙ pre .1 .1 .2,
+          step .kept .1 .1 .1 .1 .1 .1 .1 .0 ∙ pre .1 .1 .0 .long,
+          step .kept .1 .1 .1 .1 .1 .1 .1 .1 .0 ∙ pre .1 .1 .1 .long,
+          step .kept .1 .1 .1 .1 .1 .1 .1 .1 .1 .0 ∙ pre .1 .1 .2,
         ),
       ),
     )
@@ -73,9 +75,9 @@ begin-requires c κs =
 list-all-requires : tie.Need-list-all-requires
 list-all-requires c κs =
     let begin = c .before .before .before .before .before .before .before .begin in
-    let step = c .before .before .before .before .before .before .before .before .before .before .before .before .before .before .before .before .before .before .before .before .step in
-    let pre = c .before .before .before .before .before .before .before .before .before .before .before .before .before .before .before .before .before .before .before .before .before .before .before .before .before .before .before .before .before .before .before .before .before .pre in
-    begin .kept .1 .1 .1 .1 .1 .1 .1 .1 .1 .1 .1 .0 ∙ (step .kept .1 .1 .1 .1 .1 .1 .1 .1 .1 .1 .1 .1 .0 ∙ pre .1 .1 .2)
+    let step = c .before .before .before .before .before .before .before .before .before .before .before .before .before .before .before .before .before .before .before .before .before .step in
+    let pre = c .before .before .before .before .before .before .before .before .before .before .before .before .before .before .before .before .before .before .before .before .before .before .before .before .before .before .before .before .before .before .before .before .before .before .pre in
+    begin .kept .1 .1 .1 .1 .1 .1 .1 .1 .0 ∙ (step .kept .1 .1 .1 .1 .1 .1 .1 .1 .1 .0 ∙ pre .1 .1 .2)
 
 -- src/settle.rt:651:1
 same-length-5 : tie.Need-same-length-5
@@ -98,8 +100,10 @@ returns-2 : tie.Need-returns-2
 returns-2 c =
     let list-all = c .before .before .list-all in
     let begin = c .before .before .before .before .before .before .before .before .before .before .begin in
-    let step = c .before .before .before .before .before .before .before .before .before .before .before .before .before .before .before .before .before .before .before .before .before .before .before .step in (
-      (begin .ensures .0, begin .ensures .1, all-risen (list-all .ensures .0) (list-all .ensures .1)),
+    let next = c .before .before .before .before .before .before .before .before .before .before .before .before .before .before .next-frame in
+    let step = c .before .before .before .before .before .before .before .before .before .before .before .before .before .before .before .before .before .before .before .before .before .before .before .before .step in
+    let done = rw (next .ensures) at (begin .ensures) in (
+      (done .0, done .1, all-risen (list-all .ensures .0) (list-all .ensures .1)),
       step .ensures .1 .same refl,
     )
 
@@ -107,6 +111,4 @@ pub advance-spec : {M : Type 1} → statement M
 advance-spec =
     tie.close
     (
-    tie.spec step-requires same-length same-length-2 same-length-3 same-length-4 returns add-begin begin-requires
-    list-all-requires same-length-5 same-length-6 same-length-7 same-length-8 returns-2
-    )
+    tie.spec step-requires same-length same-length-2 same-length-3 same-length-4 returns next-frame-requires begin-requires list-all-requires same-length-5 same-length-6 same-length-7 same-length-8 returns-2)

@@ -13,10 +13,10 @@ use Rattle.rings.proofs.settle.leave_rows.Lts as lts
 use Rattle.rings.proofs.settle.leave_row.Reads as leave-row-reads
 
 abbrev Inv-loop : tie.InvT-loop
-Inv-loop days first second links k s te lo next times spare₀ queue₀ tail₀ j₀ spare queue tail j = (j ≤ next) × (length spare ≡ 4096) × (length queue ≡ 4352) × (tail ≤ 4352 → Queued 0 spare₀ queue₀ tail spare queue × Leaving (tableOf days first second) (guess times) lo j spare₀ spare)
+Inv-loop days first second links frame next times spare₀ queue₀ tail₀ j₀ spare queue tail j = (j ≤ next) × (length spare ≡ 4096) × (length queue ≡ 4352) × (tail ≤ 4352 → Queued 0 spare₀ queue₀ tail spare queue × Leaving (tableOf days first second) (guess times) (frame .lo) j spare₀ spare)
 
 abbrev μ-loop : tie.MeasureT-loop
-μ-loop days first second links k s te lo next times spare₀ queue₀ tail₀ j₀ spare queue tail j = next - j
+μ-loop days first second links frame next times spare₀ queue₀ tail₀ j₀ spare queue tail j = next - j
 
 -- src/settle.rt:509:5
 loop-holds : tie.Need-loop-holds Inv-loop μ-loop
@@ -59,8 +59,8 @@ loop-again c =
     let loop-test = c .before .before .before .before .before .before .before .loop-test in
     let loop = c .before .before .before .before .before .before .before .before .loop in (
       omega (arith, loop-test .taken),
-      (leave-row .kept .1 .1 .1 .1 .1 .1 .1 .1 .1 .1 .1 .0 ∙ loop .inv .1),
-      (leave-row .kept .1 .1 .1 .1 .1 .1 .1 .1 .1 .1 .1 .1 .0 ∙ loop .inv .2),
+      (leave-row .kept .1 .1 .1 .1 .1 .1 .1 .1 .0 ∙ loop .inv .1),
+      (leave-row .kept .1 .1 .1 .1 .1 .1 .1 .1 .1 .0 ∙ loop .inv .2),
       λ h. (
         queued-then (loop .inv .3 (omega (arith, leave-row .ensures h .0 .grows h, h)) .0) (leave-row .ensures h .0),
         leave-row .ensures h .1 _ (loop .inv .3 (omega (arith, leave-row .ensures h .0 .grows h, h)) .1),

@@ -20,10 +20,10 @@ use Rattle.rings.proofs.settle.settle.Lts as lts
 use Rattle.rings.proofs.settle.settle_account.Reads as settle-account-reads
 
 abbrev Inv-loop : tie.InvT-loop
-Inv-loop days first second links k start stop lo budget waiting times₀ spare₀ queue₀ counting counts₀ head₀ tail₀ risen₀ work₀ times spare queue counts head tail risen work = (head ≤ 4352) × (length times ≡ 4096) × (length spare ≡ 4096) × (length queue ≡ 4352) × (tail ≤ 4352 → Rising (tableOf days first second) (query k) stop start times₀ times spare queue head tail risen) × (work ≤ budget + 131072) × (length counts ≡ length counts₀) × WhereCounted counting (tail ≤ 4352 → CountsBy days first second start stop times counts) counts₀ counts × (tail ≤ 4352 → Covered (tableOf days first second) (guess times) lo links)
+Inv-loop days first second links frame budget waiting times₀ spare₀ queue₀ counting counts₀ head₀ tail₀ risen₀ work₀ times spare queue counts head tail risen work = (head ≤ 4352) × (length times ≡ 4096) × (length spare ≡ 4096) × (length queue ≡ 4352) × (tail ≤ 4352 → Rising (tableOf days first second) (frame .query) (frame .stop) (frame .start) times₀ times spare queue head tail risen) × (work ≤ budget + 131072) × (length counts ≡ length counts₀) × WhereCounted counting (tail ≤ 4352 → CountsBy days first second (frame .start) (frame .stop) times counts) counts₀ counts × (tail ≤ 4352 → Covered (tableOf days first second) (guess times) (frame .lo) links)
 
 abbrev μ-loop : tie.MeasureT-loop
-μ-loop days first second links k start stop lo budget waiting times₀ spare₀ queue₀ counting counts₀ head₀ tail₀ risen₀ work₀ times spare queue counts head tail risen work = 4353 - head
+μ-loop days first second links frame budget waiting times₀ spare₀ queue₀ counting counts₀ head₀ tail₀ risen₀ work₀ times spare queue counts head tail risen work = 4353 - head
 
 -- src/settle.rt:418:5
 loop-holds : tie.Need-loop-holds Inv-loop μ-loop
@@ -150,9 +150,9 @@ loop-again c =
     let loop-test = c .before .before .before .before .before .before .before .before .before .before .before .before .before .before .before .before .loop-test in
     let loop = c .before .before .before .before .before .before .before .before .before .before .before .before .before .before .before .before .before .loop in (
       omega (arith, loop-test .taken, if1 .left),
-      settle-account .kept .1 .1 .1 .1 .1 .1 .1 .1 .1 .1 .1 .1 .0 ∙ loop .inv .1,
-      settle-account .kept .1 .1 .1 .1 .1 .1 .1 .1 .1 .1 .1 .1 .1 .0 ∙ loop .inv .2,
-      settle-account .kept .1 .1 .1 .1 .1 .1 .1 .1 .1 .1 .1 .1 .1 .1 .0 ∙ loop .inv .3,
+      settle-account .kept .1 .1 .1 .1 .1 .1 .1 .1 .1 .0 ∙ loop .inv .1,
+      settle-account .kept .1 .1 .1 .1 .1 .1 .1 .1 .1 .1 .0 ∙ loop .inv .2,
+      settle-account .kept .1 .1 .1 .1 .1 .1 .1 .1 .1 .1 .1 .0 ∙ loop .inv .3,
       λ h. settle-account .ensures .0 .1 h _ (loop .inv .4 (if1 .left)),
       omega (arith, if2 .left, settle-account .ensures .0 .0),
       search (needs, loop .inv .6),

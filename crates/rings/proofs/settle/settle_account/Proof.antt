@@ -73,7 +73,7 @@ settle-far-requires c κs =
     let pre = c .before .before .before .before .before .before .before .before .before .before .before .before .before .before .before .before .before .before .before .before .before .before .before .before .before .before .before .before .before .before .pre in (
       pre .0,
       (
-        (pre .1 .0 .0, pre .1 .0 .1, pre .1 .0 .2, pre .1 .0 .3, ap length ((settle-near .ensures .1 .1 .1 (if1 .left)) .0) ∙ pre .1 .0 .4, ap length ((settle-near .ensures .1 .1 .1 (if1 .left)) .1) ∙ pre .1 .0 .5, (settle-near .ensures .1 .1 .1 (if1 .left)) .3 .long, (omega (arith, entry .ensures, pre .1 .0 .7)), (settle-near .ensures .1 .1 .1 (if1 .left)) .3 .front _ (pre .1 .0 .1) ∙ sym (entry .ensures), first-from .ensures, subst (λ (ys : List ℕ). Days (args .stop) ys) (sym ((settle-near .ensures .1 .1 .1 (if1 .left)) .0)) (pre .1 .0 .8), same-covered ((settle-near .ensures .1 .1 .1 (if1 .left)) .0) (pre .1 .0 .9)),
+        (pre .1 .0 .0, pre .1 .0 .1, pre .1 .0 .2, pre .1 .0 .3, ap length ((settle-near .ensures .1 .1 .1 (if1 .left)) .0) ∙ pre .1 .0 .4, ap length ((settle-near .ensures .1 .1 .1 (if1 .left)) .1) ∙ pre .1 .0 .5, (settle-near .ensures .1 .1 .1 (if1 .left)) .3 .long, (omega (arith, entry .ensures, pre .1 .0 .7)), (settle-near .ensures .1 .1 .1 (if1 .left)) .3 .front _ (pre .1 .0 .1) ∙ sym (entry .ensures), first-from .ensures, subst (λ (ys : List ℕ). Days (args .frame .stop) ys) (sym ((settle-near .ensures .1 .1 .1 (if1 .left)) .0)) (pre .1 .0 .8), same-covered ((settle-near .ensures .1 .1 .1 (if1 .left)) .0) (pre .1 .0 .9)),
         (
           same-short _ _ _ _ ((settle-near .ensures .1 .1 .1 (if1 .left)) .0)
               ((settle-near .ensures .1 .1 .1 (if1 .left)) .4),
@@ -87,8 +87,8 @@ settle-far-requires c κs =
     )
 
 -- src/settle.rt:312:17
-add-t41 : tie.Need-add-t41
-add-t41 c =
+add-t38 : tie.Need-add-t38
+add-t38 c =
     let settle-far = c .before .before .before .before .before .before .before .before .before .before .settle-far in
     let settle-near = c .before .before .before .before .before .before .before .before .before .before .before .before .before .before .before .before .before .before .before .before .before .before .before .before .before .settle-near in
     omega (arith, settle-near .ensures .0 .0, settle-far .ensures .0 .0)
@@ -129,7 +129,4 @@ pub settle-account-spec : {M : Type 1} → statement M
 settle-account-spec =
     tie.close
     (
-    tie.spec entry-requires first-from-requires settle-near-requires same-length same-length-2 same-length-3
-    same-length-4 returns settle-far-requires add-t41 same-length-5 same-length-6 same-length-7 same-length-8
-    returns-2
-    )
+    tie.spec entry-requires first-from-requires settle-near-requires same-length same-length-2 same-length-3 same-length-4 returns settle-far-requires add-t38 same-length-5 same-length-6 same-length-7 same-length-8 returns-2)

@@ -110,8 +110,8 @@ lose-others-requires c κs =
     )
 
 -- src/settle.rt:225:16
-add-t25 : tie.Need-add-t25
-add-t25 c =
+add-t22 : tie.Need-add-t22
+add-t22 c =
     let pre = c .before .before .before .before .before .before .before .before .before .before .before .before .before .before .before .before .before .before .before .before .before .before .before .before .before .before .before .before .pre in
     omega (arith, pre .1 .0 .1, pre .1 .0 .2, pre .1 .0 .3)
 
@@ -125,7 +125,7 @@ same-length-5 c =
     let lose-others = c .before .before .before .before .before .before .lose-others in
     let look = c .before .before .before .before .before .before .before .before .before .before .before .before .before .before .before .before .before .look in
     let args = c .before .before .before .before .before .before .before .before .before .before .before .before .before .before .before .before .before .before .before .before .before .before .before .before .before .before .before .before .args in
-    lose-others .kept .1 .1 .1 .1 .1 .1 .1 .1 .1 .1 .1 .1 .1 .1 .0 ∙ length-set (args .spare .now) (args .u)
+    lose-others .kept .1 .1 .1 .1 .1 .1 .1 .1 .1 .1 .1 .0 ∙ length-set (args .spare .now) (args .u)
     (look .result .spare)
 
 -- src/settle.rt:140:1
@@ -157,7 +157,4 @@ pub settle-far-spec : {M : Type 1} → statement M
 settle-far-spec =
     tie.close
     (
-    tie.spec mul-old slice-read-old look-requires same-length returns mul-spare slice-write-spare same-length-2
-    same-length-3 returns-2 mul-times slice-write-times put-requires lose-others-requires add-t25 same-length-4
-    same-length-5 same-length-6 same-length-7 returns-3
-    )
+    tie.spec mul-old slice-read-old look-requires same-length returns mul-spare slice-write-spare same-length-2 same-length-3 returns-2 mul-times slice-write-times put-requires lose-others-requires add-t22 same-length-4 same-length-5 same-length-6 same-length-7 returns-3)

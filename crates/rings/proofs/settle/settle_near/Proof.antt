@@ -99,25 +99,25 @@ gather-requires c κs =
 -- src/settle.rt:108:20
 add-spare : tie.Need-add-spare
 add-spare c =
-    let gather = c .before .before .before .before .before .gather in
+    let gather = c .before .before .before .before .before .before .gather in
     omega (arith, gather .ensures .0 .2)
 
 -- src/settle.rt:108:20
 sub-spare : tie.Need-sub-spare
 sub-spare c =
-    let if3 = c .before .if3 in
+    let if3 = c .before .before .if3 in
     omega (arith, if3 .taken)
 
 -- src/settle.rt:108:9
 mul-spare : tie.Need-mul-spare
 mul-spare c =
-    let pre = c .before .before .before .before .before .before .before .before .before .before .before .before .before .before .before .before .before .before .before .before .pre in
+    let pre = c .before .before .before .before .before .before .before .before .before .before .before .before .before .before .before .before .before .before .before .before .before .before .pre in
     omega (arith, pre .1 .0 .6)
 
 -- src/settle.rt:108:9
 slice-write-spare : tie.Need-slice-write-spare
 slice-write-spare c =
-    let pre = c .before .before .before .before .before .before .before .before .before .before .before .before .before .before .before .before .before .before .before .before .pre in
+    let pre = c .before .before .before .before .before .before .before .before .before .before .before .before .before .before .before .before .before .before .before .before .before .before .pre in
     omega (arith, pre .1 .0 .6, pre .1 .0 .4)
 
 -- src/settle.rt:109:9
@@ -135,11 +135,11 @@ same-length-3 c = search needs
 -- src/settle.rt:109:9
 returns-3 : tie.Need-returns-3
 returns-3 c =
-    let if3 = c .before .if3 in
-    let gather = c .before .before .before .before .before .gather in
-    let if1 = c .before .before .before .before .before .before .before .before .before .before .if1 in
-    let args = c .before .before .before .before .before .before .before .before .before .before .before .before .before .before .before .before .before .before .before .before .args in
-    let pre = c .before .before .before .before .before .before .before .before .before .before .before .before .before .before .before .before .before .before .before .before .pre in (
+    let if3 = c .before .before .if3 in
+    let gather = c .before .before .before .before .before .before .before .gather in
+    let if1 = c .before .before .before .before .before .before .before .before .before .before .before .before .if1 in
+    let args = c .before .before .before .before .before .before .before .before .before .before .before .before .before .before .before .before .before .before .before .before .before .before .args in
+    let pre = c .before .before .before .before .before .before .before .before .before .before .before .before .before .before .before .before .before .before .before .before .before .before .pre in (
       (gather .ensures .0 .1, λ h xs Z. near-same _ _ _ _ _ _ _ (pre .0 .setting) (args .times .now) (pre .1 .0 .3) (pre .1 .0 .9) (pre .1 .0 .6) (if1 .left) (gather .ensures .0 .0) (if3 .taken) (gather .ensures .1 .1) Z (pre .1 .0 .7) (pre .1 .0 .0) (pre .1 .0 .1)),
       (
         λ v e. e,
@@ -150,13 +150,13 @@ returns-3 c =
 -- src/settle.rt:117:33
 add-spare-above : tie.Need-add-spare-above
 add-spare-above c =
-    let gather = c .before .before .before .before .before .gather in
+    let gather = c .before .before .before .before .before .before .gather in
     omega (arith, gather .ensures .0 .2)
 
 -- src/settle.rt:117:9
 spare-above-requires : tie.Need-spare-above-requires
 spare-above-requires c κs =
-    let gather = c .before .before .before .before .before .gather in
+    let gather = c .before .before .before .before .before .before .gather in
     gather .ensures .0 .2
 
 -- src/settle.rt:119:9
@@ -171,10 +171,10 @@ same-length-5 c = search needs
 returns-4 : tie.Need-returns-4
 returns-4 c =
     let if3 = c .before .before .before .if3 in
-    let gather = c .before .before .before .before .before .before .before .gather in
-    let if1 = c .before .before .before .before .before .before .before .before .before .before .before .before .if1 in
-    let args = c .before .before .before .before .before .before .before .before .before .before .before .before .before .before .before .before .before .before .before .before .before .before .args in
-    let pre = c .before .before .before .before .before .before .before .before .before .before .before .before .before .before .before .before .before .before .before .before .before .before .pre in (
+    let gather = c .before .before .before .before .before .before .before .before .gather in
+    let if1 = c .before .before .before .before .before .before .before .before .before .before .before .before .before .if1 in
+    let args = c .before .before .before .before .before .before .before .before .before .before .before .before .before .before .before .before .before .before .before .before .before .before .before .args in
+    let pre = c .before .before .before .before .before .before .before .before .before .before .before .before .before .before .before .before .before .before .before .before .before .before .before .pre in (
       (gather .ensures .0 .1, λ h. absurd (omega (arith, h))),
       (
         λ v e. e,
@@ -195,32 +195,32 @@ returns-4 c =
 -- src/settle.rt:126:5
 mul-spare-2 : tie.Need-mul-spare-2
 mul-spare-2 c =
-    let pre = c .before .before .before .before .before .before .before .before .before .before .before .before .before .before .before .before .before .before .before .before .before .before .pre in
+    let pre = c .before .before .before .before .before .before .before .before .before .before .before .before .before .before .before .before .before .before .before .before .before .before .before .pre in
     omega (arith, pre .1 .0 .6)
 
 -- src/settle.rt:126:5
 slice-write-spare-2 : tie.Need-slice-write-spare-2
 slice-write-spare-2 c =
-    let pre = c .before .before .before .before .before .before .before .before .before .before .before .before .before .before .before .before .before .before .before .before .before .before .pre in
+    let pre = c .before .before .before .before .before .before .before .before .before .before .before .before .before .before .before .before .before .before .before .before .before .before .before .pre in
     omega (arith, pre .1 .0 .6, pre .1 .0 .4)
 
 -- src/settle.rt:127:5
 mul-times : tie.Need-mul-times
 mul-times c =
-    let pre = c .before .before .before .before .before .before .before .before .before .before .before .before .before .before .before .before .before .before .before .before .before .before .pre in
+    let pre = c .before .before .before .before .before .before .before .before .before .before .before .before .before .before .before .before .before .before .before .before .before .before .before .pre in
     omega (arith, pre .1 .0 .6)
 
 -- src/settle.rt:127:5
 slice-write-times : tie.Need-slice-write-times
 slice-write-times c =
-    let pre = c .before .before .before .before .before .before .before .before .before .before .before .before .before .before .before .before .before .before .before .before .before .before .pre in
+    let pre = c .before .before .before .before .before .before .before .before .before .before .before .before .before .before .before .before .before .before .before .before .before .before .before .pre in
     omega (arith, pre .1 .0 .6, pre .1 .0 .3)
 
 -- src/settle.rt:128:5
 put-requires : tie.Need-put-requires
 put-requires c κs =
-    let gather = c .before .before .before .before .before .before .before .before .gather in
-    let pre = c .before .before .before .before .before .before .before .before .before .before .before .before .before .before .before .before .before .before .before .before .before .before .before .pre in (
+    let gather = c .before .before .before .before .before .before .before .before .before .gather in
+    let pre = c .before .before .before .before .before .before .before .before .before .before .before .before .before .before .before .before .before .before .before .before .before .before .before .before .pre in (
       omega (arith, (gather .ensures .1 .1) .long, pre .1 .0 .0, pre .1 .0 .1, pre .1 .0 .2),
       omega (arith, pre .1 .0 .6),
     )
@@ -232,10 +232,10 @@ lose-listed-requires c κs =
     let if4 = c .before .before .before .before .before .before .if4 in
     let spare-above = c .before .before .before .before .before .before .before .spare-above in
     let if3 = c .before .before .before .before .before .before .before .before .before .if3 in
-    let gather = c .before .before .before .before .before .before .before .before .before .before .before .before .before .gather in
-    let if1 = c .before .before .before .before .before .before .before .before .before .before .before .before .before .before .before .before .before .before .if1 in
-    let args = c .before .before .before .before .before .before .before .before .before .before .before .before .before .before .before .before .before .before .before .before .before .before .before .before .before .before .before .before .args in
-    let pre = c .before .before .before .before .before .before .before .before .before .before .before .before .before .before .before .before .before .before .before .before .before .before .before .before .before .before .before .before .pre in (
+    let gather = c .before .before .before .before .before .before .before .before .before .before .before .before .before .before .gather in
+    let if1 = c .before .before .before .before .before .before .before .before .before .before .before .before .before .before .before .before .before .before .before .if1 in
+    let args = c .before .before .before .before .before .before .before .before .before .before .before .before .before .before .before .before .before .before .before .before .before .before .before .before .before .before .before .before .before .args in
+    let pre = c .before .before .before .before .before .before .before .before .before .before .before .before .before .before .before .before .before .before .before .before .before .before .before .before .before .before .before .before .before .pre in (
       length-set (args .spare .now) (args .u) (spare-above .result) ∙ pre .1 .0 .4,
       put .kept .0 ∙ (gather .ensures .1 .1) .long,
       (gather .ensures .1 .0 (if3 .left)) .grows,
@@ -251,18 +251,18 @@ move-counts-requires c κs =
     let if4 = c .before .before .before .before .before .before .before .before .before .before .before .before .if4 in
     let spare-above = c .before .before .before .before .before .before .before .before .before .before .before .before .before .spare-above in
     let if3 = c .before .before .before .before .before .before .before .before .before .before .before .before .before .before .before .if3 in
-    let gather = c .before .before .before .before .before .before .before .before .before .before .before .before .before .before .before .before .before .before .before .gather in
-    let if1 = c .before .before .before .before .before .before .before .before .before .before .before .before .before .before .before .before .before .before .before .before .before .before .before .before .if1 in
-    let args = c .before .before .before .before .before .before .before .before .before .before .before .before .before .before .before .before .before .before .before .before .before .before .before .before .before .before .before .before .before .before .before .before .before .before .args in
-    let pre = c .before .before .before .before .before .before .before .before .before .before .before .before .before .before .before .before .before .before .before .before .before .before .before .before .before .before .before .before .before .before .before .before .before .before .pre in
+    let gather = c .before .before .before .before .before .before .before .before .before .before .before .before .before .before .before .before .before .before .before .before .gather in
+    let if1 = c .before .before .before .before .before .before .before .before .before .before .before .before .before .before .before .before .before .before .before .before .before .before .before .before .before .if1 in
+    let args = c .before .before .before .before .before .before .before .before .before .before .before .before .before .before .before .before .before .before .before .before .before .before .before .before .before .before .before .before .before .before .before .before .before .before .before .args in
+    let pre = c .before .before .before .before .before .before .before .before .before .before .before .before .before .before .before .before .before .before .before .before .before .before .before .before .before .before .before .before .before .before .before .before .before .before .before .pre in
     λ y. near-asks _ _ _ _ _ _ _ (pre .0 .setting) (args .times .now) (pre .1 .0 .3) (pre .1 .0 .9) (pre .1 .0 .6)
     (if1 .left) (gather .ensures .0 .0) (if3 .left) refl (spare-above .ensures) (if4 .left)
     (gather .ensures .1 .0 (if3 .left)) (pre .0 .sound .most) (pre .1 .1 y .0) (pre .1 .1 y .1)
 
 -- src/settle.rt:132:16
-add-t25 : tie.Need-add-t25
-add-t25 c =
-    let pre = c .before .before .before .before .before .before .before .before .before .before .before .before .before .before .before .before .before .before .before .before .before .before .before .before .before .before .before .before .before .before .before .before .before .before .before .before .before .pre in
+add-t22 : tie.Need-add-t22
+add-t22 c =
+    let pre = c .before .before .before .before .before .before .before .before .before .before .before .before .before .before .before .before .before .before .before .before .before .before .before .before .before .before .before .before .before .before .before .before .before .before .before .before .before .before .pre in
     omega (arith, pre .1 .0 .0, pre .1 .0 .1, pre .1 .0 .2)
 
 -- src/settle.rt:45:1
@@ -274,7 +274,7 @@ same-length-7 : tie.Need-same-length-7
 same-length-7 c =
     let lose-listed = c .before .before .before .before .before .before .before .before .lose-listed in
     let spare-above = c .before .before .before .before .before .before .before .before .before .before .before .before .before .before .before .before .spare-above in
-    let args = c .before .before .before .before .before .before .before .before .before .before .before .before .before .before .before .before .before .before .before .before .before .before .before .before .before .before .before .before .before .before .before .before .before .before .before .before .before .args in
+    let args = c .before .before .before .before .before .before .before .before .before .before .before .before .before .before .before .before .before .before .before .before .before .before .before .before .before .before .before .before .before .before .before .before .before .before .before .before .before .before .args in
     lose-listed .kept .0 ∙ length-set (args .spare .now) (args .u) (spare-above .result)
 
 -- src/settle.rt:45:1
@@ -294,10 +294,10 @@ returns-5 c =
     let if4 = c .before .before .before .before .before .before .before .before .before .before .before .before .before .before .before .if4 in
     let spare-above = c .before .before .before .before .before .before .before .before .before .before .before .before .before .before .before .before .spare-above in
     let if3 = c .before .before .before .before .before .before .before .before .before .before .before .before .before .before .before .before .before .before .if3 in
-    let gather = c .before .before .before .before .before .before .before .before .before .before .before .before .before .before .before .before .before .before .before .before .before .before .gather in
-    let if1 = c .before .before .before .before .before .before .before .before .before .before .before .before .before .before .before .before .before .before .before .before .before .before .before .before .before .before .before .if1 in
-    let args = c .before .before .before .before .before .before .before .before .before .before .before .before .before .before .before .before .before .before .before .before .before .before .before .before .before .before .before .before .before .before .before .before .before .before .before .before .before .args in
-    let pre = c .before .before .before .before .before .before .before .before .before .before .before .before .before .before .before .before .before .before .before .before .before .before .before .before .before .before .before .before .before .before .before .before .before .before .before .before .before .pre in (
+    let gather = c .before .before .before .before .before .before .before .before .before .before .before .before .before .before .before .before .before .before .before .before .before .before .before .gather in
+    let if1 = c .before .before .before .before .before .before .before .before .before .before .before .before .before .before .before .before .before .before .before .before .before .before .before .before .before .before .before .before .if1 in
+    let args = c .before .before .before .before .before .before .before .before .before .before .before .before .before .before .before .before .before .before .before .before .before .before .before .before .before .before .before .before .before .before .before .before .before .before .before .before .before .before .args in
+    let pre = c .before .before .before .before .before .before .before .before .before .before .before .before .before .before .before .before .before .before .before .before .before .before .before .before .before .before .before .before .before .before .before .before .before .before .before .before .before .before .pre in (
       (gather .ensures .0 .1, λ h xs Z. near-rise _ _ _ _ _ _ _ (pre .0 .setting) (args .times .now) (pre .1 .0 .3) (pre .1 .0 .9) (pre .1 .0 .6) (if1 .left) (gather .ensures .0 .0) (if3 .left) refl (spare-above .ensures) (if4 .left) (gather .ensures .1 .0 (if3 .left)) (gather .ensures .1 .1) Z (pre .1 .0 .7) (pre .1 .0 .0) (pre .1 .0 .1) (put .ensures) (lose-listed .ensures .1) (lose-listed .ensures .2) h),
       (
         near-never _ _ _ _ _ _ _ (pre .0 .setting) (args .times .now) (pre .1 .0 .3) (pre .1 .0 .9) (pre .1 .0 .6)
@@ -315,9 +315,4 @@ pub settle-near-spec : {M : Type 1} → statement M
 settle-near-spec =
     tie.close
     (
-    tie.spec mul-old slice-read-old returns entry-requires add-if2 add-if2-2 returns-2 gather-requires add-spare
-    sub-spare mul-spare slice-write-spare same-length same-length-2 same-length-3 returns-3 add-spare-above
-    spare-above-requires same-length-4 same-length-5 returns-4 mul-spare-2 slice-write-spare-2 mul-times
-    slice-write-times put-requires lose-listed-requires move-counts-requires add-t25 same-length-6 same-length-7
-    same-length-8 same-length-9 returns-5
-    )
+    tie.spec mul-old slice-read-old returns entry-requires add-if2 add-if2-2 returns-2 gather-requires add-spare sub-spare mul-spare slice-write-spare same-length same-length-2 same-length-3 returns-3 add-spare-above spare-above-requires same-length-4 same-length-5 returns-4 mul-spare-2 slice-write-spare-2 mul-times slice-write-times put-requires lose-listed-requires move-counts-requires add-t22 same-length-6 same-length-7 same-length-8 same-length-9 returns-5)

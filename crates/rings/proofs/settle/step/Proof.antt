@@ -43,17 +43,29 @@ mul-budget : tie.Need-mul-budget
 mul-budget c = search needs
 
 -- src/settle.rt:637:9
-add-settle : tie.Need-add-settle
-add-settle c = search needs
+next-frame-requires : tie.Need-next-frame-requires
+next-frame-requires c = search needs
 
 -- src/settle.rt:631:5
 settle-requires : tie.Need-settle-requires
 settle-requires c κs =
-    let leave-rows = c .before .before .before .before .before .before .before .before .leave-rows in
-    let pre = c .before .before .before .before .before .before .before .before .before .before .before .before .before .before .before .before .before .before .before .before .pre in (
+    let next = c .before .before .before .before .next-frame in
+    let leave-rows = c .before .before .before .before .before .before .before .before .before .leave-rows in
+    let pre = c .before .before .before .before .before .before .before .before .before .before .before .before .before .before .before .before .before .before .before .before .before .pre in
+    let placed = placed-of (pre .0 .sound) (shelves-paired (pre .0 .shelves)) (pre .0 .setting .some-k) (pre .1 .0 .1) (pre .1 .0 .2) in
+    rw (next .ensures) (
       pre .0,
       (
-        (omega (arith, pre .1 .0 .4 .within, pre .0 .sound .most), pre .1 .1 .0 .0 .long, leave-rows .kept .1 .1 .1 .1 .1 .1 .1 .1 .1 .1 .0 ∙ pre .1 .1 .0 .1 .long, leave-rows .kept .1 .1 .1 .1 .1 .1 .1 .1 .1 .1 .1 .0 ∙ pre .1 .1 .0 .2, λ top. settle-start _ _ _ _ _ _ _ ((placed-of (pre .0 .sound) (shelves-paired (pre .0 .shelves)) (pre .0 .setting .some-k) (pre .1 .0 .1) (pre .1 .0 .2)) .setting) (pre .0 .setting) (split-rises (pre .1 .0 .2) (pre .1 .0 .3)) (pre .1 .0 .3 .within) (pre .1 .1 .0 .0) (pre .1 .1 .0 .1) (leave-rows .ensures top .1) (leave-rows .ensures top .0) top, pre .1 .1 .0 .3),
+        (
+          omega (arith, pre .1 .0 .4 .within, pre .0 .sound .most),
+          pre .1 .1 .0 .0 .long,
+          leave-rows .kept .1 .1 .1 .1 .1 .1 .1 .0 ∙ pre .1 .1 .0 .1 .long,
+          leave-rows .kept .1 .1 .1 .1 .1 .1 .1 .1 .0 ∙ pre .1 .1 .0 .2,
+          λ top. settle-start _ _ _ _ _ _ _ (placed .setting) (pre .0 .setting)
+              (split-rises (pre .1 .0 .2) (pre .1 .0 .3)) (pre .1 .0 .3 .within) (pre .1 .1 .0 .0) (pre .1 .1 .0 .1)
+              (leave-rows .ensures top .1) (leave-rows .ensures top .0) top,
+          pre .1 .1 .0 .3,
+        ),
         λ y. (pre .1 .0 .1, pre .1 .1 .1 y),
       ),
     )
@@ -78,17 +90,15 @@ same-length-4 c = search needs
 returns : tie.Need-returns
 returns c =
     let settle = c .before .before .before .before .before .before .before .before .settle in
-    let pre = c .before .before .before .before .before .before .before .before .before .before .before .before .before .before .before .before .before .before .before .before .before .before .before .before .before .before .before .before .before .pre in (
-      settle .ensures .0,
-      counted-so
-          (λ y h. hist-same (λ j l. sym (by-core _ _ _ _ _ _ _ (pre .0 .setting) (settle .ensures .0 h .0) j l)) (y h))
-          (settle .ensures .1),
+    let next = c .before .before .before .before .before .before .before .before .before .before .before .before .before .next-frame in
+    let pre = c .before .before .before .before .before .before .before .before .before .before .before .before .before .before .before .before .before .before .before .before .before .before .before .before .before .before .before .before .before .before .pre in
+    let done = rw (next .ensures) at (settle .ensures) in (
+      done .0,
+      counted-so (λ y h. hist-same (λ j l. sym (by-core _ _ _ _ _ _ _ (pre .0 .setting) (done .0 h .0) j l)) (y h)) (done .1),
     )
 
 pub step-spec : {M : Type 1} → statement M
 step-spec =
     tie.close
     (
-    tie.spec leave-rows-requires sub-budget mul-budget add-settle settle-requires same-length same-length-2
-    same-length-3 same-length-4 returns
-    )
+    tie.spec leave-rows-requires sub-budget mul-budget next-frame-requires settle-requires same-length same-length-2 same-length-3 same-length-4 returns)

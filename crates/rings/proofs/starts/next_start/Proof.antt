@@ -91,29 +91,31 @@ returns c =
     }
 
 -- src/starts.rt:140:9
-add-first-start : tie.Need-add-first-start
-add-first-start c =
-    let pre = c .before .before .before .before .before .before .before .before .before .before .before .before .before .before .before .before .before .before .before .before .before .before .before .before .before .before .before .before .before .before .before .before .before .pre in
+next-frame-requires : tie.Need-next-frame-requires
+next-frame-requires c =
+    let pre = c .before .before .before .before .before .before .before .before .before .before .before .before .before .before .before .before .before .before .before .before .before .before .before .before .before .before .before .before .before .before .before .before .pre in
     omega (arith, pre .1 .0 .0, pre .1 .0 .1)
 
 -- src/starts.rt:134:5
 first-start-requires : tie.Need-first-start-requires
 first-start-requires c κs =
-    let step = c .before .before .before .before .before .before .before .before .before .before .before .before .before .before .step in
-    let pass-heads = c .before .before .before .before .before .before .before .before .before .before .before .before .before .before .before .before .before .before .before .before .before .before .pass-heads in
-    let drop-rows = c .before .before .before .before .before .before .before .before .before .before .before .before .before .before .before .before .before .before .before .before .before .before .before .before .before .before .drop-rows in
-    let pre = c .before .before .before .before .before .before .before .before .before .before .before .before .before .before .before .before .before .before .before .before .before .before .before .before .before .before .before .before .before .before .before .before .before .before .before .before .before .pre in (
+    let next = c .before .before .before .before .before .next-frame in
+    let step = c .before .before .before .before .before .before .before .before .before .before .before .before .before .before .before .step in
+    let pass-heads = c .before .before .before .before .before .before .before .before .before .before .before .before .before .before .before .before .before .before .before .before .before .before .before .pass-heads in
+    let drop-rows = c .before .before .before .before .before .before .before .before .before .before .before .before .before .before .before .before .before .before .before .before .before .before .before .before .before .before .before .drop-rows in
+    let pre = c .before .before .before .before .before .before .before .before .before .before .before .before .before .before .before .before .before .before .before .before .before .before .before .before .before .before .before .before .before .before .before .before .before .before .before .before .before .before .pre in
+    rw (next .ensures) (
       pre .0 .inside .opened .sound,
       (
         record { inside = shelves-paired (pass-heads .ensures .0) },
         (
           (pre .0 .inside .opened .setting .some-k, omega (arith, pre .1 .0 .0), pre .1 .0 .1, pre .1 .0 .3, pre .1 .0 .4),
           (
-            step .kept .1 .1 .1 .1 .1 .1 .1 .1 .1 .1 .0 ∙ pre .0 .inside .times-are .long,
-            step .kept .1 .1 .1 .1 .1 .1 .1 .1 .1 .1 .1 .0 ∙ pre .0 .inside .spares .long,
-            step .kept .1 .1 .1 .1 .1 .1 .1 .1 .1 .1 .1 .1 .0 ∙ pre .1 .1,
-            step .kept .1 .1 .1 .1 .1 .1 .1 .1 .1 .1 .1 .1 .1 .1 .0 ∙
-                (drop-rows .kept .1 .1 .1 .1 .1 .1 .1 .1 .1 .1 .0 ∙ pre .0 .inside .timed .long),
+            step .kept .1 .1 .1 .1 .1 .1 .1 .0 ∙ pre .0 .inside .times-are .long,
+            step .kept .1 .1 .1 .1 .1 .1 .1 .1 .0 ∙ pre .0 .inside .spares .long,
+            step .kept .1 .1 .1 .1 .1 .1 .1 .1 .1 .0 ∙ pre .1 .1,
+            step .kept .1 .1 .1 .1 .1 .1 .1 .1 .1 .1 .1 .0 ∙
+                (drop-rows .kept .1 .1 .1 .1 .1 .1 .1 .0 ∙ pre .0 .inside .timed .long),
           ),
         ),
       ),
@@ -123,7 +125,7 @@ first-start-requires c κs =
 same-length-6 : tie.Need-same-length-6
 same-length-6 c =
     let first-start = c .before .before .before .before .before .before .before .before .before .before .first-start in
-    let pass-heads = c .before .before .before .before .before .before .before .before .before .before .before .before .before .before .before .before .before .before .before .before .before .before .before .before .before .before .before .before .before .before .before .before .before .pass-heads in
+    let pass-heads = c .before .before .before .before .before .before .before .before .before .before .before .before .before .before .before .before .before .before .before .before .before .before .before .before .before .before .before .before .before .before .before .before .before .before .pass-heads in
     first-start .kept .1 .1 .1 .0 ∙ pass-heads .kept .1 .1 .1 .0
 
 -- src/starts.rt:91:1
@@ -142,20 +144,20 @@ same-length-9 c = search needs
 same-length-10 : tie.Need-same-length-10
 same-length-10 c =
     let first-start = c .before .before .before .before .before .before .before .before .before .before .first-start in
-    let step = c .before .before .before .before .before .before .before .before .before .before .before .before .before .before .before .before .before .before .before .before .before .before .before .before .before .step in
-    let drop-rows = c .before .before .before .before .before .before .before .before .before .before .before .before .before .before .before .before .before .before .before .before .before .before .before .before .before .before .before .before .before .before .before .before .before .before .before .before .before .drop-rows in
-    first-start .kept .1 .1 .1 .1 .1 .1 .1 .1 .1 .1 .1 .1 .0 ∙
-    (step .kept .1 .1 .1 .1 .1 .1 .1 .1 .1 .1 .1 .1 .1 .1 .0 ∙ drop-rows .kept .1 .1 .1 .1 .1 .1 .1 .1 .1 .1 .0)
+    let step = c .before .before .before .before .before .before .before .before .before .before .before .before .before .before .before .before .before .before .before .before .before .before .before .before .before .before .step in
+    let drop-rows = c .before .before .before .before .before .before .before .before .before .before .before .before .before .before .before .before .before .before .before .before .before .before .before .before .before .before .before .before .before .before .before .before .before .before .before .before .before .before .drop-rows in
+    first-start .kept .1 .1 .1 .1 .1 .1 .1 .1 .1 .0 ∙
+    (step .kept .1 .1 .1 .1 .1 .1 .1 .1 .1 .1 .1 .0 ∙ drop-rows .kept .1 .1 .1 .1 .1 .1 .1 .0)
 
 -- src/starts.rt:91:1
 returns-2 : tie.Need-returns-2
-returns-2 c = search needs
+returns-2 c =
+    let first-start = c .before .before .before .before .before .before .before .before .before .before .first-start in
+    let next = c .before .before .before .before .before .before .before .before .before .before .before .before .before .before .before .before .next-frame in
+    rw (next .ensures) at (first-start .ensures)
 
 pub next-start-spec : {M : Type 1} → statement M
 next-start-spec =
     tie.close
     (
-    tie.spec drop-rows-requires pass-heads-requires step-requires same-length same-length-2 same-length-3
-    same-length-4 same-length-5 returns add-first-start first-start-requires same-length-6 same-length-7
-    same-length-8 same-length-9 same-length-10 returns-2
-    )
+    tie.spec drop-rows-requires pass-heads-requires step-requires same-length same-length-2 same-length-3 same-length-4 same-length-5 returns next-frame-requires first-start-requires same-length-6 same-length-7 same-length-8 same-length-9 same-length-10 returns-2)

@@ -11,13 +11,13 @@ use Rattle.rings.proofs.times.greater.Reads as greater-reads
 -- src/times.rt:51:9
 returns : tie.Need-returns
 returns c =
-    let pre = c .before .before .before .before .before .pre in
+    let pre = c .before .before .before .before .before .before .pre in
     row-early _ _ _ _ (pre .0) (pre .1 .0) (pre .1 .1 .0) (pre .1 .1 .1) (c .if1 .taken)
 
 -- src/times.rt:54:9
 returns-2 : tie.Need-returns-2
 returns-2 c =
-    let pre = c .before .before .before .before .before .before .pre in
+    let pre = c .before .before .before .before .before .before .before .pre in
     row-late _ _ _ _ (pre .0) (pre .1 .0) (pre .1 .1 .0) (pre .1 .1 .1) (c .if2 .taken)
 
 -- src/times.rt:56:9
@@ -32,7 +32,7 @@ entry-requires-2 c κs = search needs
 mul-greater : tie.Need-mul-greater
 mul-greater c =
     let entry = c .before .entry in
-    let pre = c .before .before .before .before .before .before .before .before .pre in
+    let pre = c .before .before .before .before .before .before .before .before .before .pre in
     omega (
       arith,
       row-reads _ _ _ _ (pre .0) (pre .1 .0) (pre .1 .1 .0) (pre .1 .1 .1) (entry .ensures) (c .entry2 .ensures),
@@ -43,7 +43,7 @@ shared-slice-read-greater : tie.Need-shared-slice-read-greater
 shared-slice-read-greater c =
     let entry2 = c .before .entry2 in
     let entry = c .before .before .entry in
-    let pre = c .before .before .before .before .before .before .before .before .before .pre in
+    let pre = c .before .before .before .before .before .before .before .before .before .before .pre in
     row-reads _ _ _ _ (pre .0) (pre .1 .0) (pre .1 .1 .0) (pre .1 .1 .1) (entry .ensures) (entry2 .ensures) .2
 
 -- src/times.rt:58:31
@@ -51,7 +51,7 @@ mul-greater-2 : tie.Need-mul-greater-2
 mul-greater-2 c =
     let entry2 = c .before .entry2 in
     let entry = c .before .before .entry in
-    let pre = c .before .before .before .before .before .before .before .before .before .pre in
+    let pre = c .before .before .before .before .before .before .before .before .before .before .pre in
     omega
     (arith, row-reads _ _ _ _ (pre .0) (pre .1 .0) (pre .1 .1 .0) (pre .1 .1 .1) (entry .ensures) (entry2 .ensures))
 
@@ -60,7 +60,7 @@ shared-slice-read-greater-2 : tie.Need-shared-slice-read-greater-2
 shared-slice-read-greater-2 c =
     let entry2 = c .before .before .entry2 in
     let entry = c .before .before .before .entry in
-    let pre = c .before .before .before .before .before .before .before .before .before .before .pre in
+    let pre = c .before .before .before .before .before .before .before .before .before .before .before .pre in
     row-reads _ _ _ _ (pre .0) (pre .1 .0) (pre .1 .1 .0) (pre .1 .1 .1) (entry .ensures) (entry2 .ensures) .3
 
 -- src/times.rt:58:13
@@ -87,7 +87,7 @@ returns-3 c =
     let entry = c .before .before .before .before .before .before .entry in
     let if2 = c .before .before .before .before .before .before .before .if2 in
     let if1 = c .before .before .before .before .before .before .before .before .if1 in
-    let pre = c .before .before .before .before .before .before .before .before .before .before .before .before .before .pre in
+    let pre = c .before .before .before .before .before .before .before .before .before .before .before .before .before .before .pre in
     row-mid _ _ _ _ (pre .0) (pre .1 .0) (pre .1 .1 .0) (pre .1 .1 .1) (if1 .left) (if2 .left) (entry .ensures)
     (entry2 .ensures) (greater .ensures) (c .greater2 .ensures)
 
