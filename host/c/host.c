@@ -6,8 +6,10 @@
  *
  * A refusal is printed as the listing program prints it: `refused`, the number
  * in 5 columns and the input line in 6, or 0. Exit status 0 for an answer, 1
- * for a refusal, 2 for wrong use or a file that cannot be read.
+ * for a refusal, 2 for wrong use, a file that cannot be read or an output that
+ * cannot be written.
  */
+#include <inttypes.h>
 #include <stdio.h>
 #include <stdlib.h>
 #include <string.h>
@@ -16,16 +18,22 @@
 
 enum { QUERY = 16, LINE = 18 };
 
-static int refused(uint32_t number, uint64_t line)
-{
-    printf("refused%5lu%6lu\n", (unsigned long)number, (unsigned long)line);
-    return 1;
-}
-
 static int trouble(const char *what)
 {
     fprintf(stderr, "host: %s\n", what);
     return 2;
+}
+
+static int unwritten(void)
+{
+    return trouble("cannot write the output");
+}
+
+static int refused(uint32_t number, uint64_t line)
+{
+    if (printf("refused%5" PRIu32 "%6" PRIu64 "\n", number, line) < 0)
+        return unwritten();
+    return 1;
 }
 
 /* The file's bytes, or NULL. */
@@ -71,8 +79,8 @@ static int list(const uint8_t *input, size_t input_length)
     uint32_t number = rumbleog_list(input, input_length, output, room, &line, &length);
     if (number != RUMBLEOG_OK)
         status = refused(number, line);
-    else
-        fwrite(output, 1, (size_t)length, stdout);
+    else if (fwrite(output, 1, (size_t)length, stdout) != length)
+        status = unwritten();
     free(output);
     return status;
 }
@@ -110,10 +118,12 @@ static int ring(const uint8_t *input, size_t input_length, uint16_t k, uint16_t 
         status = refused(number, at_row ? place + 2 : 0);
         goto done;
     }
-    printf("%lu of %lu rows\n", (unsigned long)ones, (unsigned long)count);
-    for (size_t row = 0; row < rows; row++)
-        printf("%d%5u%6u%6u\n", marks[row], (unsigned)days[row], (unsigned)first[row],
-               (unsigned)second[row]);
+    int written = printf("%" PRIu64 " of %" PRIu64 " rows\n", ones, count);
+    for (size_t row = 0; row < rows && written >= 0; row++)
+        written = printf("%" PRIu8 "%5" PRIu16 "%6" PRIu16 "%6" PRIu16 "\n", marks[row], days[row],
+                         first[row], second[row]);
+    if (written < 0)
+        status = unwritten();
 done:
     free(columns);
     free(scratch);
@@ -149,5 +159,8 @@ int main(int argc, char **argv)
     else
         status = ring(input, length, k, s, e);
     free(input);
+    /* What was printed may still lie in stdout's buffer. */
+    if (fclose(stdout) != 0 && status != 2)
+        status = unwritten();
     return status;
 }

@@ -45,5 +45,29 @@ one broken-ring 1 ring "$examples/broken-day.txt" 2 1 6
 one wrong-k 1 ring "$examples/season.txt" 0 1 6
 one wrong-window 1 ring "$examples/season.txt" 2 5 4
 
+# An output that cannot be written is told, by its status and on standard error.
+full() {
+    name=$1
+    shift
+    # shellcheck disable=SC2086 # a list of words
+    said=$($under "$host" "$@" 2>&1 > /dev/full)
+    got=$?
+    if [ $got -eq 2 ] && [ "$said" = "host: cannot write the output" ]; then
+        passed=$((passed + 1))
+    else
+        failed=$((failed + 1))
+        echo "c-host: $name to a full disk: status $got (expected 2), said '$said'"
+    fi
+}
+
+if [ -c /dev/full ]; then
+    full season list "$examples/season.txt"
+    full market list "$examples/market.txt"
+    full market-ring ring "$examples/market.txt" 3 10 40
+    full broken-day list "$examples/broken-day.txt"
+else
+    echo "c-host: no /dev/full here: writing to a full disk is not tried"
+fi
+
 echo "c-host${under:+ under valgrind}: $passed passed, $failed failed"
 [ $failed -eq 0 ]
