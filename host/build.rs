@@ -1,9 +1,8 @@
-//! Links the archive named by LIB (default ../target/staticlib/libengine.a);
-//! with the feature `bench` also compiles the C peer.
+//! Links the archive named by LIB (default ../target/staticlib/libengine.a).
 
 use std::env;
 use std::path::{Path, PathBuf};
-use std::process::{exit, Command};
+use std::process::exit;
 
 fn fail(message: String) -> ! {
     eprintln!("error: {message}");
@@ -23,14 +22,6 @@ fn link(archive: &Path) {
     println!("cargo:rerun-if-changed={}", archive.display());
 }
 
-fn run(command: &mut Command) {
-    match command.status() {
-        Ok(status) if status.success() => {}
-        Ok(status) => fail(format!("{command:?}: {status}")),
-        Err(error) => fail(format!("{command:?}: {error}")),
-    }
-}
-
 fn main() {
     println!("cargo:rerun-if-env-changed=LIB");
     println!("cargo:rerun-if-changed=build.rs");
@@ -46,21 +37,4 @@ fn main() {
         ));
     }
     link(&archive);
-
-    if env::var_os("CARGO_FEATURE_BENCH").is_some() {
-        let out = PathBuf::from(env::var_os("OUT_DIR").unwrap_or_default());
-        let source = here.join("peer/engine.c");
-        let object = out.join("peer.o");
-        let peer = out.join("libpeer.a");
-        println!("cargo:rerun-if-changed={}", source.display());
-        let cc = env::var_os("CC").unwrap_or_else(|| "cc".into());
-        run(Command::new(cc)
-            .args(["-std=c99", "-O3", "-DENGINE_PREFIX=peer_", "-c"])
-            .arg(&source)
-            .arg("-o")
-            .arg(&object));
-        run(Command::new("ar").arg("crs").arg(&peer).arg(&object));
-        println!("cargo:rustc-link-search=native={}", out.display());
-        println!("cargo:rustc-link-lib=static=peer");
-    }
 }

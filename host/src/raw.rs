@@ -1,141 +1,416 @@
-//! The C interface as it is: see `include/rumbleog.h`.
-#![allow(missing_docs)]
+//! The foreign calls: `include/rumbleog.h` as Rust sees it, here and nowhere
+//! else.
+//!
+//! Each function takes slices where C takes a pointer and a number of elements,
+//! and by reference the numbers that the call writes; it returns the number of
+//! the refusal, one of [`number`](crate::number). The C functions themselves are
+//! in [`c`].
 
-extern "C" {
-    pub fn rumbleog_list(
-        input: *const u8,
-        input_length: usize,
-        output: *mut u8,
-        output_length: usize,
-        line: *mut u64,
-        length: *mut u64,
-    ) -> u32;
+/// Declares the nine calls of the header under C names that start with
+/// `$prefix`: a module `c` with the C functions, and over each a safe function.
+/// Those of this module are the archive's; the benchmark makes a second set, its
+/// C peer's.
+#[macro_export]
+#[doc(hidden)]
+macro_rules! foreign_calls {
+    ($prefix:literal) => {
+        use $crate::{Days, Query, Table, Windows};
 
-    pub fn rumbleog_check_table(
-        days: *const u16,
-        days_length: usize,
-        first: *const u16,
-        first_length: usize,
-        second: *const u16,
-        second_length: usize,
-        place: *mut u64,
-    ) -> u32;
+        /// The C functions, with the parameters of the header.
+        #[allow(missing_docs)]
+        pub mod c {
+            extern "C" {
+                #[link_name = concat!($prefix, "list")]
+                pub fn list(
+                    input: *const u8,
+                    input_length: usize,
+                    output: *mut u8,
+                    output_length: usize,
+                    line: *mut u64,
+                    length: *mut u64,
+                ) -> u32;
 
-    pub fn rumbleog_window_ring(
-        days: *const u16,
-        days_length: usize,
-        first: *const u16,
-        first_length: usize,
-        second: *const u16,
-        second_length: usize,
-        k: u16,
-        s: u16,
-        e: u16,
-        marks: *mut u8,
-        marks_length: usize,
-        scratch: *mut u16,
-        scratch_length: usize,
-        place: *mut u64,
-        count: *mut u64,
-    ) -> u32;
+                #[link_name = concat!($prefix, "check_table")]
+                pub fn check_table(
+                    days: *const u16,
+                    days_length: usize,
+                    first: *const u16,
+                    first_length: usize,
+                    second: *const u16,
+                    second_length: usize,
+                    place: *mut u64,
+                ) -> u32;
 
-    pub fn rumbleog_core_times(
-        days: *const u16,
-        days_length: usize,
-        first: *const u16,
-        first_length: usize,
-        second: *const u16,
-        second_length: usize,
-        k: u16,
-        ts: u16,
-        te: u16,
-        s: u16,
-        accounts: *mut u16,
-        accounts_length: usize,
-        rows: *mut u16,
-        rows_length: usize,
-        scratch: *mut u16,
-        scratch_length: usize,
-        place: *mut u64,
-    ) -> u32;
+                #[link_name = concat!($prefix, "window_ring")]
+                pub fn window_ring(
+                    days: *const u16,
+                    days_length: usize,
+                    first: *const u16,
+                    first_length: usize,
+                    second: *const u16,
+                    second_length: usize,
+                    k: u16,
+                    s: u16,
+                    e: u16,
+                    marks: *mut u8,
+                    marks_length: usize,
+                    scratch: *mut u16,
+                    scratch_length: usize,
+                    place: *mut u64,
+                    count: *mut u64,
+                ) -> u32;
 
-    pub fn rumbleog_minimal_windows(
-        days: *const u16,
-        days_length: usize,
-        first: *const u16,
-        first_length: usize,
-        second: *const u16,
-        second_length: usize,
-        k: u16,
-        ts: u16,
-        te: u16,
-        row: *mut u16,
-        row_length: usize,
-        start: *mut u16,
-        start_length: usize,
-        end: *mut u16,
-        end_length: usize,
-        scratch: *mut u16,
-        scratch_length: usize,
-        place: *mut u64,
-        count: *mut u64,
-    ) -> u32;
+                #[link_name = concat!($prefix, "core_times")]
+                pub fn core_times(
+                    days: *const u16,
+                    days_length: usize,
+                    first: *const u16,
+                    first_length: usize,
+                    second: *const u16,
+                    second_length: usize,
+                    k: u16,
+                    ts: u16,
+                    te: u16,
+                    s: u16,
+                    accounts: *mut u16,
+                    accounts_length: usize,
+                    rows: *mut u16,
+                    rows_length: usize,
+                    scratch: *mut u16,
+                    scratch_length: usize,
+                    place: *mut u64,
+                ) -> u32;
 
-    pub fn rumbleog_listing(
-        days: *const u16,
-        days_length: usize,
-        first: *const u16,
-        first_length: usize,
-        second: *const u16,
-        second_length: usize,
-        k: u16,
-        ts: u16,
-        te: u16,
-        start: *mut u16,
-        start_length: usize,
-        end: *mut u16,
-        end_length: usize,
-        rows: *mut u16,
-        rows_length: usize,
-        scratch: *mut u16,
-        scratch_length: usize,
-        place: *mut u64,
-        count: *mut u64,
-        sum: *mut u64,
-    ) -> u32;
+                #[link_name = concat!($prefix, "minimal_windows")]
+                pub fn minimal_windows(
+                    days: *const u16,
+                    days_length: usize,
+                    first: *const u16,
+                    first_length: usize,
+                    second: *const u16,
+                    second_length: usize,
+                    k: u16,
+                    ts: u16,
+                    te: u16,
+                    row: *mut u16,
+                    row_length: usize,
+                    start: *mut u16,
+                    start_length: usize,
+                    end: *mut u16,
+                    end_length: usize,
+                    scratch: *mut u16,
+                    scratch_length: usize,
+                    place: *mut u64,
+                    count: *mut u64,
+                ) -> u32;
 
-    pub fn rumbleog_recall(
-        days: *const u16,
-        days_length: usize,
-        first: *const u16,
-        first_length: usize,
-        second: *const u16,
-        second_length: usize,
-        row: *const u16,
-        row_length: usize,
-        start: *const u16,
-        start_length: usize,
-        end: *const u16,
-        end_length: usize,
-        s: u16,
-        e: u16,
-        marks: *mut u8,
-        marks_length: usize,
-        place: *mut u64,
-    ) -> u32;
+                #[link_name = concat!($prefix, "listing")]
+                pub fn listing(
+                    days: *const u16,
+                    days_length: usize,
+                    first: *const u16,
+                    first_length: usize,
+                    second: *const u16,
+                    second_length: usize,
+                    k: u16,
+                    ts: u16,
+                    te: u16,
+                    start: *mut u16,
+                    start_length: usize,
+                    end: *mut u16,
+                    end_length: usize,
+                    rows: *mut u16,
+                    rows_length: usize,
+                    scratch: *mut u16,
+                    scratch_length: usize,
+                    place: *mut u64,
+                    count: *mut u64,
+                    sum: *mut u64,
+                ) -> u32;
 
-    pub fn rumbleog_longest_list(ts: u16, te: u16, place: *mut u64, count: *mut u64) -> u32;
+                #[link_name = concat!($prefix, "recall")]
+                pub fn recall(
+                    days: *const u16,
+                    days_length: usize,
+                    first: *const u16,
+                    first_length: usize,
+                    second: *const u16,
+                    second_length: usize,
+                    row: *const u16,
+                    row_length: usize,
+                    start: *const u16,
+                    start_length: usize,
+                    end: *const u16,
+                    end_length: usize,
+                    s: u16,
+                    e: u16,
+                    marks: *mut u8,
+                    marks_length: usize,
+                    place: *mut u64,
+                ) -> u32;
 
-    pub fn rumbleog_read_table(
-        text: *const u8,
-        text_length: usize,
-        days: *mut u16,
-        days_length: usize,
-        first: *mut u16,
-        first_length: usize,
-        second: *mut u16,
-        second_length: usize,
-        place: *mut u64,
-        count: *mut u64,
-    ) -> u32;
+                #[link_name = concat!($prefix, "longest_list")]
+                pub fn longest_list(ts: u16, te: u16, place: *mut u64, count: *mut u64) -> u32;
+
+                #[link_name = concat!($prefix, "read_table")]
+                pub fn read_table(
+                    text: *const u8,
+                    text_length: usize,
+                    days: *mut u16,
+                    days_length: usize,
+                    first: *mut u16,
+                    first_length: usize,
+                    second: *mut u16,
+                    second_length: usize,
+                    place: *mut u64,
+                    count: *mut u64,
+                ) -> u32;
+            }
+        }
+
+        /// The header's `list`.
+        pub fn list(input: &[u8], output: &mut [u8], line: &mut u64, length: &mut u64) -> u32 {
+            // SAFETY: live slices, each with its own length; what is written is borrowed alone.
+            unsafe {
+                c::list(
+                    input.as_ptr(),
+                    input.len(),
+                    output.as_mut_ptr(),
+                    output.len(),
+                    line,
+                    length,
+                )
+            }
+        }
+
+        /// The header's `check_table`.
+        pub fn check_table(table: Table, place: &mut u64) -> u32 {
+            // SAFETY: live slices, each with its own length; what is written is borrowed alone.
+            unsafe {
+                c::check_table(
+                    table.days.as_ptr(),
+                    table.days.len(),
+                    table.first.as_ptr(),
+                    table.first.len(),
+                    table.second.as_ptr(),
+                    table.second.len(),
+                    place,
+                )
+            }
+        }
+
+        /// The header's `window_ring`.
+        pub fn window_ring(
+            table: Table,
+            query: Query,
+            window: Days,
+            marks: &mut [u8],
+            scratch: &mut [u16],
+            place: &mut u64,
+            count: &mut u64,
+        ) -> u32 {
+            // SAFETY: live slices, each with its own length; what is written is borrowed alone.
+            unsafe {
+                c::window_ring(
+                    table.days.as_ptr(),
+                    table.days.len(),
+                    table.first.as_ptr(),
+                    table.first.len(),
+                    table.second.as_ptr(),
+                    table.second.len(),
+                    query.k,
+                    *window.start(),
+                    *window.end(),
+                    marks.as_mut_ptr(),
+                    marks.len(),
+                    scratch.as_mut_ptr(),
+                    scratch.len(),
+                    place,
+                    count,
+                )
+            }
+        }
+
+        /// The header's `core_times`.
+        #[allow(clippy::too_many_arguments)]
+        pub fn core_times(
+            table: Table,
+            query: Query,
+            range: Days,
+            start: u16,
+            accounts: &mut [u16],
+            rows: &mut [u16],
+            scratch: &mut [u16],
+            place: &mut u64,
+        ) -> u32 {
+            // SAFETY: live slices, each with its own length; what is written is borrowed alone.
+            unsafe {
+                c::core_times(
+                    table.days.as_ptr(),
+                    table.days.len(),
+                    table.first.as_ptr(),
+                    table.first.len(),
+                    table.second.as_ptr(),
+                    table.second.len(),
+                    query.k,
+                    *range.start(),
+                    *range.end(),
+                    start,
+                    accounts.as_mut_ptr(),
+                    accounts.len(),
+                    rows.as_mut_ptr(),
+                    rows.len(),
+                    scratch.as_mut_ptr(),
+                    scratch.len(),
+                    place,
+                )
+            }
+        }
+
+        /// The header's `minimal_windows`.
+        #[allow(clippy::too_many_arguments)]
+        pub fn minimal_windows(
+            table: Table,
+            query: Query,
+            range: Days,
+            row: &mut [u16],
+            start: &mut [u16],
+            end: &mut [u16],
+            scratch: &mut [u16],
+            place: &mut u64,
+            count: &mut u64,
+        ) -> u32 {
+            // SAFETY: live slices, each with its own length; what is written is borrowed alone.
+            unsafe {
+                c::minimal_windows(
+                    table.days.as_ptr(),
+                    table.days.len(),
+                    table.first.as_ptr(),
+                    table.first.len(),
+                    table.second.as_ptr(),
+                    table.second.len(),
+                    query.k,
+                    *range.start(),
+                    *range.end(),
+                    row.as_mut_ptr(),
+                    row.len(),
+                    start.as_mut_ptr(),
+                    start.len(),
+                    end.as_mut_ptr(),
+                    end.len(),
+                    scratch.as_mut_ptr(),
+                    scratch.len(),
+                    place,
+                    count,
+                )
+            }
+        }
+
+        /// The header's `listing`.
+        #[allow(clippy::too_many_arguments)]
+        pub fn listing(
+            table: Table,
+            query: Query,
+            range: Days,
+            start: &mut [u16],
+            end: &mut [u16],
+            rows: &mut [u16],
+            scratch: &mut [u16],
+            place: &mut u64,
+            count: &mut u64,
+            sum: &mut u64,
+        ) -> u32 {
+            // SAFETY: live slices, each with its own length; what is written is borrowed alone.
+            unsafe {
+                c::listing(
+                    table.days.as_ptr(),
+                    table.days.len(),
+                    table.first.as_ptr(),
+                    table.first.len(),
+                    table.second.as_ptr(),
+                    table.second.len(),
+                    query.k,
+                    *range.start(),
+                    *range.end(),
+                    start.as_mut_ptr(),
+                    start.len(),
+                    end.as_mut_ptr(),
+                    end.len(),
+                    rows.as_mut_ptr(),
+                    rows.len(),
+                    scratch.as_mut_ptr(),
+                    scratch.len(),
+                    place,
+                    count,
+                    sum,
+                )
+            }
+        }
+
+        /// The header's `recall`.
+        pub fn recall(
+            table: Table,
+            windows: Windows,
+            window: Days,
+            marks: &mut [u8],
+            place: &mut u64,
+        ) -> u32 {
+            // SAFETY: live slices, each with its own length; what is written is borrowed alone.
+            unsafe {
+                c::recall(
+                    table.days.as_ptr(),
+                    table.days.len(),
+                    table.first.as_ptr(),
+                    table.first.len(),
+                    table.second.as_ptr(),
+                    table.second.len(),
+                    windows.row.as_ptr(),
+                    windows.row.len(),
+                    windows.start.as_ptr(),
+                    windows.start.len(),
+                    windows.end.as_ptr(),
+                    windows.end.len(),
+                    *window.start(),
+                    *window.end(),
+                    marks.as_mut_ptr(),
+                    marks.len(),
+                    place,
+                )
+            }
+        }
+
+        /// The header's `longest_list`.
+        pub fn longest_list(range: Days, place: &mut u64, count: &mut u64) -> u32 {
+            // SAFETY: two live numbers, each borrowed alone.
+            unsafe { c::longest_list(*range.start(), *range.end(), place, count) }
+        }
+
+        /// The header's `read_table`.
+        pub fn read_table(
+            text: &[u8],
+            days: &mut [u16],
+            first: &mut [u16],
+            second: &mut [u16],
+            place: &mut u64,
+            count: &mut u64,
+        ) -> u32 {
+            // SAFETY: live slices, each with its own length; what is written is borrowed alone.
+            unsafe {
+                c::read_table(
+                    text.as_ptr(),
+                    text.len(),
+                    days.as_mut_ptr(),
+                    days.len(),
+                    first.as_mut_ptr(),
+                    first.len(),
+                    second.as_mut_ptr(),
+                    second.len(),
+                    place,
+                    count,
+                )
+            }
+        }
+    };
 }
+
+foreign_calls!("rumbleog_");

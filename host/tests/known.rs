@@ -3,38 +3,40 @@
 mod common;
 
 use common::*;
-use rumbleog::{self as lib, brute, Refusal, Table, Windows, NEVER};
+use rumbleog::number::*;
+use rumbleog::{self as lib, Days, Query, Refusal, Table, Windows, NEVER};
 
 /// Minimal windows through the wrapper, cut at their count.
-fn windows(table: &Owned, k: u16, ts: u16, te: u16) -> Vec<(u16, u16, u16)> {
+fn windows(table: &Owned, k: u16, range: Days) -> Vec<(u16, u16, u16)> {
     let mut columns = [vec![0; 4_000], vec![0; 4_000], vec![0; 4_000]];
     let [a, b, c] = &mut columns;
     let mut scratch = vec![0xabcd; lib::scratch_for(table.rows())];
-    let count = lib::minimal_windows(table.lend(), k, ts, te, a, b, c, &mut scratch).unwrap();
+    let query = Query { k };
+    let count = lib::minimal_windows(table.lend(), query, range, a, b, c, &mut scratch).unwrap();
     (0..count as usize).map(|i| (a[i], b[i], c[i])).collect()
 }
 
-fn rings(table: &Owned, k: u16, ts: u16, te: u16) -> (Vec<(u16, u16, u16)>, u64) {
+fn rings(table: &Owned, k: u16, range: Days) -> (Vec<(u16, u16, u16)>, u64) {
     let mut columns = [vec![0; 4_000], vec![0; 4_000], vec![0; 4_000]];
     let [a, b, c] = &mut columns;
     let mut scratch = vec![0xabcd; lib::scratch_for(table.rows())];
-    let listed = lib::listing(table.lend(), k, ts, te, a, b, c, &mut scratch).unwrap();
+    let query = Query { k };
+    let listed = lib::listing(table.lend(), query, range, a, b, c, &mut scratch).unwrap();
     let list = (0..listed.count as usize)
         .map(|i| (a[i], b[i], c[i]))
         .collect();
     (list, listed.sum)
 }
 
-fn times(table: &Owned, k: u16, ts: u16, te: u16, s: u16) -> (Vec<u16>, Vec<u16>) {
+fn times(table: &Owned, k: u16, range: Days, start: u16) -> (Vec<u16>, Vec<u16>) {
     let mut accounts = vec![7; 4_096];
     let mut rows = vec![7; table.rows()];
     let mut scratch = vec![0xabcd; lib::scratch_for(table.rows())];
     lib::core_times(
         table.lend(),
-        k,
-        ts,
-        te,
-        s,
+        Query { k },
+        range,
+        start,
         &mut accounts,
         &mut rows,
         &mut scratch,
@@ -47,7 +49,7 @@ fn times(table: &Owned, k: u16, ts: u16, te: u16, s: u16) -> (Vec<u16>, Vec<u16>
 #[test]
 fn season_core_times() {
     let table = season();
-    let (accounts, rows) = times(&table, 2, 1, 6, 1);
+    let (accounts, rows) = times(&table, 2, 1..=6, 1);
     assert_eq!(rows, [2, 2, 2, 4, 6, 6]);
     for (account, &time) in accounts.iter().enumerate() {
         let expected = match account {
@@ -57,9 +59,9 @@ fn season_core_times() {
         };
         assert_eq!(time, expected, "account {account}");
     }
-    let (_, rows) = times(&table, 2, 1, 6, 2);
+    let (_, rows) = times(&table, 2, 1..=6, 2);
     assert_eq!(rows, [NEVER, 4, 4, 4, 6, 6]);
-    let (accounts, rows) = times(&table, 2, 1, 6, 3);
+    let (accounts, rows) = times(&table, 2, 1..=6, 3);
     assert!(accounts.iter().chain(&rows).all(|&time| time == NEVER));
 }
 
@@ -76,13 +78,13 @@ fn season_minimal_windows() {
         (4, 2, 6),
         (5, 2, 6),
     ];
-    assert_eq!(windows(&table, 2, 1, 6), list);
+    assert_eq!(windows(&table, 2, 1..=6), list);
     // Seven places: 10, columns kept, scratch all 0.
     let mut columns = [[9; 7]; 3];
     let [a, b, c] = &mut columns;
     let mut scratch = vec![5; lib::scratch_for(6) + 3];
     assert_eq!(
-        lib::minimal_windows(table.lend(), 2, 1, 6, a, b, c, &mut scratch),
+        lib::minimal_windows(table.lend(), Query { k: 2 }, 1..=6, a, b, c, &mut scratch),
         Err(Refusal::NoRoom)
     );
     assert_eq!(columns, [[9; 7]; 3]);
@@ -93,9 +95,9 @@ fn season_minimal_windows() {
 fn season_rings() {
     let table = season();
     let list = vec![(1, 2, 3), (1, 4, 4), (1, 6, 6), (2, 4, 3), (2, 6, 5)];
-    assert_eq!(rings(&table, 2, 1, 6), (list, 21));
-    assert_eq!(rings(&table, 3, 1, 6), (vec![], 0));
-    assert_eq!(rings(&table, 1, 1, 6).0.len(), 15);
+    assert_eq!(rings(&table, 2, 1..=6), (list, 21));
+    assert_eq!(rings(&table, 3, 1..=6), (vec![], 0));
+    assert_eq!(rings(&table, 1, 1..=6).0.len(), 15);
     let text = format!("    2    1    6\n{}", table.text());
     let mut out = vec![b'#'; 200];
     let length = lib::list(text.as_bytes(), &mut out).unwrap();
@@ -112,19 +114,19 @@ fn season_rings() {
 #[test]
 fn empty_tables_and_equal_rows() {
     let empty = Owned::default();
-    assert_eq!(rings(&empty, 1, 1, 1_024), (vec![], 0));
-    assert_eq!(windows(&empty, 4_095, 1, 1_024), []);
-    assert!(times(&empty, 1, 1, 1_024, 5).0.iter().all(|&t| t == NEVER));
+    assert_eq!(rings(&empty, 1, 1..=1_024), (vec![], 0));
+    assert_eq!(windows(&empty, 4_095, 1..=1_024), []);
+    assert!(times(&empty, 1, 1..=1_024, 5).0.iter().all(|&t| t == NEVER));
     let pair = Owned::of(&[(1, 1, 2), (2, 1, 2)]);
-    assert_eq!(rings(&pair, 2, 1, 2), (vec![], 0));
+    assert_eq!(rings(&pair, 2, 1..=2), (vec![], 0));
     let list = vec![(1, 1, 1), (1, 2, 2), (2, 2, 1)];
-    assert_eq!(rings(&pair, 1, 1, 2), (list, 4));
+    assert_eq!(rings(&pair, 1, 1..=2), (list, 4));
     let twice = Owned::of(&[(3, 1, 2), (3, 1, 2), (3, 1, 2)]);
-    assert_eq!(rings(&twice, 1, 1, 9), (vec![(3, 3, 3)], 3));
-    assert_eq!(rings(&twice, 2, 1, 9), (vec![], 0));
+    assert_eq!(rings(&twice, 1, 1..=9), (vec![(3, 3, 3)], 3));
+    assert_eq!(rings(&twice, 2, 1..=9), (vec![], 0));
     let triangle = Owned::of(&[(3, 1, 2), (3, 1, 2), (3, 1, 3), (3, 2, 3)]);
-    assert_eq!(rings(&triangle, 2, 3, 3), (vec![(3, 3, 4)], 4));
-    assert_eq!(rings(&triangle, 3, 3, 3), (vec![], 0));
+    assert_eq!(rings(&triangle, 2, 3..=3), (vec![(3, 3, 4)], 4));
+    assert_eq!(rings(&triangle, 3, 3..=3), (vec![], 0));
 }
 
 /// NULL for an empty slice, as C hosts may pass it.
@@ -134,7 +136,7 @@ fn null_slices() {
     let (none, mut scratch) = (std::ptr::null::<u16>(), vec![1; 8_192]);
     // SAFETY: NULL with length 0, and a live scratch.
     let number = unsafe {
-        lib::raw::rumbleog_window_ring(
+        lib::raw::c::window_ring(
             none,
             0,
             none,
@@ -152,16 +154,16 @@ fn null_slices() {
             &mut count,
         )
     };
-    assert_eq!((number, place, count), (0, 0, 0));
+    assert_eq!((number, place, count), (OK, 0, 0));
     assert!(scratch.iter().all(|&number| number == 0));
     let (none8, mut length) = (std::ptr::null::<u8>(), 7);
     // SAFETY: NULL with length 0.
+    let number =
+        unsafe { lib::raw::c::list(none8, 0, std::ptr::null_mut(), 0, &mut place, &mut length) };
+    assert_eq!((number, place, length), (BAD_LINE, 1, 0));
+    // SAFETY: NULL with length 0.
     let number = unsafe {
-        lib::raw::rumbleog_list(none8, 0, std::ptr::null_mut(), 0, &mut place, &mut length)
-    };
-    assert_eq!((number, place, length), (11, 1, 0));
-    let number = unsafe {
-        lib::raw::rumbleog_read_table(
+        lib::raw::c::read_table(
             none8,
             0,
             std::ptr::null_mut(),
@@ -174,7 +176,7 @@ fn null_slices() {
             &mut count,
         )
     };
-    assert_eq!((number, place, count), (0, 0, 0));
+    assert_eq!((number, place, count), (OK, 0, 0));
 }
 
 #[test]
@@ -199,16 +201,16 @@ fn limits_pass_and_next_are_refused() {
         (1_024, 4_093, 4_095),
         (1_024, 4_094, 4_095),
     ]);
-    assert_eq!(rings(&late, 2, 1, 1_024), (vec![(1_024, 1_024, 3)], 3));
-    assert_eq!(rings(&late, 2, 1_024, 1_024).0.len(), 1);
+    assert_eq!(rings(&late, 2, 1..=1_024), (vec![(1_024, 1_024, 3)], 3));
+    assert_eq!(rings(&late, 2, 1_024..=1_024).0.len(), 1);
     assert_eq!(
-        windows(&late, 2, 1, 1_024),
+        windows(&late, 2, 1..=1_024),
         [(0, 1_024, 1_024), (1, 1_024, 1_024), (2, 1_024, 1_024)]
     );
-    let (accounts, rows) = times(&late, 2, 1, 1_024, 1);
+    let (accounts, rows) = times(&late, 2, 1..=1_024, 1);
     assert_eq!(rows, [1_024; 3]);
     assert_eq!(accounts[4_092..], [NEVER, 1_024, 1_024, 1_024]);
-    let (_, rows) = times(&late, 2, 1, 1_023, 1);
+    let (_, rows) = times(&late, 2, 1..=1_023, 1);
     assert_eq!(rows, [NEVER; 3]);
 
     // 16,384 rows pass, 16,385 are refused, after 1 and before any row.
@@ -240,13 +242,19 @@ fn limits_pass_and_next_are_refused() {
 #[test]
 fn k_zero_and_beyond() {
     let table = season();
-    for (k, expected) in [(0, 6), (4_096, 6), (65_535, 6), (1, 0), (4_095, 0)] {
+    for (k, expected) in [
+        (0, BAD_K),
+        (4_096, BAD_K),
+        (65_535, BAD_K),
+        (1, OK),
+        (4_095, OK),
+    ] {
         let mut marks = [3; 6];
         let mut scratch = vec![3; lib::scratch_for(6)];
-        let got = window_ring(table.lend(), k, 1, 6, &mut marks, &mut scratch);
+        let got = window_ring(table.lend(), Query { k }, 1..=6, &mut marks, &mut scratch);
         assert_eq!(got.number, expected, "k {k}");
         assert_eq!(got.count, if k == 1 { 6 } else { 0 });
-        if expected == 6 {
+        if expected == BAD_K {
             assert_eq!(marks, [3; 6]);
             assert!(scratch.iter().all(|&number| number == 3));
         }
@@ -259,9 +267,9 @@ fn k_zero_and_beyond() {
         }
     }
     let clique = Owned::of(&rows);
-    assert_eq!(rings(&clique, 180, 1, 1).0, [(1, 1, 16_290)]);
-    assert_eq!(rings(&clique, 181, 1, 1).0, []);
-    assert_eq!(rings(&clique, 4_095, 1, 1).0, []);
+    assert_eq!(rings(&clique, 180, 1..=1).0, [(1, 1, 16_290)]);
+    assert_eq!(rings(&clique, 181, 1..=1).0, []);
+    assert_eq!(rings(&clique, 4_095, 1..=1).0, []);
 }
 
 /// 001, Figure 1 and Table II: k = 2, range [1, 7]; v1 to v9 are accounts 1 to 9.
@@ -303,20 +311,23 @@ fn the_papers_example() {
         (12, 6, 7),
         (13, 6, 7),
     ];
-    assert_eq!(windows(&table, 2, 1, 7), skyline);
-    assert_eq!(brute::minimal_window_list(table.lend(), 2, 1, 7), skyline);
+    assert_eq!(windows(&table, 2, 1..=7), skyline);
+    assert_eq!(
+        brute::minimal_window_list(table.lend(), Query { k: 2 }, 1..=7),
+        skyline
+    );
     // 001, Example 1: two temporal 2-cores in [1, 4].
     let list = vec![(1, 4, 6), (2, 3, 3)];
-    assert_eq!(rings(&table, 2, 1, 4), (list, 9));
+    assert_eq!(rings(&table, 2, 1..=4), (list, 9));
     // 001, Table I, but for v3 from 4, which Table II contradicts.
-    let (accounts, _) = times(&table, 2, 1, 7, 1);
+    let (accounts, _) = times(&table, 2, 1..=7, 1);
     assert_eq!(accounts[1..10], [3, 3, 4, 3, 7, 5, 5, 5, 4]);
-    let (accounts, _) = times(&table, 2, 1, 7, 4);
+    let (accounts, _) = times(&table, 2, 1..=7, 4);
     let n = NEVER;
     assert_eq!(accounts[1..10], [5, n, 7, n, 7, 5, 5, n, n]);
-    let (accounts, _) = times(&table, 2, 1, 7, 6);
+    let (accounts, _) = times(&table, 2, 1..=7, 6);
     assert_eq!(accounts[1..10], [7, n, 7, n, 7, n, n, n, n]);
-    let (accounts, _) = times(&table, 2, 1, 7, 7);
+    let (accounts, _) = times(&table, 2, 1..=7, 7);
     assert_eq!(accounts[1..10], [n; 9]);
 }
 
@@ -328,28 +339,30 @@ fn wrappers_name_refusals() {
     let mut scratch = vec![0; lib::scratch_for(6)];
     let short = lib::scratch_for(6) - 1;
     let t = table.lend();
+    let query = Query { k: 2 };
     let fifth = Table {
         days: &t.days[..5],
         ..t
     };
     assert_eq!(
-        lib::window_ring(fifth, 2, 1, 6, &mut marks, &mut scratch),
+        lib::window_ring(fifth, query, 1..=6, &mut marks, &mut scratch),
         Err(Refusal::ColumnsDiffer)
     );
     assert_eq!(
-        lib::window_ring(t, 0, 1, 6, &mut marks, &mut scratch),
+        lib::window_ring(t, Query { k: 0 }, 1..=6, &mut marks, &mut scratch),
         Err(Refusal::BadK)
     );
+    let backwards = Days::new(6, 1);
     assert_eq!(
-        lib::window_ring(t, 2, 6, 1, &mut marks, &mut scratch),
+        lib::window_ring(t, query, backwards.clone(), &mut marks, &mut scratch),
         Err(Refusal::BadRange)
     );
     assert_eq!(
-        lib::window_ring(t, 2, 1, 6, &mut marks[1..], &mut scratch),
+        lib::window_ring(t, query, 1..=6, &mut marks[1..], &mut scratch),
         Err(Refusal::BadLength)
     );
     assert_eq!(
-        lib::window_ring(t, 2, 1, 6, &mut marks, &mut scratch[..short]),
+        lib::window_ring(t, query, 1..=6, &mut marks, &mut scratch[..short]),
         Err(Refusal::Scratch)
     );
     let list = Windows {
@@ -358,7 +371,7 @@ fn wrappers_name_refusals() {
         end: &[2, 2, 4],
     };
     assert_eq!(
-        lib::recall(t, list, 1, 6, &mut marks),
+        lib::recall(t, list, 1..=6, &mut marks),
         Err(Refusal::BadEntry(2))
     );
     let mut days = [0; 2];
@@ -374,25 +387,78 @@ fn wrappers_name_refusals() {
         Err(Refusal::BadNumber(2))
     );
     assert_eq!(read(&"    1     1     2\n".repeat(3)), Err(Refusal::NoRoom));
-    assert_eq!(lib::longest_list(1, 1_024), Ok(524_800));
-    assert_eq!(lib::longest_list(2, 1), Err(Refusal::BadRange));
+    assert_eq!(lib::longest_list(1..=1_024), Ok(524_800));
+    assert_eq!(lib::longest_list(backwards), Err(Refusal::BadRange));
+}
+
+/// Numbers and places go into refusals and come out again, and into words.
+#[test]
+fn refusals_by_number() {
+    assert_eq!(Refusal::of(OK, 3), None);
     for number in 1..=20 {
         let refusal = Refusal::of(number, 3).unwrap();
         assert_eq!(refusal.number(), number);
-        let has_place = matches!(number, 3..=5 | 11..=20);
-        assert_eq!(refusal.place(), if has_place { 3 } else { 0 });
-        assert!(refusal.to_string().starts_with("refused "));
+        let has_place = matches!(
+            number,
+            BAD_DAY | BAD_ACCOUNTS | DAY_FALLS | BAD_LINE | BAD_FIELD | BAD_NUMBER | BAD_ENTRY
+        );
+        let known = number <= BAD_ENTRY;
+        assert_eq!(refusal == Refusal::Unknown(number, 3), !known);
+        assert_eq!(refusal.place(), (has_place || !known).then_some(3));
     }
+    let said = |number, place| Refusal::of(number, place).unwrap().to_string();
+    assert_eq!(said(BAD_DAY, 0), "refused 3 at 0: a day outside 1 to 1,024");
+    assert_eq!(said(BAD_K, 0), "refused 6: k outside 1 to 4,095");
+    assert!(said(15, 0).starts_with("refused 15: "));
+    assert!(said(15, 7).starts_with("refused 15 at 7: "));
+}
+
+/// One vocabulary: the header, the table of this crate and the README's table
+/// have the same numbers and names, and no other.
+#[test]
+fn one_vocabulary() {
+    let ours: Vec<(u32, &str, &str)> = NAMES.to_vec();
+    for &(number, _, name) in &ours {
+        let refusal = format!("{:?}", Refusal::of(number, 0).unwrap());
+        assert_eq!(refusal.split('(').next(), Some(name));
+    }
+    let header = std::fs::read_to_string("../include/rumbleog.h").unwrap();
+    let mut of_header = Vec::new();
+    for line in header.lines() {
+        let Some((name, rest)) = line
+            .trim()
+            .strip_prefix("RUMBLEOG_")
+            .and_then(|line| line.split_once(" = "))
+        else {
+            continue;
+        };
+        let digits = rest.split(|c: char| !c.is_ascii_digit()).next();
+        of_header.push((digits.unwrap().parse::<u32>().unwrap(), name));
+    }
+    let mut names = vec![(OK, "OK")];
+    names.extend(ours.iter().map(|&(number, constant, _)| (number, constant)));
+    assert_eq!(of_header, names);
+    let readme = std::fs::read_to_string("../README.md").unwrap();
+    let mut of_readme = Vec::new();
+    for line in readme.lines() {
+        let cells: Vec<&str> = line.split('|').map(str::trim).collect();
+        if let ["", number, constant, name, ..] = cells[..] {
+            if let Ok(number) = number.parse::<u32>() {
+                of_readme.push((number, constant, name));
+            }
+        }
+    }
+    assert_eq!(of_readme, ours);
 }
 
 /// The C host's expected listings are those of the brute-force version.
 #[test]
 fn examples_listed() {
     for (name, number) in [
-        ("season", 0),
-        ("market", 0),
-        ("broken-day", 5),
-        ("broken-field", 12),
+        ("season", OK),
+        ("market", OK),
+        ("broken-day", DAY_FALLS),
+        ("broken-field", BAD_FIELD),
     ] {
         let text = std::fs::read(format!("../examples/{name}.txt")).unwrap();
         let expected = std::fs::read(format!("c/expected/{name}.txt")).unwrap();

@@ -3,21 +3,13 @@
 
 mod common;
 
-#[path = "../src/bin/bench/tables.rs"]
+#[path = "../bench/src/tables.rs"]
 #[allow(dead_code)]
 mod tables;
 
 use common::Rng;
-use rumbleog::{self as lib, Refusal, Table, Windows, NEVER};
+use rumbleog::{self as lib, Days, Query, Refusal, Table, Windows, NEVER};
 use tables::{cases, Case, Columns};
-
-fn lend(columns: &Columns) -> Table<'_> {
-    Table {
-        days: &columns.days,
-        first: &columns.first,
-        second: &columns.second,
-    }
-}
 
 /// Entries of three columns, cut at their count.
 struct List {
@@ -51,10 +43,10 @@ impl List {
 }
 
 /// Marks of the ring by plain peeling, with a set for each account.
-fn plain_ring(table: Table, k: u16, s: u16, e: u16) -> Vec<u8> {
+fn plain_ring(table: Table, query: Query, window: Days) -> Vec<u8> {
     use std::collections::{BTreeMap, BTreeSet};
     let mut near: BTreeMap<u16, BTreeSet<u16>> = BTreeMap::new();
-    let inside = |row: usize| s <= table.days[row] && table.days[row] <= e;
+    let inside = |row: usize| window.contains(&table.days[row]);
     for row in (0..table.days.len()).filter(|&row| inside(row)) {
         let (a, b) = (table.first[row], table.second[row]);
         near.entry(a).or_default().insert(b);
@@ -63,7 +55,7 @@ fn plain_ring(table: Table, k: u16, s: u16, e: u16) -> Vec<u8> {
     loop {
         let short: Vec<u16> = near
             .iter()
-            .filter(|(_, others)| others.len() < usize::from(k))
+            .filter(|(_, others)| others.len() < usize::from(query.k))
             .map(|(&account, _)| account)
             .collect();
         if short.is_empty() {
@@ -88,19 +80,18 @@ fn plain_ring(table: Table, k: u16, s: u16, e: u16) -> Vec<u8> {
 /// What one table says, and that its parts agree. The number of windows tried.
 fn agrees(case: &Case, seed: u64) -> usize {
     let rng = &mut Rng(seed);
-    let table = lend(&case.table);
-    let (k, te) = (case.k, case.te);
+    let (table, query, te) = (case.lend(), case.query(), case.te);
     let rows = table.days.len();
     let name = &case.name;
     let mut scratch = vec![0x5a5a; lib::scratch_for(rows) + rng.below(5)];
     let mut tried = 0;
 
     // Listing: with room for any list, with exact room, with a place too few.
-    let room = lib::longest_list(1, te).unwrap() as usize;
+    let room = lib::longest_list(case.range()).unwrap() as usize;
     let mut rings = List::of(room);
     let listed = {
         let List { a, b, c } = &mut rings;
-        lib::listing(table, k, 1, te, a, b, c, &mut scratch).unwrap()
+        lib::listing(table, query, case.range(), a, b, c, &mut scratch).unwrap()
     };
     let count = listed.count as usize;
     assert!(scratch.iter().all(|&number| number == 0), "{name}");
@@ -119,7 +110,7 @@ fn agrees(case: &Case, seed: u64) -> usize {
     scratch.fill(0xffff);
     let again = {
         let List { a, b, c } = &mut exact;
-        lib::listing(table, k, 1, te, a, b, c, &mut scratch).unwrap()
+        lib::listing(table, query, case.range(), a, b, c, &mut scratch).unwrap()
     };
     assert_eq!(again, listed, "{name}");
     assert!(
@@ -129,7 +120,7 @@ fn agrees(case: &Case, seed: u64) -> usize {
     if count > 0 {
         let mut short = List::of(count - 1);
         let List { a, b, c } = &mut short;
-        let refused = lib::listing(table, k, 1, te, a, b, c, &mut scratch);
+        let refused = lib::listing(table, query, case.range(), a, b, c, &mut scratch);
         assert_eq!(refused, Err(Refusal::NoRoom), "{name}");
         assert!(a.iter().all(|&number| number == 0xaaaa), "{name}");
     }
@@ -140,7 +131,7 @@ fn agrees(case: &Case, seed: u64) -> usize {
     loop {
         windows = List::of(places);
         let List { a, b, c } = &mut windows;
-        match lib::minimal_windows(table, k, 1, te, a, b, c, &mut scratch) {
+        match lib::minimal_windows(table, query, case.range(), a, b, c, &mut scratch) {
             Ok(count) => {
                 windows.cut(count as usize);
                 break;
@@ -155,7 +146,7 @@ fn agrees(case: &Case, seed: u64) -> usize {
     if !windows.a.is_empty() {
         let mut short = List::of(windows.a.len() - 1);
         let List { a, b, c } = &mut short;
-        let refused = lib::minimal_windows(table, k, 1, te, a, b, c, &mut scratch);
+        let refused = lib::minimal_windows(table, query, case.range(), a, b, c, &mut scratch);
         assert_eq!(refused, Err(Refusal::NoRoom), "{name}");
     }
 
@@ -167,7 +158,17 @@ fn agrees(case: &Case, seed: u64) -> usize {
     let mut recalled = vec![7; rows];
     for _ in 0..12 {
         let s = 1 + rng.below(usize::from(te)) as u16;
-        lib::core_times(table, k, 1, te, s, &mut accounts, &mut times, &mut scratch).unwrap();
+        let range = case.range();
+        lib::core_times(
+            table,
+            query,
+            range,
+            s,
+            &mut accounts,
+            &mut times,
+            &mut scratch,
+        )
+        .unwrap();
         let mut least = vec![NEVER; rows];
         for i in 0..windows.a.len() {
             let row = usize::from(windows.a[i]);
@@ -179,7 +180,7 @@ fn agrees(case: &Case, seed: u64) -> usize {
         // and against window rings
         for _ in 0..4 {
             let e = s + rng.below(usize::from(te - s) + 1) as u16;
-            lib::window_ring(table, k, s, e, &mut marks, &mut scratch).unwrap();
+            lib::window_ring(table, query, s..=e, &mut marks, &mut scratch).unwrap();
             for row in 0..rows {
                 assert_eq!(
                     marks[row] == 1,
@@ -207,11 +208,14 @@ fn agrees(case: &Case, seed: u64) -> usize {
     for turn in 0..60 {
         let s = 1 + rng.below(usize::from(te)) as u16;
         let e = s + rng.below(usize::from(te - s) + 1) as u16;
-        let ones = lib::window_ring(table, k, s, e, &mut marks, &mut scratch).unwrap();
-        lib::recall(table, windows.windows(), s, e, &mut recalled).unwrap();
+        let ones = lib::window_ring(table, query, s..=e, &mut marks, &mut scratch).unwrap();
+        lib::recall(table, windows.windows(), s..=e, &mut recalled).unwrap();
         assert!(marks == recalled, "{name}: recall [{s},{e}]");
         if turn < 6 {
-            assert!(marks == plain_ring(table, k, s, e), "{name}: [{s},{e}]");
+            assert!(
+                marks == plain_ring(table, query, s..=e),
+                "{name}: [{s},{e}]"
+            );
         }
         let ring: Vec<usize> = (0..rows).filter(|&row| marks[row] == 1).collect();
         assert_eq!(ring.len() as u64, ones, "{name}");
@@ -230,7 +234,7 @@ fn agrees(case: &Case, seed: u64) -> usize {
     let step = count / 500 + 1;
     for i in (rng.below(step)..count).step_by(step) {
         let (s, e) = (rings.a[i], rings.b[i]);
-        let ones = lib::window_ring(table, k, s, e, &mut marks, &mut scratch).unwrap();
+        let ones = lib::window_ring(table, query, s..=e, &mut marks, &mut scratch).unwrap();
         assert_eq!(ones, u64::from(rings.c[i]), "{name}: entry {i}");
         let first = marks.iter().position(|&mark| mark == 1).unwrap();
         let last = marks.iter().rposition(|&mark| mark == 1).unwrap();
@@ -272,9 +276,8 @@ fn lists_rebuilt_from_all_window_rings() {
         for day in &mut case.table.days {
             *day = 1 + (*day - 1) * (days - 1) / 1_023;
         }
-        let table = lend(&case.table);
+        let (table, query) = (case.lend(), case.query());
         let rows = table.days.len();
-        let k = case.k;
         let mut scratch = vec![0; lib::scratch_for(rows)];
         let mut marks = vec![0; rows];
         let mut expected_rings = std::collections::BTreeSet::new();
@@ -284,7 +287,7 @@ fn lists_rebuilt_from_all_window_rings() {
         for s in (1..=days).rev() {
             let mut times = vec![NEVER; rows];
             for e in (s..=days).rev() {
-                let ones = lib::window_ring(table, k, s, e, &mut marks, &mut scratch).unwrap();
+                let ones = lib::window_ring(table, query, s..=e, &mut marks, &mut scratch).unwrap();
                 for row in (0..rows).filter(|&row| marks[row] == 1) {
                     times[row] = e;
                 }
@@ -305,13 +308,13 @@ fn lists_rebuilt_from_all_window_rings() {
         expected_windows.sort();
         let mut list = List::of(expected_windows.len());
         let List { a, b, c } = &mut list;
-        let count = lib::minimal_windows(table, k, 1, days, a, b, c, &mut scratch);
+        let count = lib::minimal_windows(table, query, 1..=days, a, b, c, &mut scratch);
         assert_eq!(count, Ok(expected_windows.len() as u64), "{}", case.name);
         let got: Vec<_> = (0..a.len()).map(|i| (a[i], b[i], c[i])).collect();
         assert!(got == expected_windows, "{}", case.name);
         let mut list = List::of(expected_rings.len());
         let List { a, b, c } = &mut list;
-        let listed = lib::listing(table, k, 1, days, a, b, c, &mut scratch).unwrap();
+        let listed = lib::listing(table, query, 1..=days, a, b, c, &mut scratch).unwrap();
         assert_eq!(listed.count as usize, expected_rings.len(), "{}", case.name);
         let got: Vec<_> = (0..a.len()).map(|i| (a[i], b[i], c[i])).collect();
         assert!(
@@ -333,13 +336,18 @@ fn the_longest_lists() {
         columns.first.push(i % 16);
         columns.second.push(16 + i % 7);
     }
-    let table = lend(&columns);
+    let table = Table {
+        days: &columns.days,
+        first: &columns.first,
+        second: &columns.second,
+    };
+    let query = Query { k: 1 };
     let mut scratch = vec![1; lib::scratch_for(16_384)];
     let mut list = List::of(524_800);
     let List { a, b, c } = &mut list;
-    let listed = lib::listing(table, 1, 1, 1_024, a, b, c, &mut scratch).unwrap();
+    let listed = lib::listing(table, query, 1..=1_024, a, b, c, &mut scratch).unwrap();
     assert_eq!(listed.count, 524_800);
-    assert_eq!(lib::longest_list(1, 1_024), Ok(524_800));
+    assert_eq!(lib::longest_list(1..=1_024), Ok(524_800));
     let mut at = 0;
     let mut sum = 0;
     for s in 1..=1_024 {
@@ -353,7 +361,7 @@ fn the_longest_lists() {
     assert!(sum > 1 << 31);
     let mut short = List::of(524_799);
     let List { a, b, c } = &mut short;
-    let refused = lib::listing(table, 1, 1, 1_024, a, b, c, &mut scratch);
+    let refused = lib::listing(table, query, 1..=1_024, a, b, c, &mut scratch);
     assert_eq!(refused, Err(Refusal::NoRoom));
 
     // A cycle that breaks each day: every row has many minimal windows.
@@ -361,10 +369,10 @@ fn the_longest_lists() {
         .into_iter()
         .filter(|case| case.name.starts_with("cycle"))
         .map(|case| {
-            let table = lend(&case.table);
+            let (table, query) = (case.lend(), case.query());
             let mut list = List::of(20_000_000);
             let List { a, b, c } = &mut list;
-            lib::minimal_windows(table, case.k, 1, 1_024, a, b, c, &mut scratch).unwrap()
+            lib::minimal_windows(table, query, 1..=1_024, a, b, c, &mut scratch).unwrap()
         })
         .max()
         .unwrap_or(0);
@@ -386,24 +394,24 @@ fn eight_threads() {
     );
     let case = &cases(4_096)[4];
     fn answers(case: &Case) -> Answers {
-        let table = lend(&case.table);
+        let (table, query, range) = (case.lend(), case.query(), case.range());
         let rows = table.days.len();
         let mut scratch = vec![9; lib::scratch_for(rows)];
         let mut rings = List::of(524_800);
         let List { a, b, c } = &mut rings;
-        let listed = lib::listing(table, case.k, 1, case.te, a, b, c, &mut scratch).unwrap();
+        let listed = lib::listing(table, query, range.clone(), a, b, c, &mut scratch).unwrap();
         rings.cut(listed.count as usize);
         let mut windows = List::of(1 << 20);
         let List { a, b, c } = &mut windows;
-        let count = lib::minimal_windows(table, case.k, 1, case.te, a, b, c, &mut scratch).unwrap();
+        let count = lib::minimal_windows(table, query, range.clone(), a, b, c, &mut scratch);
+        let count = count.unwrap();
         windows.cut(count as usize);
         let mut accounts = vec![0; 4_096];
         let mut times = vec![0; rows];
         lib::core_times(
             table,
-            case.k,
-            1,
-            case.te,
+            query,
+            range,
             100,
             &mut accounts,
             &mut times,
@@ -411,9 +419,9 @@ fn eight_threads() {
         )
         .unwrap();
         let mut marks = vec![0; rows];
-        lib::window_ring(table, case.k, 90, 900, &mut marks, &mut scratch).unwrap();
+        lib::window_ring(table, query, 90..=900, &mut marks, &mut scratch).unwrap();
         let mut recalled = vec![0; rows];
-        lib::recall(table, windows.windows(), 90, 900, &mut recalled).unwrap();
+        lib::recall(table, windows.windows(), 90..=900, &mut recalled).unwrap();
         (
             rings.c, windows.c, accounts, times, marks, recalled, listed.sum,
         )

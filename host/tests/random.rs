@@ -3,9 +3,10 @@
 
 mod common;
 
+use common::brute::{self, Answer, RowSet};
 use common::*;
-use rumbleog::brute::{self, RowSet};
-use rumbleog::{Table, Windows};
+use rumbleog::number::*;
+use rumbleog::{Days, Query, Table, Windows, LAST_DAY};
 
 /// The columns of a table, lent between canaries.
 struct LentTable {
@@ -47,17 +48,26 @@ fn case_table(rng: &mut Rng, most_rows: usize) -> Owned {
     table
 }
 
+/// Is it a range of days, as every call asks for one?
+fn is_range(range: &Days) -> bool {
+    !range.is_empty() && *range.start() >= 1 && *range.end() <= LAST_DAY
+}
+
+/// The refusals of the table check, as a random table meets them.
+const TABLE: [u32; 4] = [COLUMNS_DIFFER, BAD_DAY, BAD_ACCOUNTS, DAY_FALLS];
+
 /// How often each refusal number came up: a test that never meets one is weak.
 struct Seen([u64; 16]);
 
 impl Seen {
-    fn report(&self, call: &str, cases: u64, all: &[usize]) {
+    /// Success, the table check's refusals and these must have come up.
+    fn report(&self, call: &str, cases: u64, all: &[u32]) {
         println!(
             "{call}: {cases} random cases; by refusal number {:?}",
             &self.0[..15]
         );
-        for &number in all {
-            assert!(self.0[number] > 0, "{call}: no case met {number}");
+        for &number in [OK].iter().chain(&TABLE).chain(all) {
+            assert!(self.0[number as usize] > 0, "{call}: no case met {number}");
         }
     }
 }
@@ -78,7 +88,7 @@ fn table_check() {
         lent.kept();
         seen.0[expected.number as usize] += 1;
     }
-    seen.report("check_table", cases, &[0, 1, 3, 4, 5]);
+    seen.report("check_table", cases, &[]);
 }
 
 #[test]
@@ -88,8 +98,8 @@ fn window_rings() {
     let cases = 60_000;
     for case in 0..cases {
         let table = case_table(&mut rng, 18);
-        let k = some_k(&mut rng);
-        let (s, e) = some_range(&mut rng, &table);
+        let query = some_query(&mut rng);
+        let window = some_range(&mut rng, &table);
         let length = some_length(&mut rng, table.rows());
         let mut marks = Lent::<u8>::new(&mut rng, length);
         let length = some_scratch(&mut rng, table.rows());
@@ -98,16 +108,31 @@ fn window_rings() {
 
         let mut want_marks = marks.get().to_vec();
         let mut want_scratch = scratch.get().to_vec();
-        let expected =
-            brute::window_ring(table.lend(), k, s, e, &mut want_marks, &mut want_scratch);
-        let got = window_ring(lent.lend(), k, s, e, marks.get_mut(), scratch.get_mut());
-        assert_eq!(got, expected, "case {case}: k {k} [{s},{e}] {table:?}");
+        let expected = brute::window_ring(
+            table.lend(),
+            query,
+            window.clone(),
+            &mut want_marks,
+            &mut want_scratch,
+        );
+        let got = window_ring(
+            lent.lend(),
+            query,
+            window.clone(),
+            marks.get_mut(),
+            scratch.get_mut(),
+        );
+        assert_eq!(got, expected, "case {case}: {query:?} {window:?} {table:?}");
         marks.holds(&want_marks, "marks");
         scratch.holds(&want_scratch, "scratch");
         lent.kept();
         seen.0[expected.number as usize] += 1;
     }
-    seen.report("window_ring", cases, &[0, 1, 3, 4, 5, 6, 7, 8, 9]);
+    seen.report(
+        "window_ring",
+        cases,
+        &[BAD_K, BAD_RANGE, BAD_LENGTH, SCRATCH],
+    );
 }
 
 #[test]
@@ -117,12 +142,13 @@ fn core_time_columns() {
     let cases = 20_000;
     for case in 0..cases {
         let table = case_table(&mut rng, 18);
-        let k = some_k(&mut rng);
-        let (ts, te) = some_range(&mut rng, &table);
-        let s = match rng.below(10) {
-            0 => ts.saturating_sub(1),
-            1 => te.saturating_add(1),
-            _ => ts + rng.below(usize::from(te.saturating_sub(ts)).min(10) + 1) as u16,
+        let query = some_query(&mut rng);
+        let range = some_range(&mut rng, &table);
+        let (first, last) = (*range.start(), *range.end());
+        let start = match rng.below(10) {
+            0 => first.saturating_sub(1),
+            1 => last.saturating_add(1),
+            _ => first + rng.below(usize::from(last.saturating_sub(first)).min(10) + 1) as u16,
         };
         let length = some_length(&mut rng, 4_096);
         let mut accounts = Lent::<u16>::new(&mut rng, length);
@@ -137,27 +163,25 @@ fn core_time_columns() {
         let mut want_scratch = scratch.get().to_vec();
         let expected = brute::core_times(
             table.lend(),
-            k,
-            ts,
-            te,
-            s,
+            query,
+            range.clone(),
+            start,
             &mut want_accounts,
             &mut want_rows,
             &mut want_scratch,
         );
         let got = core_times(
             lent.lend(),
-            k,
-            ts,
-            te,
-            s,
+            query,
+            range.clone(),
+            start,
             accounts.get_mut(),
             rows.get_mut(),
             scratch.get_mut(),
         );
         assert_eq!(
             got, expected,
-            "case {case}: k {k} [{ts},{te}] from {s} {table:?}"
+            "case {case}: {query:?} {range:?} from {start} {table:?}"
         );
         accounts.holds(&want_accounts, "accounts");
         rows.holds(&want_rows, "rows");
@@ -165,27 +189,54 @@ fn core_time_columns() {
         lent.kept();
         seen.0[expected.number as usize] += 1;
     }
-    seen.report("core_times", cases, &[0, 1, 3, 4, 5, 6, 7, 8, 9]);
+    seen.report(
+        "core_times",
+        cases,
+        &[BAD_K, BAD_RANGE, BAD_LENGTH, SCRATCH],
+    );
 }
 
+type Call = fn(Table, Query, Days, &mut [u16], &mut [u16], &mut [u16], &mut [u16]) -> Answer;
+
+type List = Vec<(u16, u16, u16)>;
+
 /// Minimal windows and listing: three columns out, with the same checks.
-fn column_cases(sums: bool, call: &str, seed: u64, cases: u64, most_rows: usize) {
+struct ColumnsCall {
+    name: &'static str,
+    archive: Call,
+    brute: Call,
+    /// The entries alone, of a table and a query that pass the checks.
+    entries: fn(Table, Query, Days) -> List,
+}
+
+const MINIMAL_WINDOWS: ColumnsCall = ColumnsCall {
+    name: "minimal_windows",
+    archive: minimal_windows,
+    brute: brute::minimal_windows,
+    entries: brute::minimal_window_list,
+};
+
+const LISTING: ColumnsCall = ColumnsCall {
+    name: "listing",
+    archive: listing,
+    brute: brute::listing,
+    entries: brute::ring_list,
+};
+
+fn column_cases(call: &ColumnsCall, seed: u64, cases: u64, most_rows: usize) {
     let mut rng = Rng(seed);
     let mut seen = Seen([0; 16]);
     for case in 0..cases {
         let table = case_table(&mut rng, most_rows);
-        let k = some_k(&mut rng);
-        let (ts, te) = some_range(&mut rng, &table);
+        let query = some_query(&mut rng);
+        let range = some_range(&mut rng, &table);
         // Lent places: about the number of entries, or room for any listing.
         let mut entries = 0;
-        let query_fits = (1..=4_095).contains(&k) && 1 <= ts && ts <= te && te <= 1_024;
-        if query_fits && brute::check_table(table.lend()).number == 0 {
-            entries = match sums {
-                true => brute::ring_list(table.lend(), k, ts, te).len(),
-                false => brute::minimal_window_list(table.lend(), k, ts, te).len(),
-            };
+        let query_fits = (1..=4_095).contains(&query.k) && is_range(&range);
+        if query_fits && brute::check_table(table.lend()).number == OK {
+            entries = (call.entries)(table.lend(), query, range.clone()).len();
         }
-        let most = usize::from(te.saturating_sub(ts)).min(20) + 1;
+        let most = usize::from(range.end().saturating_sub(*range.start())).min(20) + 1;
         let places = match rng.below(8) {
             0 | 1 => entries,
             2 | 3 => entries.saturating_sub(1),
@@ -208,26 +259,19 @@ fn column_cases(sums: bool, call: &str, seed: u64, cases: u64, most_rows: usize)
         let mut want_b = b.get().to_vec();
         let mut want_c = c.get().to_vec();
         let mut want_scratch = scratch.get().to_vec();
-        let brute_call = match sums {
-            true => brute::listing,
-            false => brute::minimal_windows,
-        };
-        let expected = brute_call(
+        let expected = (call.brute)(
             table.lend(),
-            k,
-            ts,
-            te,
+            query,
+            range.clone(),
             &mut want_a,
             &mut want_b,
             &mut want_c,
             &mut want_scratch,
         );
-        let got = columns_call(
-            sums,
+        let got = (call.archive)(
             lent.lend(),
-            k,
-            ts,
-            te,
+            query,
+            range.clone(),
             a.get_mut(),
             b.get_mut(),
             c.get_mut(),
@@ -235,7 +279,7 @@ fn column_cases(sums: bool, call: &str, seed: u64, cases: u64, most_rows: usize)
         );
         assert_eq!(
             got, expected,
-            "case {case}: k {k} [{ts},{te}] places {columns:?} {table:?}"
+            "case {case}: {query:?} {range:?} places {columns:?} {table:?}"
         );
         a.holds(&want_a, "first column");
         b.holds(&want_b, "second column");
@@ -244,27 +288,31 @@ fn column_cases(sums: bool, call: &str, seed: u64, cases: u64, most_rows: usize)
         lent.kept();
         seen.0[expected.number as usize] += 1;
     }
-    seen.report(call, cases, &[0, 1, 3, 4, 5, 6, 7, 8, 9, 10]);
+    seen.report(
+        call.name,
+        cases,
+        &[BAD_K, BAD_RANGE, BAD_LENGTH, SCRATCH, NO_ROOM],
+    );
 }
 
 #[test]
 fn minimal_window_columns() {
-    column_cases(false, "minimal_windows", 4, 30_000, 16);
+    column_cases(&MINIMAL_WINDOWS, 4, 30_000, 16);
 }
 
 #[test]
 fn listing_columns() {
-    column_cases(true, "listing", 5, 30_000, 16);
+    column_cases(&LISTING, 5, 30_000, 16);
 }
 
 /// A list for recall: right, or with a fault of 14 in it.
 fn some_windows(rng: &mut Rng, table: &Owned) -> [Vec<u16>; 3] {
     let mut list: Vec<(u16, u16, u16)> = Vec::new();
-    let fine = brute::check_table(table.lend()).number == 0;
+    let fine = brute::check_table(table.lend()).number == OK;
     if fine && rng.once_in(3) {
-        let (ts, te) = some_range(rng, table);
-        if 1 <= ts && ts <= te && te <= 1_024 {
-            list = brute::minimal_window_list(table.lend(), 2, ts, te);
+        let range = some_range(rng, table);
+        if is_range(&range) {
+            list = brute::minimal_window_list(table.lend(), Query { k: 2 }, range);
         }
     } else if fine {
         for row in 0..table.rows() {
@@ -329,7 +377,7 @@ fn recalled_marks() {
     for case in 0..cases {
         let table = case_table(&mut rng, 14);
         let list = some_windows(&mut rng, &table);
-        let (s, e) = some_range(&mut rng, &table);
+        let window = some_range(&mut rng, &table);
         let length = some_length(&mut rng, table.rows());
         let mut marks = Lent::<u8>::new(&mut rng, length);
         let lent = LentTable::new(&mut rng, &table);
@@ -345,9 +393,9 @@ fn recalled_marks() {
         };
 
         let mut want = marks.get().to_vec();
-        let expected = brute::recall(table.lend(), windows, s, e, &mut want);
-        let got = recall(lent.lend(), windows, s, e, marks.get_mut());
-        assert_eq!(got, expected, "case {case}: [{s},{e}] {table:?} {list:?}");
+        let expected = brute::recall(table.lend(), windows, window.clone(), &mut want);
+        let got = recall(lent.lend(), windows, window.clone(), marks.get_mut());
+        assert_eq!(got, expected, "case {case}: {window:?} {table:?} {list:?}");
         marks.holds(&want, "marks");
         lent.kept();
         for column in &columns {
@@ -355,7 +403,7 @@ fn recalled_marks() {
         }
         seen.0[expected.number as usize] += 1;
     }
-    seen.report("recall", cases, &[0, 1, 3, 4, 5, 7, 8, 14]);
+    seen.report("recall", cases, &[BAD_RANGE, BAD_LENGTH, BAD_ENTRY]);
 }
 
 #[test]
@@ -364,8 +412,8 @@ fn longest_lists() {
     let edges = [0, 1, 2, 3, 511, 512, 1_023, 1_024, 1_025, 1_026, 65_535];
     for ts in edges {
         for te in 0..=1_100 {
-            assert_eq!(longest_list(ts, te), brute::longest_list(ts, te));
-            assert_eq!(longest_list(te, ts), brute::longest_list(te, ts));
+            assert_eq!(longest_list(ts..=te), brute::longest_list(ts..=te));
+            assert_eq!(longest_list(te..=ts), brute::longest_list(te..=ts));
             cases += 2;
         }
     }
@@ -380,22 +428,25 @@ fn brute_ring_is_the_union_of_all_good_sets() {
     for case in 0..cases {
         let table = small_table(&mut rng, 9);
         let k = rng.from(1, 3) as u16;
-        let (s, e) = some_range(&mut rng, &table);
-        let rows: Vec<usize> = brute::window_rows(table.lend(), s, e).into_iter().collect();
+        let query = Query { k };
+        let window = some_range(&mut rng, &table);
+        let rows: Vec<usize> = brute::window_rows(table.lend(), window.clone())
+            .into_iter()
+            .collect();
         let mut union = RowSet::new();
         for bits in 0..1_u32 << rows.len() {
             let set: RowSet = (0..rows.len())
                 .filter(|i| bits >> i & 1 == 1)
                 .map(|i| rows[i])
                 .collect();
-            if brute::is_good(table.lend(), &set, k) {
+            if brute::is_good(table.lend(), query, &set) {
                 union.extend(set);
             }
         }
         assert_eq!(
-            brute::ring(table.lend(), k, s, e),
+            brute::ring(table.lend(), query, window.clone()),
             union,
-            "case {case}: k {k} [{s},{e}] {table:?}"
+            "case {case}: {query:?} {window:?} {table:?}"
         );
     }
     println!("brute ring against all subsets: {cases} random cases");
@@ -419,25 +470,23 @@ fn middle_sized_tables() {
         }
         let table = Owned::sorted(&rows);
         let k = rng.from(1, 4) as u16;
-        let (ts, te) = (rng.from(1, 2) as u16, (days - rng.below(2)) as u16);
+        let query = Query { k };
+        let range = rng.from(1, 2) as u16..=(days - rng.below(2)) as u16;
         let mut scratch = Lent::<u16>::new(&mut rng, 8_192 + 4 * table.rows());
-        for sums in [false, true] {
-            let list = match sums {
-                true => brute::ring_list(table.lend(), k, ts, te),
-                false => brute::minimal_window_list(table.lend(), k, ts, te),
-            };
+        for call in [MINIMAL_WINDOWS, LISTING] {
+            let list = (call.entries)(table.lend(), query, range.clone());
             let places = [list.len(), list.len() + 100][rng.below(2)];
             let mut columns = [vec![0; places], vec![0; places], vec![0; places]];
             let [a, b, c] = &mut columns;
             let scratch = scratch.get_mut();
-            let got = columns_call(sums, table.lend(), k, ts, te, a, b, c, scratch);
+            let got = (call.archive)(table.lend(), query, range.clone(), a, b, c, scratch);
             assert_eq!(
                 (got.number, got.count),
-                (0, list.len() as u64),
+                (OK, list.len() as u64),
                 "case {case}"
             );
             let written: Vec<_> = (0..list.len()).map(|i| (a[i], b[i], c[i])).collect();
-            assert_eq!(written, list, "case {case}: k {k} [{ts},{te}] {table:?}");
+            assert_eq!(written, list, "case {case}: {query:?} {range:?} {table:?}");
         }
     }
     println!("middle-sized tables: {cases} random cases");

@@ -18,7 +18,7 @@ fn a_window_ring() -> Result<(), Refusal> {
     // Which payments of days 1 to 4 lie in a ring of at least 2 partners each?
     let mut marks = [0; 6];
     let mut scratch = vec![0; scratch_for(6)];
-    let count = window_ring(SEASON, 2, 1, 4, &mut marks, &mut scratch)?;
+    let count = window_ring(SEASON, Query { k: 2 }, 1..=4, &mut marks, &mut scratch)?;
     assert_eq!(count, 4);
     assert_eq!(marks, [1, 1, 1, 1, 0, 0]);
     Ok(())
@@ -30,7 +30,15 @@ fn core_times_of_a_start() -> Result<(), Refusal> {
     let mut accounts = vec![0; ACCOUNTS];
     let mut rows = [0; 6];
     let mut scratch = vec![0; scratch_for(6)];
-    core_times(SEASON, 2, 1, 6, 1, &mut accounts, &mut rows, &mut scratch)?;
+    core_times(
+        SEASON,
+        Query { k: 2 },
+        1..=6,
+        1,
+        &mut accounts,
+        &mut rows,
+        &mut scratch,
+    )?;
     assert_eq!(accounts[..6], [NEVER, 2, 2, 2, 6, NEVER]);
     assert_eq!(rows, [2, 2, 2, 4, 6, 6]);
     Ok(())
@@ -43,9 +51,8 @@ fn minimal_windows_and_recall() -> Result<(), Refusal> {
     let mut scratch = vec![0; scratch_for(6)];
     let count = minimal_windows(
         SEASON,
-        2,
-        1,
-        6,
+        Query { k: 2 },
+        1..=6,
         &mut row,
         &mut start,
         &mut end,
@@ -63,7 +70,7 @@ fn minimal_windows_and_recall() -> Result<(), Refusal> {
         end: &end[..count],
     };
     let mut marks = [0; 6];
-    recall(SEASON, kept, 2, 4, &mut marks)?;
+    recall(SEASON, kept, 2..=4, &mut marks)?;
     assert_eq!(marks, [0, 1, 1, 1, 0, 0]);
     Ok(())
 }
@@ -71,14 +78,13 @@ fn minimal_windows_and_recall() -> Result<(), Refusal> {
 #[test]
 fn a_listing() -> Result<(), Refusal> {
     // Every ring of days 1 to 6 once, by its tightest window. There is always room.
-    let places = longest_list(1, 6)? as usize;
+    let places = longest_list(1..=6)? as usize;
     let (mut start, mut end, mut rows) = (vec![0; places], vec![0; places], vec![0; places]);
     let mut scratch = vec![0; scratch_for(6)];
     let listed = listing(
         SEASON,
-        2,
-        1,
-        6,
+        Query { k: 2 },
+        1..=6,
         &mut start,
         &mut end,
         &mut rows,

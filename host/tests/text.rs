@@ -2,8 +2,10 @@
 
 mod common;
 
+use common::brute::{self, Answer};
 use common::*;
-use rumbleog::brute;
+use rumbleog::number::*;
+use rumbleog::Query;
 
 /// Compares the reader on one text and these column lengths.
 fn read(rng: &mut Rng, text: &[u8], lengths: [usize; 3]) -> u32 {
@@ -41,21 +43,20 @@ fn listed(rng: &mut Rng, input: &[u8]) -> u32 {
     let lent = Lent::holding(rng, input);
     let answer = brute::list_text(input);
     let length = answer.as_ref().map_or(200, Vec::len);
-    let mut number = 0;
     for room in [length, length - 1, length + 30, 0] {
         let mut output = Lent::<u8>::new(rng, room);
         let mut want = output.get().to_vec();
         let expected = match &answer {
             Err(refusal) => *refusal,
-            Ok(text) if text.len() > room => brute::Answer {
-                number: 10,
-                ..brute::Answer::default()
+            Ok(text) if text.len() > room => Answer {
+                number: NO_ROOM,
+                ..Answer::default()
             },
             Ok(text) => {
                 want[..text.len()].copy_from_slice(text);
-                brute::Answer {
+                Answer {
                     count: text.len() as u64,
-                    ..brute::Answer::default()
+                    ..Answer::default()
                 }
             }
         };
@@ -67,10 +68,28 @@ fn listed(rng: &mut Rng, input: &[u8]) -> u32 {
             String::from_utf8_lossy(input)
         );
         output.holds(&want, "output");
-        number = number.max(got.number);
     }
     lent.kept("input");
-    answer.map_or_else(|refusal| refusal.number, |_| 0)
+    answer.map_or_else(|refusal| refusal.number, |_| OK)
+}
+
+/// What a listing of damaged text meets.
+const LISTED: [u32; 8] = [
+    OK,
+    BAD_DAY,
+    BAD_ACCOUNTS,
+    DAY_FALLS,
+    BAD_K,
+    BAD_RANGE,
+    BAD_LINE,
+    BAD_FIELD,
+];
+
+/// Each of these numbers came up: a test that never meets one is weak.
+fn met(seen: &[u64; 16], numbers: &[u32]) {
+    for &number in numbers {
+        assert!(seen[number as usize] > 0, "no text met {number}");
+    }
 }
 
 const TWO: &str = "    3     1     7\n    9    12  4095\n";
@@ -111,9 +130,7 @@ fn each_byte_of_a_listing() {
         }
     }
     println!("list, a byte replaced: {cases} cases; by refusal number {seen:?}");
-    for number in [0, 3, 4, 5, 6, 7, 11, 12] {
-        assert!(seen[number] > 0, "no text met {number}");
-    }
+    met(&seen, &LISTED);
 }
 
 /// Cut anywhere, a byte dropped, a byte put in.
@@ -168,9 +185,7 @@ fn fields() {
             }
         }
     }
-    for number in [0, 11, 12, 13] {
-        assert!(seen[number] > 0, "no text met {number}");
-    }
+    met(&seen, &[OK, BAD_LINE, BAD_FIELD, BAD_NUMBER]);
     // The query line, with and without a row behind it.
     for k in days {
         for ts in days {
@@ -200,10 +215,12 @@ fn reader_places() {
             for b in 0..6 {
                 for c in 0..6 {
                     let number = read(&mut rng, text.as_bytes(), [a, b, c]);
-                    assert_eq!(number, if a.min(b).min(c) < lines { 10 } else { 0 });
+                    let expected = if a.min(b).min(c) < lines { NO_ROOM } else { OK };
+                    assert_eq!(number, expected);
                     // A broken line is found before the places are counted.
                     let broken = text.clone() + "    3     1    07\n";
-                    assert_eq!(read(&mut rng, broken.as_bytes(), [a, b, c]), 12);
+                    let number = read(&mut rng, broken.as_bytes(), [a, b, c]);
+                    assert_eq!(number, BAD_FIELD);
                     cases += 2;
                 }
             }
@@ -211,11 +228,10 @@ fn reader_places() {
     }
     // Long text: the reader has no limit of its own.
     let text = "    3     1     7\n".repeat(20_000);
-    assert_eq!(read(&mut rng, text.as_bytes(), [20_000, 20_001, 20_000]), 0);
-    assert_eq!(
-        read(&mut rng, text.as_bytes(), [20_000, 19_999, 20_000]),
-        10
-    );
+    let enough = read(&mut rng, text.as_bytes(), [20_000, 20_001, 20_000]);
+    assert_eq!(enough, OK);
+    let short = read(&mut rng, text.as_bytes(), [20_000, 19_999, 20_000]);
+    assert_eq!(short, NO_ROOM);
     println!("reader places: {cases} cases");
 }
 
@@ -236,8 +252,9 @@ fn random_listings() {
             .min(table.first.len())
             .min(table.second.len());
         table.days.truncate(rows);
-        let (ts, te) = some_range(&mut rng, &table);
-        let k = some_k(&mut rng);
+        let range = some_range(&mut rng, &table);
+        let (ts, te) = (range.start(), range.end());
+        let Query { k } = some_query(&mut rng);
         let mut text = format!("{k:>5}{ts:>5}{te:>5}\n{}", table.text()).into_bytes();
         if rng.once_in(4) {
             let at = rng.below(text.len());
@@ -251,9 +268,7 @@ fn random_listings() {
         seen[listed(&mut rng, &text) as usize] += 1;
     }
     println!("list: {cases} random texts, 4 rooms each; by refusal number {seen:?}");
-    for number in [0, 3, 4, 5, 6, 7, 11, 12] {
-        assert!(seen[number] > 0, "no text met {number}");
-    }
+    met(&seen, &LISTED);
 }
 
 /// Triangles on days 2 to 64, and one that opens on day 1 and closes on day
@@ -273,7 +288,7 @@ fn the_lists_room_is_2048_rings() {
         let mut output = vec![b'#'; 22 * 2_100];
         let got = list(text.as_bytes(), &mut output);
         if rings <= 2_048 {
-            assert_eq!((got.number, got.place), (0, 0));
+            assert_eq!((got.number, got.place), (OK, 0));
             assert_eq!(got.count, 22 * (1 + rings));
             let end = got.count as usize;
             assert_eq!(brute::list_text(text.as_bytes()).unwrap(), output[..end]);
@@ -281,9 +296,9 @@ fn the_lists_room_is_2048_rings() {
             let exact = list(text.as_bytes(), &mut output[..end]);
             assert_eq!(exact, got);
             let short = list(text.as_bytes(), &mut output[..end - 1]);
-            assert_eq!((short.number, short.place, short.count), (10, 0, 0));
+            assert_eq!((short.number, short.place, short.count), (NO_ROOM, 0, 0));
         } else {
-            assert_eq!((got.number, got.place, got.count), (10, 0, 0));
+            assert_eq!((got.number, got.place, got.count), (NO_ROOM, 0, 0));
             assert!(output.iter().all(|&byte| byte == b'#'));
         }
     }
@@ -297,7 +312,7 @@ fn the_programs_bytes() {
     assert_eq!(full.len(), 18_448);
     let mut output = vec![b'#'; 100];
     let got = list(full.as_bytes(), &mut output);
-    assert_eq!((got.number, got.place, got.count), (0, 0, 44));
+    assert_eq!((got.number, got.place, got.count), (OK, 0, 44));
     assert_eq!(
         &output[..44],
         b"start  end span  rows\n    7    7    0  1024\n"
@@ -305,25 +320,25 @@ fn the_programs_bytes() {
     for extra in ["\n", " ", "x", row] {
         let over = full.clone() + extra;
         let got = list(over.as_bytes(), &mut output);
-        assert_eq!((got.number, got.place, got.count), (2, 0, 0));
+        assert_eq!((got.number, got.place, got.count), (TOO_LARGE, 0, 0));
     }
     // Before any line is read.
     let noise = vec![b'x'; 18_449];
     let got = list(&noise, &mut output);
-    assert_eq!((got.number, got.place, got.count), (2, 0, 0));
+    assert_eq!((got.number, got.place, got.count), (TOO_LARGE, 0, 0));
     let got = list(&noise[..18_448], &mut output);
-    assert_eq!((got.number, got.place, got.count), (11, 1, 0));
+    assert_eq!((got.number, got.place, got.count), (BAD_LINE, 1, 0));
     // The last line of a full text.
     let mut last = full.clone().into_bytes();
     last[18_447] = b' ';
     let got = list(&last, &mut output);
-    assert_eq!((got.number, got.place, got.count), (11, 1_025, 0));
+    assert_eq!((got.number, got.place, got.count), (BAD_LINE, 1_025, 0));
     let got = list(&full.as_bytes()[..18_447], &mut output);
-    assert_eq!((got.number, got.place, got.count), (11, 1_025, 0));
+    assert_eq!((got.number, got.place, got.count), (BAD_LINE, 1_025, 0));
     let mut day = full.into_bytes();
     day[16 + 18 * 1_023 + 4] = b'6';
     let got = list(&day, &mut output);
-    assert_eq!((got.number, got.place, got.count), (5, 1_025, 0));
+    assert_eq!((got.number, got.place, got.count), (DAY_FALLS, 1_025, 0));
 }
 
 /// Which refusal comes first, and its line.
@@ -331,62 +346,66 @@ fn the_programs_bytes() {
 fn order_of_the_programs_refusals() {
     let mut rng = Rng(27);
     let cases = [
-        ("", 11, 1),
-        ("\n", 11, 1),
-        ("    2    1    6", 11, 1),
-        ("    2    1    6\n", 0, 0),
-        ("    2    1    6 \n", 11, 1),
-        ("   2     1    6\n", 12, 1),
-        ("65536    1     \n", 12, 1),
-        ("65536    1    6\n", 13, 1),
-        ("65536    1    6\n\n", 13, 1),
-        ("    0    9    6\n\n", 11, 2),
-        ("    0    9    6\n    1     1     2\n    0     1\n", 11, 3),
-        ("    0    9    6\n    0     1     2\n", 3, 2),
+        ("", BAD_LINE, 1),
+        ("\n", BAD_LINE, 1),
+        ("    2    1    6", BAD_LINE, 1),
+        ("    2    1    6\n", OK, 0),
+        ("    2    1    6 \n", BAD_LINE, 1),
+        ("   2     1    6\n", BAD_FIELD, 1),
+        ("65536    1     \n", BAD_FIELD, 1),
+        ("65536    1    6\n", BAD_NUMBER, 1),
+        ("65536    1    6\n\n", BAD_NUMBER, 1),
+        ("    0    9    6\n\n", BAD_LINE, 2),
+        (
+            "    0    9    6\n    1     1     2\n    0     1\n",
+            BAD_LINE,
+            3,
+        ),
+        ("    0    9    6\n    0     1     2\n", BAD_DAY, 2),
         (
             "    0    9    6\n    1     1     2\n    1     2     2\n",
-            4,
+            BAD_ACCOUNTS,
             3,
         ),
         (
             "    0    9    6\n    2     1     2\n    1     1     2\n",
-            5,
+            DAY_FALLS,
             3,
         ),
         (
             "    0    9    6\n    2     1     2\n    1     2     1\n",
-            4,
+            BAD_ACCOUNTS,
             3,
         ),
         (
             "    0    9    6\n    2     1     2\n    2     1     2\n",
-            6,
+            BAD_K,
             0,
         ),
         (
             "    1    9    6\n    2     1     2\n    2     1     2\n",
-            7,
+            BAD_RANGE,
             0,
         ),
-        ("    1    0    6\n", 7, 0),
-        ("    1    1 1025\n", 7, 0),
-        (" 4096    1    6\n", 6, 0),
-        (" 4095    1    6\n", 0, 0),
+        ("    1    0    6\n", BAD_RANGE, 0),
+        ("    1    1 1025\n", BAD_RANGE, 0),
+        (" 4096    1    6\n", BAD_K, 0),
+        (" 4095    1    6\n", OK, 0),
         (
             "    1    1    6\n    1     1 65536\n    0     1     2\n",
-            13,
+            BAD_NUMBER,
             2,
         ),
-        ("    1    1    6\n    1 65536    02\n", 12, 2),
-        ("    1    1    6\n    1     1 65535\n", 4, 2),
-        ("    1    1    6\n 1024     0  4095\n", 0, 0),
-        ("    1    1    6\n 1025     0  4095\n", 3, 2),
-        ("    1    1    6\n    1     0  4096\n", 4, 2),
-        ("    1    1    6\n    1     1     2\r\n", 11, 2),
-        ("    1    1    6\n    1     1     2\n\n", 11, 3),
+        ("    1    1    6\n    1 65536    02\n", BAD_FIELD, 2),
+        ("    1    1    6\n    1     1 65535\n", BAD_ACCOUNTS, 2),
+        ("    1    1    6\n 1024     0  4095\n", OK, 0),
+        ("    1    1    6\n 1025     0  4095\n", BAD_DAY, 2),
+        ("    1    1    6\n    1     0  4096\n", BAD_ACCOUNTS, 2),
+        ("    1    1    6\n    1     1     2\r\n", BAD_LINE, 2),
+        ("    1    1    6\n    1     1     2\n\n", BAD_LINE, 3),
         (
             "    1    1    6\n    1     1     2\n    1     1     3",
-            11,
+            BAD_LINE,
             3,
         ),
     ];

@@ -1,9 +1,11 @@
-//! What the tests share: a small generator, lent buffers with canaries, raw
-//! calls, tables.
+//! What the tests share: the brute-force version, a small generator, lent
+//! buffers with canaries, raw calls, tables.
 #![allow(dead_code)]
 
-use rumbleog::brute::Answer;
-use rumbleog::{raw, Table, Windows};
+pub mod brute;
+
+use brute::Answer;
+use rumbleog::{raw, Days, Query, Table, Windows};
 
 /// splitmix64.
 pub struct Rng(pub u64);
@@ -178,20 +180,9 @@ pub fn season() -> Owned {
 
 const NOISE: u64 = 0xdead_beef_0bad_f00d;
 
-pub fn check_table(t: Table) -> Answer {
+pub fn check_table(table: Table) -> Answer {
     let mut place = NOISE;
-    // SAFETY: pointers and lengths are those of live slices; so below.
-    let number = unsafe {
-        raw::rumbleog_check_table(
-            t.days.as_ptr(),
-            t.days.len(),
-            t.first.as_ptr(),
-            t.first.len(),
-            t.second.as_ptr(),
-            t.second.len(),
-            &mut place,
-        )
-    };
+    let number = raw::check_table(table, &mut place);
     Answer {
         number,
         place,
@@ -200,33 +191,14 @@ pub fn check_table(t: Table) -> Answer {
 }
 
 pub fn window_ring(
-    t: Table,
-    k: u16,
-    s: u16,
-    e: u16,
+    table: Table,
+    query: Query,
+    window: Days,
     marks: &mut [u8],
     scratch: &mut [u16],
 ) -> Answer {
     let (mut place, mut count) = (NOISE, NOISE);
-    let number = unsafe {
-        raw::rumbleog_window_ring(
-            t.days.as_ptr(),
-            t.days.len(),
-            t.first.as_ptr(),
-            t.first.len(),
-            t.second.as_ptr(),
-            t.second.len(),
-            k,
-            s,
-            e,
-            marks.as_mut_ptr(),
-            marks.len(),
-            scratch.as_mut_ptr(),
-            scratch.len(),
-            &mut place,
-            &mut count,
-        )
-    };
+    let number = raw::window_ring(table, query, window, marks, scratch, &mut place, &mut count);
     Answer {
         number,
         place,
@@ -235,39 +207,19 @@ pub fn window_ring(
     }
 }
 
-#[allow(clippy::too_many_arguments)]
 pub fn core_times(
-    t: Table,
-    k: u16,
-    ts: u16,
-    te: u16,
-    s: u16,
+    table: Table,
+    query: Query,
+    range: Days,
+    start: u16,
     accounts: &mut [u16],
     rows: &mut [u16],
     scratch: &mut [u16],
 ) -> Answer {
     let mut place = NOISE;
-    let number = unsafe {
-        raw::rumbleog_core_times(
-            t.days.as_ptr(),
-            t.days.len(),
-            t.first.as_ptr(),
-            t.first.len(),
-            t.second.as_ptr(),
-            t.second.len(),
-            k,
-            ts,
-            te,
-            s,
-            accounts.as_mut_ptr(),
-            accounts.len(),
-            rows.as_mut_ptr(),
-            rows.len(),
-            scratch.as_mut_ptr(),
-            scratch.len(),
-            &mut place,
-        )
-    };
+    let number = raw::core_times(
+        table, query, range, start, accounts, rows, scratch, &mut place,
+    );
     Answer {
         number,
         place,
@@ -275,71 +227,40 @@ pub fn core_times(
     }
 }
 
-/// Minimal windows or listing: the same shape, with or without the sum.
-#[allow(clippy::too_many_arguments)]
-pub fn columns_call(
-    sums: bool,
-    t: Table,
-    k: u16,
-    ts: u16,
-    te: u16,
-    a: &mut [u16],
-    b: &mut [u16],
-    c: &mut [u16],
+pub fn minimal_windows(
+    table: Table,
+    query: Query,
+    range: Days,
+    row: &mut [u16],
+    start: &mut [u16],
+    end: &mut [u16],
     scratch: &mut [u16],
 ) -> Answer {
-    let (mut place, mut count, mut sum) = (NOISE, NOISE, 0);
-    let number = if sums {
-        sum = NOISE;
-        unsafe {
-            raw::rumbleog_listing(
-                t.days.as_ptr(),
-                t.days.len(),
-                t.first.as_ptr(),
-                t.first.len(),
-                t.second.as_ptr(),
-                t.second.len(),
-                k,
-                ts,
-                te,
-                a.as_mut_ptr(),
-                a.len(),
-                b.as_mut_ptr(),
-                b.len(),
-                c.as_mut_ptr(),
-                c.len(),
-                scratch.as_mut_ptr(),
-                scratch.len(),
-                &mut place,
-                &mut count,
-                &mut sum,
-            )
-        }
-    } else {
-        unsafe {
-            raw::rumbleog_minimal_windows(
-                t.days.as_ptr(),
-                t.days.len(),
-                t.first.as_ptr(),
-                t.first.len(),
-                t.second.as_ptr(),
-                t.second.len(),
-                k,
-                ts,
-                te,
-                a.as_mut_ptr(),
-                a.len(),
-                b.as_mut_ptr(),
-                b.len(),
-                c.as_mut_ptr(),
-                c.len(),
-                scratch.as_mut_ptr(),
-                scratch.len(),
-                &mut place,
-                &mut count,
-            )
-        }
-    };
+    let (mut place, mut count) = (NOISE, NOISE);
+    let number = raw::minimal_windows(
+        table, query, range, row, start, end, scratch, &mut place, &mut count,
+    );
+    Answer {
+        number,
+        place,
+        count,
+        sum: 0,
+    }
+}
+
+pub fn listing(
+    table: Table,
+    query: Query,
+    range: Days,
+    start: &mut [u16],
+    end: &mut [u16],
+    rows: &mut [u16],
+    scratch: &mut [u16],
+) -> Answer {
+    let (mut place, mut count, mut sum) = (NOISE, NOISE, NOISE);
+    let number = raw::listing(
+        table, query, range, start, end, rows, scratch, &mut place, &mut count, &mut sum,
+    );
     Answer {
         number,
         place,
@@ -348,29 +269,9 @@ pub fn columns_call(
     }
 }
 
-pub fn recall(t: Table, w: Windows, s: u16, e: u16, marks: &mut [u8]) -> Answer {
+pub fn recall(table: Table, windows: Windows, window: Days, marks: &mut [u8]) -> Answer {
     let mut place = NOISE;
-    let number = unsafe {
-        raw::rumbleog_recall(
-            t.days.as_ptr(),
-            t.days.len(),
-            t.first.as_ptr(),
-            t.first.len(),
-            t.second.as_ptr(),
-            t.second.len(),
-            w.row.as_ptr(),
-            w.row.len(),
-            w.start.as_ptr(),
-            w.start.len(),
-            w.end.as_ptr(),
-            w.end.len(),
-            s,
-            e,
-            marks.as_mut_ptr(),
-            marks.len(),
-            &mut place,
-        )
-    };
+    let number = raw::recall(table, windows, window, marks, &mut place);
     Answer {
         number,
         place,
@@ -378,9 +279,9 @@ pub fn recall(t: Table, w: Windows, s: u16, e: u16, marks: &mut [u8]) -> Answer 
     }
 }
 
-pub fn longest_list(ts: u16, te: u16) -> Answer {
+pub fn longest_list(range: Days) -> Answer {
     let (mut place, mut count) = (NOISE, NOISE);
-    let number = unsafe { raw::rumbleog_longest_list(ts, te, &mut place, &mut count) };
+    let number = raw::longest_list(range, &mut place, &mut count);
     Answer {
         number,
         place,
@@ -391,20 +292,7 @@ pub fn longest_list(ts: u16, te: u16) -> Answer {
 
 pub fn read_table(text: &[u8], days: &mut [u16], first: &mut [u16], second: &mut [u16]) -> Answer {
     let (mut place, mut count) = (NOISE, NOISE);
-    let number = unsafe {
-        raw::rumbleog_read_table(
-            text.as_ptr(),
-            text.len(),
-            days.as_mut_ptr(),
-            days.len(),
-            first.as_mut_ptr(),
-            first.len(),
-            second.as_mut_ptr(),
-            second.len(),
-            &mut place,
-            &mut count,
-        )
-    };
+    let number = raw::read_table(text, days, first, second, &mut place, &mut count);
     Answer {
         number,
         place,
@@ -415,16 +303,7 @@ pub fn read_table(text: &[u8], days: &mut [u16], first: &mut [u16], second: &mut
 
 pub fn list(input: &[u8], output: &mut [u8]) -> Answer {
     let (mut line, mut length) = (NOISE, NOISE);
-    let number = unsafe {
-        raw::rumbleog_list(
-            input.as_ptr(),
-            input.len(),
-            output.as_mut_ptr(),
-            output.len(),
-            &mut line,
-            &mut length,
-        )
-    };
+    let number = raw::list(input, output, &mut line, &mut length);
     Answer {
         number,
         place: line,
@@ -498,9 +377,9 @@ pub fn damage(rng: &mut Rng, table: &mut Owned) {
     }
 }
 
-/// k: mostly where rings are, now and then at the edges.
-pub fn some_k(rng: &mut Rng) -> u16 {
-    match rng.below(20) {
+/// A query: k mostly where rings are, now and then at the edges.
+pub fn some_query(rng: &mut Rng) -> Query {
+    let k = match rng.below(20) {
         0 => 0,
         1 => rng.pick(&[4_095, 4_096, 65_535]),
         2 => rng.from(5, 9) as u16,
@@ -508,24 +387,25 @@ pub fn some_k(rng: &mut Rng) -> u16 {
         7 | 8 => 3,
         9 => 4,
         _ => 2,
-    }
+    };
+    Query { k }
 }
 
 /// Days about the table's days: mostly a right range, never a wide one.
-pub fn some_range(rng: &mut Rng, table: &Owned) -> (u16, u16) {
+pub fn some_range(rng: &mut Rng, table: &Owned) -> Days {
     let low = table.days.iter().copied().min().unwrap_or(1);
     let low = low.clamp(1, 1_024);
     let a = (low + rng.below(3) as u16).saturating_sub(1).max(1);
     let b = a + rng.below(7) as u16;
     match rng.below(24) {
-        0 => (0, b),
-        1 => (b + 1, a),
-        2 => (a, a - 1),
-        3 => (1_020, 1_025),
-        4 => (a, 65_535),
-        5 => (1_025, 1_025),
-        6 => (1_019, 1_024),
-        _ => (a.min(1_024), b.min(1_024)),
+        0 => 0..=b,
+        1 => b + 1..=a,
+        2 => a..=a - 1,
+        3 => 1_020..=1_025,
+        4 => a..=65_535,
+        5 => 1_025..=1_025,
+        6 => 1_019..=1_024,
+        _ => a.min(1_024)..=b.min(1_024),
     }
 }
 

@@ -1,7 +1,7 @@
 //! The benchmark's page: ratios, growth, bounds, memory.
 
 use crate::tables::{plain_case, Class};
-use crate::{Bench, Measured, Op, Three, ARCHIVE};
+use crate::{Bench, Engine, Measured, Op, Three};
 use std::fmt::Write;
 use std::process::Command;
 
@@ -186,8 +186,10 @@ pub fn memory_of(op: Op) {
     let case = plain_case(16_384);
     let mut scratch = vec![1; rumbleog::scratch_for(16_384)];
     let mut room = Three::new(2_000_000);
-    let entries = ARCHIVE.windows(&case, &mut room, &mut scratch).unwrap_or(0);
-    let rings = ARCHIVE
+    let entries = Engine::Archive
+        .windows(&case, &mut room, &mut scratch)
+        .unwrap_or(0);
+    let rings = Engine::Archive
         .list(&case, &mut room, &mut scratch)
         .map_or(0, |found| found.0);
     drop((room, scratch));

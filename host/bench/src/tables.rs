@@ -1,6 +1,8 @@
 //! Seeded tables for the benchmark and the tests of full size: the shapes that
 //! real payment and message data have, and shapes made to be hard.
 
+use rumbleog::{Days, Query, Table};
+
 /// splitmix64.
 pub struct Rng(pub u64);
 
@@ -43,6 +45,24 @@ pub struct Case {
     pub k: u16,
     /// Days of the range: 1 to this.
     pub te: u16,
+}
+
+impl Case {
+    pub fn lend(&self) -> Table<'_> {
+        Table {
+            days: &self.table.days,
+            first: &self.table.first,
+            second: &self.table.second,
+        }
+    }
+
+    pub fn query(&self) -> Query {
+        Query { k: self.k }
+    }
+
+    pub fn range(&self) -> Days {
+        1..=self.te
+    }
 }
 
 type Row = (usize, usize, usize);

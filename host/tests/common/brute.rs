@@ -6,14 +6,17 @@
 //! same name, leaves in the buffers what the call must leave there, and returns
 //! the numbers that the call must return.
 
-use crate::{Table, Windows, ACCOUNTS, LAST_DAY, MOST_INPUT, MOST_LISTED, MOST_ROWS, NEVER};
+use rumbleog::number::*;
+use rumbleog::{
+    Days, Query, Table, Windows, ACCOUNTS, LAST_DAY, MOST_INPUT, MOST_LISTED, MOST_ROWS, NEVER,
+};
 use std::collections::{BTreeMap, BTreeSet};
 
-/// What a call returns: the refusal number (0 for none), its place (line, for
-/// the listing program), the count (length of text) and the sum.
+/// What a call returns: the number of the refusal, its place (line, for the
+/// listing program), the count (length of text) and the sum.
 #[derive(Clone, Copy, Debug, Default, PartialEq, Eq)]
 pub struct Answer {
-    /// Refusal number, 0 for none.
+    /// Number of the refusal, `OK` for none.
     pub number: u32,
     /// Row, entry or line of the refusal; 0 where there is none.
     pub place: u64,
@@ -43,10 +46,10 @@ fn counted(count: usize) -> Answer {
 /// A set of rows of a table.
 pub type RowSet = BTreeSet<usize>;
 
-/// The rows with s <= day <= e.
-pub fn window_rows(table: Table, s: u16, e: u16) -> RowSet {
+/// The rows of a window: those dated on one of its days.
+pub fn window_rows(table: Table, window: Days) -> RowSet {
     (0..table.days.len())
-        .filter(|&row| s <= table.days[row] && table.days[row] <= e)
+        .filter(|&row| window.contains(&table.days[row]))
         .collect()
 }
 
@@ -74,32 +77,33 @@ fn accounts_met(table: Table, rows: &RowSet) -> BTreeSet<u16> {
 }
 
 /// Does every account met have at least k distinct other accounts?
-pub fn is_good(table: Table, rows: &RowSet, k: u16) -> bool {
+pub fn is_good(table: Table, query: Query, rows: &RowSet) -> bool {
     neighbours(table, rows)
         .values()
-        .all(|others| others.len() >= usize::from(k))
+        .all(|others| others.len() >= usize::from(query.k))
 }
 
-/// The ring of [s, e] for k: the greatest good set of the window's rows.
+/// The ring of a window: the greatest good set of its rows.
 ///
 /// A row of an account with fewer than k neighbours is in no good subset, so
 /// dropping it loses none; a set with no such row is good, and so the greatest.
-pub fn ring(table: Table, k: u16, s: u16, e: u16) -> RowSet {
-    let mut rows = window_rows(table, s, e);
-    while !is_good(table, &rows, k) {
+pub fn ring(table: Table, query: Query, window: Days) -> RowSet {
+    let mut rows = window_rows(table, window);
+    while !is_good(table, query, &rows) {
         let near = neighbours(table, &rows);
-        let enough = |account: &u16| near[account].len() >= usize::from(k);
+        let enough = |account: &u16| near[account].len() >= usize::from(query.k);
         rows.retain(|&row| accounts_of(table, row).iter().all(enough));
     }
     rows
 }
 
-/// The rings of all windows inside [ts, te], by window.
-pub fn all_rings(table: Table, k: u16, ts: u16, te: u16) -> BTreeMap<(u16, u16), RowSet> {
+/// The rings of all windows inside a range, by first and last day.
+pub fn all_rings(table: Table, query: Query, range: Days) -> BTreeMap<(u16, u16), RowSet> {
     let mut rings = BTreeMap::new();
-    for s in ts..=te {
-        for e in s..=te {
-            rings.insert((s, e), ring(table, k, s, e));
+    let last = *range.end();
+    for s in range {
+        for e in s..=last {
+            rings.insert((s, e), ring(table, query, s..=e));
         }
     }
     rings
@@ -110,32 +114,33 @@ pub fn all_rings(table: Table, k: u16, ts: u16, te: u16) -> BTreeMap<(u16, u16),
 fn table_refusal(table: Table) -> Option<Answer> {
     let rows = table.days.len();
     if table.first.len() != rows || table.second.len() != rows {
-        return Some(refused(1, 0));
+        return Some(refused(COLUMNS_DIFFER, 0));
     }
     if rows > MOST_ROWS {
-        return Some(refused(2, 0));
+        return Some(refused(TOO_LARGE, 0));
     }
     for row in 0..rows {
         let [a, b] = accounts_of(table, row);
         if !(1..=LAST_DAY).contains(&table.days[row]) {
-            return Some(refused(3, row));
+            return Some(refused(BAD_DAY, row));
         }
         if usize::from(b) >= ACCOUNTS || a >= b {
-            return Some(refused(4, row));
+            return Some(refused(BAD_ACCOUNTS, row));
         }
         if row > 0 && table.days[row] < table.days[row - 1] {
-            return Some(refused(5, row));
+            return Some(refused(DAY_FALLS, row));
         }
     }
     None
 }
 
-fn k_is_bad(k: u16) -> bool {
-    !(1..=4_095).contains(&k)
+fn k_is_bad(query: Query) -> bool {
+    !(1..=4_095).contains(&query.k)
 }
 
-fn range_is_bad(ts: u16, te: u16) -> bool {
-    !(1 <= ts && ts <= te && te <= LAST_DAY)
+fn range_is_bad(range: &Days) -> bool {
+    let (first, last) = (*range.start(), *range.end());
+    !(1 <= first && first <= last && last <= LAST_DAY)
 }
 
 fn scratch_is_short(table: Table, scratch: &[u16]) -> bool {
@@ -152,28 +157,27 @@ pub fn check_table(table: Table) -> Answer {
 /// Window ring.
 pub fn window_ring(
     table: Table,
-    k: u16,
-    s: u16,
-    e: u16,
+    query: Query,
+    window: Days,
     marks: &mut [u8],
     scratch: &mut [u16],
 ) -> Answer {
     if let Some(refusal) = table_refusal(table) {
         return refusal;
     }
-    if k_is_bad(k) {
-        return refused(6, 0);
+    if k_is_bad(query) {
+        return refused(BAD_K, 0);
     }
-    if range_is_bad(s, e) {
-        return refused(7, 0);
+    if range_is_bad(&window) {
+        return refused(BAD_RANGE, 0);
     }
     if marks.len() != table.days.len() {
-        return refused(8, 0);
+        return refused(BAD_LENGTH, 0);
     }
     if scratch_is_short(table, scratch) {
-        return refused(9, 0);
+        return refused(SCRATCH, 0);
     }
-    let ring = ring(table, k, s, e);
+    let ring = ring(table, query, window);
     for (row, mark) in marks.iter_mut().enumerate() {
         *mark = u8::from(ring.contains(&row));
     }
@@ -182,13 +186,11 @@ pub fn window_ring(
 }
 
 /// Core times.
-#[allow(clippy::too_many_arguments)]
 pub fn core_times(
     table: Table,
-    k: u16,
-    ts: u16,
-    te: u16,
-    s: u16,
+    query: Query,
+    range: Days,
+    start: u16,
     accounts: &mut [u16],
     rows: &mut [u16],
     scratch: &mut [u16],
@@ -196,23 +198,23 @@ pub fn core_times(
     if let Some(refusal) = table_refusal(table) {
         return refusal;
     }
-    if k_is_bad(k) {
-        return refused(6, 0);
+    if k_is_bad(query) {
+        return refused(BAD_K, 0);
     }
-    if range_is_bad(ts, te) || s < ts || te < s {
-        return refused(7, 0);
+    if range_is_bad(&range) || !range.contains(&start) {
+        return refused(BAD_RANGE, 0);
     }
     if accounts.len() != ACCOUNTS || rows.len() != table.days.len() {
-        return refused(8, 0);
+        return refused(BAD_LENGTH, 0);
     }
     if scratch_is_short(table, scratch) {
-        return refused(9, 0);
+        return refused(SCRATCH, 0);
     }
     // Try each end, the least first.
     accounts.fill(NEVER);
     rows.fill(NEVER);
-    for e in s..=te {
-        let ring = ring(table, k, s, e);
+    for e in start..=*range.end() {
+        let ring = ring(table, query, start..=e);
         for account in accounts_met(table, &ring) {
             let time = &mut accounts[usize::from(account)];
             *time = e.min(*time);
@@ -226,8 +228,8 @@ pub fn core_times(
 }
 
 /// The minimal windows of every row, by row, then start.
-pub fn minimal_window_list(table: Table, k: u16, ts: u16, te: u16) -> Vec<(u16, u16, u16)> {
-    let rings = all_rings(table, k, ts, te);
+pub fn minimal_window_list(table: Table, query: Query, range: Days) -> Vec<(u16, u16, u16)> {
+    let rings = all_rings(table, query, range);
     let mut list = Vec::new();
     for row in 0..table.days.len() {
         for (&(s, e), ring) in &rings {
@@ -243,12 +245,10 @@ pub fn minimal_window_list(table: Table, k: u16, ts: u16, te: u16) -> Vec<(u16, 
 }
 
 /// Minimal windows.
-#[allow(clippy::too_many_arguments)]
 pub fn minimal_windows(
     table: Table,
-    k: u16,
-    ts: u16,
-    te: u16,
+    query: Query,
+    range: Days,
     row: &mut [u16],
     start: &mut [u16],
     end: &mut [u16],
@@ -257,22 +257,22 @@ pub fn minimal_windows(
     if let Some(refusal) = table_refusal(table) {
         return refusal;
     }
-    if k_is_bad(k) {
-        return refused(6, 0);
+    if k_is_bad(query) {
+        return refused(BAD_K, 0);
     }
-    if range_is_bad(ts, te) {
-        return refused(7, 0);
+    if range_is_bad(&range) {
+        return refused(BAD_RANGE, 0);
     }
     if row.len() != start.len() || row.len() != end.len() {
-        return refused(8, 0);
+        return refused(BAD_LENGTH, 0);
     }
     if scratch_is_short(table, scratch) {
-        return refused(9, 0);
+        return refused(SCRATCH, 0);
     }
     scratch.fill(0);
-    let list = minimal_window_list(table, k, ts, te);
+    let list = minimal_window_list(table, query, range);
     if list.len() > row.len() {
-        return refused(10, 0);
+        return refused(NO_ROOM, 0);
     }
     for (at, &entry) in list.iter().enumerate() {
         (row[at], start[at], end[at]) = entry;
@@ -282,8 +282,8 @@ pub fn minimal_windows(
 
 /// The distinct nonempty rings, each as first row day, last row day and number
 /// of rows, by start, then end.
-pub fn ring_list(table: Table, k: u16, ts: u16, te: u16) -> Vec<(u16, u16, u16)> {
-    let distinct: BTreeSet<RowSet> = all_rings(table, k, ts, te).into_values().collect();
+pub fn ring_list(table: Table, query: Query, range: Days) -> Vec<(u16, u16, u16)> {
+    let distinct: BTreeSet<RowSet> = all_rings(table, query, range).into_values().collect();
     let mut list = Vec::new();
     for ring in distinct {
         let days = ring.iter().map(|&row| table.days[row]);
@@ -296,12 +296,10 @@ pub fn ring_list(table: Table, k: u16, ts: u16, te: u16) -> Vec<(u16, u16, u16)>
 }
 
 /// Listing.
-#[allow(clippy::too_many_arguments)]
 pub fn listing(
     table: Table,
-    k: u16,
-    ts: u16,
-    te: u16,
+    query: Query,
+    range: Days,
     start: &mut [u16],
     end: &mut [u16],
     rows: &mut [u16],
@@ -310,22 +308,22 @@ pub fn listing(
     if let Some(refusal) = table_refusal(table) {
         return refusal;
     }
-    if k_is_bad(k) {
-        return refused(6, 0);
+    if k_is_bad(query) {
+        return refused(BAD_K, 0);
     }
-    if range_is_bad(ts, te) {
-        return refused(7, 0);
+    if range_is_bad(&range) {
+        return refused(BAD_RANGE, 0);
     }
     if start.len() != end.len() || start.len() != rows.len() {
-        return refused(8, 0);
+        return refused(BAD_LENGTH, 0);
     }
     if scratch_is_short(table, scratch) {
-        return refused(9, 0);
+        return refused(SCRATCH, 0);
     }
     scratch.fill(0);
-    let list = ring_list(table, k, ts, te);
+    let list = ring_list(table, query, range);
     if list.len() > start.len() {
-        return refused(10, 0);
+        return refused(NO_ROOM, 0);
     }
     for (at, &entry) in list.iter().enumerate() {
         (start[at], end[at], rows[at]) = entry;
@@ -337,46 +335,46 @@ pub fn listing(
 }
 
 /// Recall.
-pub fn recall(table: Table, windows: Windows, s: u16, e: u16, marks: &mut [u8]) -> Answer {
+pub fn recall(table: Table, windows: Windows, window: Days, marks: &mut [u8]) -> Answer {
     let Windows { row, start, end } = windows;
     if let Some(refusal) = table_refusal(table) {
         return refusal;
     }
     if row.len() != start.len() || row.len() != end.len() || marks.len() != table.days.len() {
-        return refused(8, 0);
+        return refused(BAD_LENGTH, 0);
     }
     for i in 0..row.len() {
         let Some(&day) = table.days.get(usize::from(row[i])) else {
-            return refused(14, i);
+            return refused(BAD_ENTRY, i);
         };
         if !(1 <= start[i] && start[i] <= day && day <= end[i] && end[i] <= LAST_DAY) {
-            return refused(14, i);
+            return refused(BAD_ENTRY, i);
         }
         if i > 0 {
             let row_rises = row[i] > row[i - 1];
             let window_rises = start[i] > start[i - 1] && end[i] > end[i - 1];
             if !(row_rises || row[i] == row[i - 1] && window_rises) {
-                return refused(14, i);
+                return refused(BAD_ENTRY, i);
             }
         }
     }
-    if range_is_bad(s, e) {
-        return refused(7, 0);
+    if range_is_bad(&window) {
+        return refused(BAD_RANGE, 0);
     }
+    let inside = |i: usize| *window.start() <= start[i] && end[i] <= *window.end();
     for (at, mark) in marks.iter_mut().enumerate() {
-        let listed =
-            (0..row.len()).any(|i| usize::from(row[i]) == at && s <= start[i] && end[i] <= e);
+        let listed = (0..row.len()).any(|i| usize::from(row[i]) == at && inside(i));
         *mark = u8::from(listed);
     }
     Answer::default()
 }
 
 /// Longest list.
-pub fn longest_list(ts: u16, te: u16) -> Answer {
-    if range_is_bad(ts, te) {
-        return refused(7, 0);
+pub fn longest_list(range: Days) -> Answer {
+    if range_is_bad(&range) {
+        return refused(BAD_RANGE, 0);
     }
-    let days = usize::from(te - ts) + 1;
+    let days = range.count();
     counted(days * (days + 1) / 2)
 }
 
@@ -393,14 +391,14 @@ fn field(bytes: &[u8]) -> Option<u64> {
 fn line_numbers(line: &[u8], widths: [usize; 3]) -> Result<[u16; 3], u32> {
     let [a, b, c] = widths;
     if line.len() != a + b + c + 1 || line[a + b + c] != b'\n' {
-        return Err(11);
+        return Err(BAD_LINE);
     }
     let fields = [&line[..a], &line[a..a + b], &line[a + b..a + b + c]].map(field);
     let [Some(x), Some(y), Some(z)] = fields else {
-        return Err(12);
+        return Err(BAD_FIELD);
     };
     if [x, y, z].iter().any(|&number| number > 65_535) {
-        return Err(13);
+        return Err(BAD_NUMBER);
     }
     Ok([x as u16, y as u16, z as u16])
 }
@@ -415,7 +413,7 @@ pub fn read_table(text: &[u8], days: &mut [u16], first: &mut [u16], second: &mut
         }
     }
     if rows.len() > days.len() || rows.len() > first.len() || rows.len() > second.len() {
-        return refused(10, 0);
+        return refused(NO_ROOM, 0);
     }
     for (at, &row) in rows.iter().enumerate() {
         [days[at], first[at], second[at]] = row;
@@ -426,7 +424,7 @@ pub fn read_table(text: &[u8], days: &mut [u16], first: &mut [u16], second: &mut
 /// The listing program's text, or its refusal with the input line.
 pub fn list_text(input: &[u8]) -> Result<Vec<u8>, Answer> {
     if input.len() > MOST_INPUT {
-        return Err(refused(2, 0));
+        return Err(refused(TOO_LARGE, 0));
     }
     let mut lines = input.split_inclusive(|&byte| byte == b'\n');
     let query = lines.next().unwrap_or(b"");
@@ -435,7 +433,7 @@ pub fn list_text(input: &[u8]) -> Result<Vec<u8>, Answer> {
     let mut columns = [[0; 1_024]; 3];
     let [days, first, second] = &mut columns;
     let read = read_table(&input[query.len()..], days, first, second);
-    if read.number != 0 {
+    if read.number != OK {
         return Err(refused(read.number, read.place as usize + 1));
     }
     let rows = read.count as usize;
@@ -447,10 +445,12 @@ pub fn list_text(input: &[u8]) -> Result<Vec<u8>, Answer> {
     let mut list = [[0; MOST_LISTED]; 3];
     let [start, end, size] = &mut list;
     let mut scratch = vec![0; 8_192 + 4 * rows];
-    let listed = listing(table, k, ts, te, start, end, size, &mut scratch);
+    let listed = listing(table, Query { k }, ts..=te, start, end, size, &mut scratch);
     match listed.number {
-        0 => {}
-        3..=5 => return Err(refused(listed.number, listed.place as usize + 2)),
+        OK => {}
+        BAD_DAY | BAD_ACCOUNTS | DAY_FALLS => {
+            return Err(refused(listed.number, listed.place as usize + 2))
+        }
         number => return Err(refused(number, 0)),
     }
     let mut text = String::from("start  end span  rows\n");
@@ -466,7 +466,7 @@ pub fn list_text(input: &[u8]) -> Result<Vec<u8>, Answer> {
 pub fn list(input: &[u8], output: &mut [u8]) -> Answer {
     match list_text(input) {
         Err(refusal) => refusal,
-        Ok(text) if text.len() > output.len() => refused(10, 0),
+        Ok(text) if text.len() > output.len() => refused(NO_ROOM, 0),
         Ok(text) => {
             output[..text.len()].copy_from_slice(&text);
             counted(text.len())

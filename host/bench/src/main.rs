@@ -10,8 +10,14 @@ mod peers;
 mod report;
 mod tables;
 
+/// The same calls of the C peer.
+#[allow(dead_code)]
+mod peer {
+    rumbleog::foreign_calls!("peer_");
+}
+
 use peers::{List, Plain};
-use rumbleog::{longest_list, raw, scratch_for, Table, ACCOUNTS};
+use rumbleog::{longest_list, number, raw, scratch_for, Days, ACCOUNTS};
 use tables::{Case, Class};
 
 #[repr(C)]
@@ -42,133 +48,12 @@ const FOUND: [u64; 4] = [396, 632, 675, 163];
 
 const SIZES: [usize; 3] = [1_024, 4_096, 16_384];
 
-type Column = *const u16;
-type Out = *mut u16;
-type Number = *mut u64;
-
-/// The four calls that are measured, from the archive or from the C peer.
-pub struct Engine {
-    #[rustfmt::skip]
-    listing: unsafe extern "C" fn(
-        Column, usize, Column, usize, Column, usize, u16, u16, u16,
-        Out, usize, Out, usize, Out, usize, Out, usize, Number, Number, Number,
-    ) -> u32,
-    #[rustfmt::skip]
-    windows: unsafe extern "C" fn(
-        Column, usize, Column, usize, Column, usize, u16, u16, u16,
-        Out, usize, Out, usize, Out, usize, Out, usize, Number, Number,
-    ) -> u32,
-    #[rustfmt::skip]
-    ring: unsafe extern "C" fn(
-        Column, usize, Column, usize, Column, usize, u16, u16, u16,
-        *mut u8, usize, Out, usize, Number, Number,
-    ) -> u32,
-    #[rustfmt::skip]
-    times: unsafe extern "C" fn(
-        Column, usize, Column, usize, Column, usize, u16, u16, u16, u16,
-        Out, usize, Out, usize, Out, usize, Number,
-    ) -> u32,
+/// Whose calls are measured: the archive's, or those of the C peer.
+#[derive(Clone, Copy)]
+pub enum Engine {
+    Archive,
+    Peer,
 }
-
-extern "C" {
-    #[rustfmt::skip]
-    fn peer_listing(
-        days: Column,
-        days_length: usize,
-        first: Column,
-        first_length: usize,
-        second: Column,
-        second_length: usize,
-        k: u16,
-        ts: u16,
-        te: u16,
-        start: Out,
-        start_length: usize,
-        end: Out,
-        end_length: usize,
-        rows: Out,
-        rows_length: usize,
-        scratch: Out,
-        scratch_length: usize,
-        place: Number,
-        count: Number,
-        sum: Number,
-    ) -> u32;
-    #[rustfmt::skip]
-    fn peer_minimal_windows(
-        days: Column,
-        days_length: usize,
-        first: Column,
-        first_length: usize,
-        second: Column,
-        second_length: usize,
-        k: u16,
-        ts: u16,
-        te: u16,
-        row: Out,
-        row_length: usize,
-        start: Out,
-        start_length: usize,
-        end: Out,
-        end_length: usize,
-        scratch: Out,
-        scratch_length: usize,
-        place: Number,
-        count: Number,
-    ) -> u32;
-    #[rustfmt::skip]
-    fn peer_window_ring(
-        days: Column,
-        days_length: usize,
-        first: Column,
-        first_length: usize,
-        second: Column,
-        second_length: usize,
-        k: u16,
-        s: u16,
-        e: u16,
-        marks: *mut u8,
-        marks_length: usize,
-        scratch: Out,
-        scratch_length: usize,
-        place: Number,
-        count: Number,
-    ) -> u32;
-    #[rustfmt::skip]
-    fn peer_core_times(
-        days: Column,
-        days_length: usize,
-        first: Column,
-        first_length: usize,
-        second: Column,
-        second_length: usize,
-        k: u16,
-        ts: u16,
-        te: u16,
-        s: u16,
-        accounts: Out,
-        accounts_length: usize,
-        rows: Out,
-        rows_length: usize,
-        scratch: Out,
-        scratch_length: usize,
-        place: Number,
-    ) -> u32;
-}
-
-pub const ARCHIVE: Engine = Engine {
-    listing: raw::rumbleog_listing,
-    windows: raw::rumbleog_minimal_windows,
-    ring: raw::rumbleog_window_ring,
-    times: raw::rumbleog_core_times,
-};
-
-pub const PEER: Engine = Engine {
-    listing: peer_listing,
-    windows: peer_minimal_windows,
-    ring: peer_window_ring,
-    times: peer_core_times,
-};
 
 /// Columns lent for an answer of three columns.
 pub struct Three {
@@ -192,143 +77,103 @@ impl Three {
     }
 }
 
-fn lend(case: &Case) -> Table<'_> {
-    Table {
-        days: &case.table.days,
-        first: &case.table.first,
-        second: &case.table.second,
-    }
-}
-
 impl Engine {
     /// Number of rings (and the sum of their rows), or none if refused.
-    pub fn list(&self, case: &Case, out: &mut Three, scratch: &mut [u16]) -> Option<(usize, u64)> {
-        let t = lend(case);
-        let (mut place, mut count, mut sum) = (0, 0, 0);
-        // SAFETY: pointers and lengths are those of live slices; so below.
-        let number = unsafe {
-            (self.listing)(
-                t.days.as_ptr(),
-                t.days.len(),
-                t.first.as_ptr(),
-                t.first.len(),
-                t.second.as_ptr(),
-                t.second.len(),
-                case.k,
-                1,
-                case.te,
-                out.a.as_mut_ptr(),
-                out.a.len(),
-                out.b.as_mut_ptr(),
-                out.b.len(),
-                out.c.as_mut_ptr(),
-                out.c.len(),
-                scratch.as_mut_ptr(),
-                scratch.len(),
-                &mut place,
-                &mut count,
-                &mut sum,
-            )
+    pub fn list(self, case: &Case, out: &mut Three, scratch: &mut [u16]) -> Option<(usize, u64)> {
+        let listing = match self {
+            Engine::Archive => raw::listing,
+            Engine::Peer => peer::listing,
         };
-        (number == 0).then_some((count as usize, sum))
+        let Three { a, b, c } = out;
+        let (mut place, mut count, mut sum) = (0, 0, 0);
+        let number = listing(
+            case.lend(),
+            case.query(),
+            case.range(),
+            a,
+            b,
+            c,
+            scratch,
+            &mut place,
+            &mut count,
+            &mut sum,
+        );
+        (number == number::OK).then_some((count as usize, sum))
     }
 
     /// Number of entries, or the refusal.
-    pub fn windows(&self, case: &Case, out: &mut Three, scratch: &mut [u16]) -> Result<usize, u32> {
-        let t = lend(case);
-        let (mut place, mut count) = (0, 0);
-        let number = unsafe {
-            (self.windows)(
-                t.days.as_ptr(),
-                t.days.len(),
-                t.first.as_ptr(),
-                t.first.len(),
-                t.second.as_ptr(),
-                t.second.len(),
-                case.k,
-                1,
-                case.te,
-                out.a.as_mut_ptr(),
-                out.a.len(),
-                out.b.as_mut_ptr(),
-                out.b.len(),
-                out.c.as_mut_ptr(),
-                out.c.len(),
-                scratch.as_mut_ptr(),
-                scratch.len(),
-                &mut place,
-                &mut count,
-            )
+    pub fn windows(self, case: &Case, out: &mut Three, scratch: &mut [u16]) -> Result<usize, u32> {
+        let minimal_windows = match self {
+            Engine::Archive => raw::minimal_windows,
+            Engine::Peer => peer::minimal_windows,
         };
+        let Three { a, b, c } = out;
+        let (mut place, mut count) = (0, 0);
+        let number = minimal_windows(
+            case.lend(),
+            case.query(),
+            case.range(),
+            a,
+            b,
+            c,
+            scratch,
+            &mut place,
+            &mut count,
+        );
         match number {
-            0 => Ok(count as usize),
+            number::OK => Ok(count as usize),
             _ => Err(number),
         }
     }
 
     pub fn ring(
-        &self,
+        self,
         case: &Case,
-        (s, e): (u16, u16),
+        window: Days,
         marks: &mut [u8],
         scratch: &mut [u16],
     ) -> Option<usize> {
-        let t = lend(case);
-        let (mut place, mut count) = (0, 0);
-        let number = unsafe {
-            (self.ring)(
-                t.days.as_ptr(),
-                t.days.len(),
-                t.first.as_ptr(),
-                t.first.len(),
-                t.second.as_ptr(),
-                t.second.len(),
-                case.k,
-                s,
-                e,
-                marks.as_mut_ptr(),
-                marks.len(),
-                scratch.as_mut_ptr(),
-                scratch.len(),
-                &mut place,
-                &mut count,
-            )
+        let window_ring = match self {
+            Engine::Archive => raw::window_ring,
+            Engine::Peer => peer::window_ring,
         };
-        (number == 0).then_some(count as usize)
+        let (mut place, mut count) = (0, 0);
+        let number = window_ring(
+            case.lend(),
+            case.query(),
+            window,
+            marks,
+            scratch,
+            &mut place,
+            &mut count,
+        );
+        (number == number::OK).then_some(count as usize)
     }
 
     pub fn times(
-        &self,
+        self,
         case: &Case,
-        s: u16,
+        start: u16,
         accounts: &mut [u16],
         rows: &mut [u16],
         scratch: &mut [u16],
     ) -> Option<()> {
-        let t = lend(case);
-        let mut place = 0;
-        let number = unsafe {
-            (self.times)(
-                t.days.as_ptr(),
-                t.days.len(),
-                t.first.as_ptr(),
-                t.first.len(),
-                t.second.as_ptr(),
-                t.second.len(),
-                case.k,
-                1,
-                case.te,
-                s,
-                accounts.as_mut_ptr(),
-                accounts.len(),
-                rows.as_mut_ptr(),
-                rows.len(),
-                scratch.as_mut_ptr(),
-                scratch.len(),
-                &mut place,
-            )
+        let core_times = match self {
+            Engine::Archive => raw::core_times,
+            Engine::Peer => peer::core_times,
         };
-        (number == 0).then_some(())
+        let mut place = 0;
+        let number = core_times(
+            case.lend(),
+            case.query(),
+            case.range(),
+            start,
+            accounts,
+            rows,
+            scratch,
+            &mut place,
+        );
+        (number == number::OK).then_some(())
     }
 }
 
@@ -382,12 +227,8 @@ pub struct Measured {
     pub times: [f64; OPS.len()],
 }
 
-fn ring_windows(te: u16) -> [(u16, u16); 3] {
-    [
-        (1, te),
-        (1 + te / 4, te - te / 4),
-        (te / 2, te / 2 + te / 8),
-    ]
+fn ring_windows(te: u16) -> [Days; 3] {
+    [1..=te, 1 + te / 4..=te - te / 4, te / 2..=te / 2 + te / 8]
 }
 
 fn starts(te: u16) -> [u16; 2] {
@@ -406,9 +247,9 @@ fn window_room(case: &Case, scratch: &mut [u16]) -> Three {
     let mut room = 1 << 14;
     loop {
         let mut out = Three::new(room);
-        match ARCHIVE.windows(case, &mut out, scratch) {
+        match Engine::Archive.windows(case, &mut out, scratch) {
             Ok(count) => return Three::new(count),
-            Err(10) => room *= 4,
+            Err(number::NO_ROOM) => room *= 4,
             Err(_) => must(false, case, "the archive refuses, or"),
         }
     }
@@ -419,9 +260,9 @@ fn check(case: &Case) -> (usize, usize) {
     let (table, k, te) = (&case.table, case.k, case.te);
     let rows = table.days.len();
     let mut scratch = vec![7; scratch_for(rows)];
-    let room = longest_list(1, te).unwrap_or(0) as usize;
+    let room = longest_list(case.range()).unwrap_or(0) as usize;
     let mut list = Three::new(room);
-    let Some((count, sum)) = ARCHIVE.list(case, &mut list, &mut scratch) else {
+    let Some((count, sum)) = Engine::Archive.list(case, &mut list, &mut scratch) else {
         must(false, case, "the archive refuses, or");
         return (0, 0);
     };
@@ -431,7 +272,7 @@ fn check(case: &Case) -> (usize, usize) {
         "the sum",
     );
     let mut other = Three::new(room);
-    let same = PEER.list(case, &mut other, &mut scratch) == Some((count, sum));
+    let same = Engine::Peer.list(case, &mut other, &mut scratch) == Some((count, sum));
     let same = same && other.a[..count] == list.a[..count] && other.b[..count] == list.b[..count];
     must(
         same && other.c[..count] == list.c[..count],
@@ -456,12 +297,12 @@ fn check(case: &Case) -> (usize, usize) {
 
     let mut windows = window_room(case, &mut scratch);
     let entries = windows.a.len();
-    let found = ARCHIVE.windows(case, &mut windows, &mut scratch);
+    let found = Engine::Archive.windows(case, &mut windows, &mut scratch);
     must(found == Ok(entries), case, "the count");
     let found = peers::minimal_windows(table, k, 1, te);
     must(windows.same(entries, &found), case, "Algorithm 2");
     let mut other = Three::new(entries);
-    let same = PEER.windows(case, &mut other, &mut scratch) == Ok(entries);
+    let same = Engine::Peer.windows(case, &mut other, &mut scratch) == Ok(entries);
     let same = same && other.a == windows.a && other.b == windows.b && other.c == windows.c;
     must(same, case, "C minimal windows");
 
@@ -469,18 +310,18 @@ fn check(case: &Case) -> (usize, usize) {
     let mut marks = [vec![7; rows], vec![7; rows], vec![7; rows]];
     for window in ring_windows(te) {
         let [a, b, c] = &mut marks;
-        let ones = ARCHIVE.ring(case, window, a, &mut scratch);
-        let same = ones == PEER.ring(case, window, b, &mut scratch) && a == b;
+        let ones = Engine::Archive.ring(case, window.clone(), a, &mut scratch);
+        let same = ones == Engine::Peer.ring(case, window.clone(), b, &mut scratch) && a == b;
         must(same, case, "C window ring");
-        let count = plain.window_ring(table, k, window.0, window.1, c);
+        let count = plain.window_ring(table, k, *window.start(), *window.end(), c);
         must(ones == Some(count) && a == c, case, "plain peeling");
     }
     for s in starts(te) {
         let mut accounts = [[7; ACCOUNTS]; 3];
         let mut times = [vec![7; rows], vec![7; rows], vec![7; rows]];
         let [a, b, c] = &mut times;
-        ARCHIVE.times(case, s, &mut accounts[0], a, &mut scratch);
-        PEER.times(case, s, &mut accounts[1], b, &mut scratch);
+        Engine::Archive.times(case, s, &mut accounts[0], a, &mut scratch);
+        Engine::Peer.times(case, s, &mut accounts[1], b, &mut scratch);
         plain.core_times(table, k, te, s, &mut accounts[2], c);
         let same = a == b && accounts[0] == accounts[1];
         must(same, case, "C core times");
@@ -508,7 +349,7 @@ impl<'a> Bench<'a> {
         let rows = case.table.days.len();
         Bench {
             case,
-            room: Three::new(longest_list(1, case.te).unwrap_or(0) as usize),
+            room: Three::new(longest_list(case.range()).unwrap_or(0) as usize),
             exact: Three::new(rings),
             windows: Three::new(entries),
             scratch: vec![1; scratch_for(rows)],
@@ -524,8 +365,8 @@ impl<'a> Bench<'a> {
         let (table, k, te) = (&case.table, case.k, case.te);
         let scratch = &mut self.scratch[..];
         let engine = match op {
-            Op::ListingC | Op::WindowsC | Op::RingC | Op::TimesC => &PEER,
-            _ => &ARCHIVE,
+            Op::ListingC | Op::WindowsC | Op::RingC | Op::TimesC => Engine::Peer,
+            _ => Engine::Archive,
         };
         match op {
             Op::Listing | Op::ListingC => drop(engine.list(case, &mut self.room, scratch)),
@@ -542,7 +383,8 @@ impl<'a> Bench<'a> {
                 }
             }
             Op::RingPlain => {
-                for (s, e) in ring_windows(te) {
+                for window in ring_windows(te) {
+                    let (s, e) = (*window.start(), *window.end());
                     self.plain.window_ring(table, k, s, e, &mut self.marks);
                 }
             }
@@ -617,11 +459,11 @@ fn search(number: u64) {
     for seed in 0..number {
         let case = tables::drawn(seed, 16_384);
         let before = now();
-        let found = ARCHIVE.list(&case, &mut room, &mut scratch);
+        let found = Engine::Archive.list(&case, &mut room, &mut scratch);
         let listing = now() - before;
         let mut windows = window_room(&case, &mut scratch);
         let before = now();
-        let _ = ARCHIVE.windows(&case, &mut windows, &mut scratch);
+        let _ = Engine::Archive.windows(&case, &mut windows, &mut scratch);
         let minimal = now() - before;
         let rings = found.map_or(0, |found| found.0);
         let name = format!("{}: {rings} rings", case.name);

@@ -1,0 +1,35 @@
+//! Compiles the C peer (../peer/engine.c), its calls named peer_*, and links it.
+
+use std::env;
+use std::path::PathBuf;
+use std::process::{exit, Command};
+
+fn run(command: &mut Command) {
+    let why = match command.status() {
+        Ok(status) if status.success() => return,
+        Ok(status) => status.to_string(),
+        Err(error) => error.to_string(),
+    };
+    eprintln!("error: {command:?}: {why}");
+    exit(1);
+}
+
+fn main() {
+    let here = PathBuf::from(env::var_os("CARGO_MANIFEST_DIR").unwrap_or_default());
+    let out = PathBuf::from(env::var_os("OUT_DIR").unwrap_or_default());
+    let source = here.join("../peer/engine.c");
+    let object = out.join("peer.o");
+    let archive = out.join("libpeer.a");
+    println!("cargo:rerun-if-changed=build.rs");
+    println!("cargo:rerun-if-changed={}", source.display());
+    println!("cargo:rerun-if-env-changed=CC");
+    let cc = env::var_os("CC").unwrap_or_else(|| "cc".into());
+    run(Command::new(cc)
+        .args(["-std=c99", "-O3", "-DENGINE_PREFIX=peer_", "-c"])
+        .arg(&source)
+        .arg("-o")
+        .arg(&object));
+    run(Command::new("ar").arg("crs").arg(&archive).arg(&object));
+    println!("cargo:rustc-link-search=native={}", out.display());
+    println!("cargo:rustc-link-lib=static=peer");
+}
