@@ -21,11 +21,15 @@ fn main() {
     let object = out.join("peer.o");
     let archive = out.join("libpeer.a");
     println!("cargo:rerun-if-changed=build.rs");
+    let include = here.join("../../include");
     println!("cargo:rerun-if-changed={}", source.display());
+    println!("cargo:rerun-if-changed={}", include.display());
     println!("cargo:rerun-if-env-changed=CC");
     let cc = env::var_os("CC").unwrap_or_else(|| "cc".into());
     run(Command::new(cc)
-        .args(["-std=c99", "-O3", "-DENGINE_PREFIX=peer_", "-c"])
+        .args(["-std=c99", "-O3", "-DENGINE_PREFIX=peer_", "-I"])
+        .arg(&include)
+        .arg("-c")
         .arg(&source)
         .arg("-o")
         .arg(&object));
