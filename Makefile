@@ -17,14 +17,18 @@ IN ?= examples/season.txt
 RT_JOBS ?= 2
 export RT_JOBS
 
-# rt ci removes target/, so its log lies beside it.
+# rt ci removes target/, so the logs lie beside it.
 LOG := host/target/rt-ci.log
+LIST_LOG := host/target/rt-check.log
+# rt prints nothing of a crate until its level is done: this says what is being proved meanwhile.
+PROGRESS := python3 tools/progress.py
 HOST := $(MAKE) --no-print-directory -C host
 
 list: kit
 	@[ -r "$(IN)" ] || { echo "list: cannot read $(IN)"; exit 1; }
 	@echo "list: proving ringlist and what it rests on (minutes the first time, then nothing)"
-	@$(RT) check ringlist
+	@mkdir -p $(dir $(LIST_LOG))
+	@$(PROGRESS) --log $(LIST_LOG) list $(RT) check ringlist
 	@echo "list: the rings of $(IN)"
 	@target/bin/ringlist <"$(IN)"
 
@@ -56,7 +60,7 @@ proofs:
 	@rm -rf host/target/mutants/copy
 	@mkdir -p $(dir $(LOG))
 	@rm -f $(LOG)
-	@$(RT) ci 2>&1 | tee $(LOG)
+	@$(PROGRESS) proofs $(RT) ci 2>&1 | tee $(LOG)
 	@tail -n 1 $(LOG) | grep -qE '^[0-9]+ passed, 0 failed$$' || { echo "proofs: rt ci did not end with its verdict"; exit 1; }
 
 # Starts from what rt ci proved.
