@@ -90,7 +90,7 @@ bench: kit engine
 mutants:
 	@$(HOST) mutants
 
-mutants-rattle: kit engine
+mutants-rattle:
 	@$(HOST) mutants-rattle
 
 clean:
