@@ -37,11 +37,11 @@ macro_rules! refusals {
         impl Refusal {
             /// The refusal of a number and a place; none for [`number::OK`].
             pub fn of(number: u32, place: u64) -> Option<Refusal> {
-                match number {
-                    number::OK => None,
-                    $(number::$constant => Some(Refusal::$name $(({ let $place = place; $place }))?),)*
-                    _ => Some(Refusal::Unknown(number, place)),
-                }
+                Some(match number {
+                    number::OK => return None,
+                    $(number::$constant => Refusal::$name $(({ let $place = place; $place }))?,)*
+                    _ => Refusal::Unknown(number, place),
+                })
             }
 
             /// Its number.
