@@ -10,23 +10,26 @@
 --     ahead-of       the rows before the head are below the first row of its day
 --     Begun, begun   a walk may begin there
 --     along-fresh, along-fresh-place, along-ends, along-other    what the code reads of that row
+--     along-stands   what `row_at` asks of that place
+--     stands-ends, row-read     what `row_at` reads and answers
 -- Assumes nothing.
 use Prim.Native.Nat.{ℕ, suc, _+_, _-_, _*_, _≤_, _<_}
 use native.Mathlib.Nat.{le-refl}
 use native.Mathlib.Numerals.{add-one}
 use native.Mathlib.Omega.{arith}
-use mathlib.Core.Path.{_≡_, sym, _∙_, ap, subst}
+use mathlib.Core.Path.{_≡_, refl, sym, _∙_, ap, subst}
 use mathlib.Core.Logic.{_⊎_, ⊎-elim}
 use mathlib.Core.Bool.{Bool, true, false}
 use mathlib.Core.List.{List}
 use lib.ListN.{length, getD}
 use lib.Dec.{leb, eqb}
-use borrow.Author.Tests.{leb-true, leb-false, eqb-true, eqb-false}
+use borrow.Author.Tests.{leb-true, leb-false, eqb-true, eqb-false, le-leb}
 use Rattle.rings.specs.Words.{_and_, at}
 use Rattle.rings.specs.Table.{Table, tableOf, size, dayOf, firstOf, secondOf}
 use Rattle.rings.specs.Ring.{touches}
 use Rattle.rings.specs.Sound.{Sound}
-use Rattle.rings.specs.Inner.Links.{pickOther, otherOf, rank, placeOf, fresh, Pairs, Linked, Ahead}
+use Rattle.rings.specs.Inner.Links.{pickOther, otherOf, rank, placeOf, earlier, fresh, Pairs, Linked, Ahead}
+use Rattle.rings.specs.Inner.Incident.{RowStands, RowRead}
 use Rattle.rings.proofs.WordLaws.{look}
 use Rattle.rings.proofs.RingLaws.{touch-cases}
 use Rattle.rings.proofs.LinkLaws.{rank-yes, rank-mono, rank-less, none-between, NthRow, nth-row, places-most, place-step, entry-below}
@@ -55,6 +58,33 @@ module _ (d f s : List ℕ) (S : Sound d f s) {j : ℕ} (l : j < length d) where
     pub row-other : {v : ℕ} → v ≡ pickOther (eqb a u) a c → v ≡ otherOf (tableOf d f s) j u
     unfolding otherOf firstOf secondOf at
     row-other ev = ev ∙ (ap (λ (y : ℕ). pickOther (eqb y u) y c) ea ∙ ap (λ (y : ℕ). pickOther (eqb (getD f j 0) u) (getD f j 0) y) ec)
+
+-- `row_at`: j is the row that stands at p, a and c are its accounts
+module _ {d f s links : List ℕ} {u p : ℕ} (R : RowStands d f s links u p) {j : ℕ} (ej : j ≡ getD links (8192 + p) 0) where
+  at-below : j < length d
+  at-below = let a = R .row in omega arith
+
+  at-touch : touches (tableOf d f s) j u ≡ true
+  at-touch = subst (λ (i : ℕ). touches (tableOf d f s) i u ≡ true) (sym ej) (R .touch)
+
+  module _ {a c : ℕ} (ea : a ≡ getD f j 0) (ec : c ≡ getD s j 0) where
+    -- what `other` asks
+    pub stands-ends : (a < 4096) × (c < 4096) × ((a ≡ u) ⊎ (c ≡ u))
+    stands-ends = row-ends d f s (R .sound) at-below u at-touch ea ec
+
+    -- v is the account that is not u, e the earlier row
+    pub row-read : (lo : ℕ) {day v e : ℕ} → day ≡ getD d j 0 → v ≡ pickOther (eqb a u) a c → e ≡ getD links (8192 + 2 * length d + j) 0 → RowRead (tableOf d f s) links lo u p (record { row = j; day = day; other = v; leads = leb e lo })
+    unfolding dayOf at fresh _and_
+    row-read lo ed ev ee =
+        record {
+          row = ej;
+          below = at-below;
+          touch = at-touch;
+          day = ed;
+          other = row-other d f s (R .sound) at-below u at-touch ea ec ev;
+          small = row-small d f s (R .sound) at-below u at-touch ea ec ev;
+          leads = λ h. ap (λ (c : ℕ). leb c lo) (ee ∙ R .pairs j at-below) ∙ ap (λ (y : Bool). y and leb (earlier (tableOf d f s) j) lo) (sym (le-leb lo j h));
+        }
 
 pub record Along (t : Table) (u b p : ℕ) : Type 0 where
   pub place : p ≡ placeOf t u + rank t u b
@@ -117,6 +147,18 @@ module _ (d f s links : List ℕ) (S : Sound d f s) {day : ℕ} (L : Linked (tab
         -- the other
         pub along-other : {a c v : ℕ} → a ≡ getD f j 0 → c ≡ getD s j 0 → v ≡ pickOther (eqb a u) a c → v ≡ otherOf t j u
         along-other ea ec ev = row-other d f s S along-row u along-touch ea ec ev
+
+      -- what `row_at` asks of this place
+      pub along-stands : RowStands d f s links u p
+      along-stands =
+          record {
+            sound = S;
+            long = L .long;
+            pairs = L .pairs;
+            place = let a = places-most t (suc u) in omega arith;
+            row = along-row refl;
+            touch = along-touch refl;
+          }
 
 -- the rows of u below b are below lo, and p stands behind them
 pub record Begun (t : Table) (u lo p : ℕ) : Type 0 where

@@ -5,13 +5,14 @@
 --     reading-gap, reading-out   a row of u that is passed over is below lo, or its other account has no time
 --     reading-next               and the walk goes on behind it
 --     reading-fresh, reading-fresh-place, reading-ends, reading-other    what the code reads of that row
+--     shelf-stands, reading-stands    what `row_at` asks of a place
 --     every-rise, covered-rise   times only rise, and rows only leave
 --     linked-shelves, linked-covered     the whole book is such a book, and lacks nothing
 -- Assumes nothing.
 use Prim.Native.Nat.{ℕ, suc, _+_, _-_, _*_, _≤_, _<_}
 use native.Mathlib.Nat.{eq-or-lt-of-le}
 use native.Mathlib.Omega.{arith}
-use mathlib.Core.Path.{_≡_, sym, _∙_, ap, subst}
+use mathlib.Core.Path.{_≡_, refl, sym, _∙_, ap, subst}
 use mathlib.Core.Logic.{_⊎_, ⊎-elim}
 use mathlib.Core.Bool.{Bool, true}
 use mathlib.Core.List.{List}
@@ -24,6 +25,7 @@ use Rattle.rings.specs.Ring.{touches}
 use Rattle.rings.specs.CoreTimes.{never}
 use Rattle.rings.specs.Sound.{Sound}
 use Rattle.rings.specs.Inner.Links.{pickOther, otherOf, rank, placeOf, fresh, Linked, Shelf, Shelves, Stands, Reading, Every, Covered}
+use Rattle.rings.specs.Inner.Incident.{RowStands}
 use Rattle.rings.proofs.WordLaws.{look}
 use Rattle.rings.proofs.AlongLaws.{fresh-reads, fresh-place, row-ends, row-other}
 use Rattle.rings.proofs.LinkLaws.{rank-less, nth-row, places-most, place-step, entry-below}
@@ -55,7 +57,16 @@ module _ (d f s links : List ℕ) (S : Sound d f s) (L : Shelves (tableOf d f s)
   abbrev t : Table
   t = tableOf d f s
 
+  -- what `row_at` asks of a place from the head of u on
+  pub shelf-stands : {p : ℕ} → getD links (4096 + u) 0 ≤ p → p < getD links u 0 → RowStands d f s links u p
+  shelf-stands {p} h k =
+      let K = L .shelf u small in
+      record { sound = S; long = L .long; pairs = L .pairs; place = let a = K .to in omega arith; row = K .row p h k; touch = K .touch p h k }
+
   module _ {b p end : ℕ} (A : Reading links u b p) (ee : end ≡ getD links u 0) where
+    pub reading-stands : p < end → RowStands d f s links u p
+    reading-stands more = shelf-stands (A .from) (omega arith)
+
     -- an entry of u from b on does not stand before p
     stands-after : {i : ℕ} → b ≤ i → (P : Stands links u i) → p ≤ P .place
     stands-after h P = ⊎-elim (λ y. leb-true p (P .place) y) (λ y. let a = A .before (P .place) (P .from) (leb-false p (P .place) y) in let e = P .is in absurd (omega arith)) (look (leb p (P .place)))

@@ -1,7 +1,7 @@
 -- Heads that pass rows, and rows that go from the book (src/shelf.rt).
 --     passing-long, passing-move     what `pass_head` does
 --     Heads, heads-start, heads-asks, heads-mid, heads-next, heads-end     the loop of `pass_heads`
---     Found, Sift, sift-start, sift-place, sift-row, sift-touch, sift-timed, sift-few, sift-next, sift-end     the loop of `trim_account`
+--     Found, Sift, sift-start, sift-place, sift-stands, sift-timed, sift-few, sift-next, sift-end     the loop of `trim_account`
 --     Trimming, trimming-start, trimming-next     the loop of `trim`
 -- Assumes nothing.
 use Prim.Native.Nat.{ℕ, suc, _+_, _*_, _≤_, _<_}
@@ -15,11 +15,13 @@ use lib.ListN.{length, getD, set, length-set}
 use lib.Seq.{getD-set-same, getD-set-other}
 use lib.Dec.{leb, eqb}
 use borrow.Author.Tests.{leb-true, leb-false, ne-eqb}
-use Rattle.rings.specs.Table.{Table, size}
+use Rattle.rings.specs.Table.{Table, tableOf, size}
+use Rattle.rings.specs.Sound.{Sound}
 use Rattle.rings.specs.Ring.{touches}
 use Rattle.rings.specs.CoreTimes.{never}
 use Rattle.rings.specs.Inner.Peeling.{guess}
 use Rattle.rings.specs.Inner.Links.{otherOf, Linked, Shelf, Shelves, Stands, Every, Covered, Passing, Trimmed}
+use Rattle.rings.specs.Inner.Incident.{RowStands}
 use Rattle.rings.proofs.WordLaws.{look, same-or}
 use Rattle.rings.proofs.FallLaws.{guess-at}
 use Rattle.rings.proofs.LinkLaws.{place-step, place-mono}
@@ -225,10 +227,10 @@ module _ {t : Table} {x : ℕ → ℕ} {u : ℕ} {sc₀ : List ℕ} (L : Shelves
     at-p : h ≤ p
     at-p = let a = S .from in let b = S .ordered in omega arith
 
-    pub sift-row : j < size t
+    sift-row : j < size t
     sift-row = let a = K .row p at-p more in let b = was in omega arith
 
-    pub sift-touch : touches t j u ≡ true
+    sift-touch : touches t j u ≡ true
     sift-touch = subst (λ (i : ℕ). touches t i u ≡ true) (sym was) (K .touch p at-p more)
 
     pub sift-place : (8192 + p < length sc) × (8192 + end < length sc)
@@ -266,6 +268,20 @@ module _ {t : Table} {x : ℕ → ℕ} {u : ℕ} {sc₀ : List ℕ} (L : Shelves
 
         mine : (r : ℕ) → r < end + m → (r ≡ end) ⊎ (r < end)
         mine r b = eq-or-lt-of-le (omega arith)
+
+-- what `row_at` asks of the place that comes next
+pub sift-stands : {d f s : List ℕ} {x : ℕ → ℕ} {u : ℕ} {sc₀ : List ℕ} {p end : ℕ} {sc : List ℕ} → Sound d f s → Shelves (tableOf d f s) sc₀ → u < 4096 → Sift (tableOf d f s) x u sc₀ p end sc → p < getD sc₀ u 0
+    → RowStands d f s sc u p
+sift-stands {d} {u = u} S L small T more =
+    let a = L .shelf u small .to in
+    record {
+      sound = S;
+      long = let b = T .long in let c = L .long in omega arith;
+      pairs = λ r l. T .else (8192 + 2 * length d + r) (_⊎_.inr (omega arith)) ∙ L .pairs r l;
+      place = omega arith;
+      row = sift-row L small T more refl;
+      touch = sift-touch L small T more refl;
+    }
 
 -- what the code reads of the other account
 pub sift-timed : (xs : List ℕ) {v w : ℕ} → length xs ≡ 4096 → v < 4096 → v ≡ w → (guess xs w ≡ never → ⊥) → not (eqb (getD xs v 0) 65535) ≡ true

@@ -5,6 +5,8 @@ pub mod checks;
 mod choice;
 mod counts;
 mod frame;
+mod incident;
+mod limits;
 mod links;
 mod look;
 mod loss;

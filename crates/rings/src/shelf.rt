@@ -5,10 +5,13 @@ ghost use lib.ListN.{length, getD};
 ghost use Rattle.rings.specs.Table.{tableOf};
 ghost use Rattle.rings.specs.Sound.{Sound};
 ghost use Rattle.rings.specs.Inner.Peeling.{guess};
-ghost use Rattle.rings.specs.Inner.Links.{Linked, Shelves, Covered, Passing, Trimmed};
+ghost use Rattle.rings.specs.Inner.Links.{Linked, Shelves, Covered, Passing, Trimmable, Trimmed};
 use crate::choice::one;
+use crate::incident::row_at;
+use crate::limits::ACCOUNTS;
+use crate::limits::ADJACENCY;
+use crate::limits::NEVER;
 use crate::links::entry;
-use crate::links::other;
 use crate::links::put;
 use crate::links::wide;
 
@@ -59,20 +62,19 @@ fn trim_account(
     times: &[u16],
     u: usize,
 )
-    requires { ⌜ Sound (now days) (now first) (now second) ⌝ }
-    requires { ⌜ Shelves (tableOf (now days) (now first) (now second)) (now scratch) × (length (now times) ≡ 4096) × (u < 4096) ⌝ }
-    ensures { λ _. ⌜ Trimmed (tableOf (now (days .entry)) (now (first .entry)) (now (second .entry))) (guess (now (times .entry))) u (now (scratch .entry)) (now (scratch .exit)) ⌝ }
+    requires { ⌜ Trimmable (now days) (now first) (now second) (now scratch) (now times) u ⌝ }
+    ensures { λ _. ⌜ (
+        let t = tableOf (now (days .entry)) (now (first .entry)) (now (second .entry)) in
+        Trimmed t (guess (now (times .entry))) u (now (scratch .entry)) (now (scratch .exit))) ⌝ }
 {
     let last = entry(scratch, u);
-    let mut p = entry(scratch, 4096 + u);
+    let mut p = entry(scratch, ACCOUNTS + u);
     let mut end = p;
     while p < last {
-        let j = entry(scratch, 8192 + p);
-        let a = entry(first, j);
-        let b = entry(second, j);
-        let v = other(a, b, u);
-        let timed = times[v] != 65535;
-        put(scratch, 8192 + end, j);
+        let here = row_at(days, first, second, scratch, 0, u, p);
+        let v = here.other;
+        let timed = times[v] != NEVER;
+        put(scratch, ADJACENCY + end, here.row);
         end += wide(one(timed));
         p += 1;
     }

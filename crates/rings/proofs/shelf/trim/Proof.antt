@@ -58,7 +58,7 @@ trim-account-requires c κs =
     let loop-test = c .before .before .before .loop-test in
     let loop = c .before .before .before .before .loop in
     let pre = c .before .before .before .before .before .before .before .before .before .before .pre in
-    (pre .0, (loop .inv .1 .shelves, pre .1 .1, loop-test .taken))
+    record { sound = pre .0; shelves = loop .inv .1 .shelves; times = pre .1 .1; account = loop-test .taken }
 
 -- src/shelf.rt:95:9
 add-u-2 : tie.Need-add-u-2 Inv-loop μ-loop

@@ -1,0 +1,45 @@
+// One step of a walk over the rows of an account, for every loop that makes such a walk: what stands at a place of the adjacency.
+ghost use Rattle.rings.specs.Table.{tableOf};
+ghost use Rattle.rings.specs.Inner.Incident.{RowStands, RowRead};
+use crate::limits::ADJACENCY;
+use crate::links::entry;
+use crate::links::other;
+
+// A row as a walk over the rows of one of its accounts meets it: the row, its day, its other account,
+// and, for a row at lo or later, whether it is the first of its pair from lo on, so that it brings a new neighbour.
+pub struct Incident {
+    pub row: usize,
+    pub day: u16,
+    pub other: usize,
+    pub leads: bool,
+}
+
+// The row of u that stands at place p of the adjacency. It is inlined: a loop that uses some of the fields reads no more than these.
+pub(crate) fn row_at(
+    days: &[u16],
+    first: &[u16],
+    second: &[u16],
+    links: &[u16],
+    lo: usize,
+    u: usize,
+    p: usize,
+) -> Incident
+    requires { ⌜ RowStands (now days) (now first) (now second) (now links) u p ⌝ }
+    ensures { λ r. ⌜ (
+        let t = tableOf (now (days .entry)) (now (first .entry)) (now (second .entry)) in
+        RowRead t (now (links .entry)) lo u p r) ⌝ }
+{
+    let n = days.len();
+    let row = entry(links, ADJACENCY + p);
+    let day = days[row];
+    let a = entry(first, row);
+    let b = entry(second, row);
+    let v = other(a, b, u);
+    let earlier = entry(links, ADJACENCY + 2 * n + row);
+    Incident {
+        row: row,
+        day: day,
+        other: v,
+        leads: earlier <= lo,
+    }
+}
