@@ -23,22 +23,22 @@ use mathlib.Core.Bool.{Bool, true, false}
 use mathlib.Core.List.{List}
 use lib.ListN.{length, getD}
 use lib.Dec.{leb, eqb}
-use borrow.Author.Tests.{leb-true, leb-false, eqb-true, eqb-false, le-leb}
+use borrow.Author.Tests.{leb-true, leb-false, eqb-true, eqb-false}
 use Rattle.rings.specs.Words.{_and_, at}
 use Rattle.rings.specs.Table.{Table, tableOf, size, dayOf, firstOf, secondOf}
 use Rattle.rings.specs.Ring.{touches}
 use Rattle.rings.specs.Sound.{Sound}
-use Rattle.rings.specs.Inner.Links.{pickOther, otherOf, rank, placeOf, earlier, fresh, Pairs, Linked, Ahead}
+use Rattle.rings.specs.Inner.Links.{pickOther, otherOf, rank, placeOf, fresh, Pairs, Linked, Ahead}
 use Rattle.rings.specs.Inner.Incident.{RowStands, RowRead}
 use Rattle.rings.proofs.WordLaws.{look}
 use Rattle.rings.proofs.RingLaws.{touch-cases}
+use Rattle.rings.proofs.LeadLaws.{fresh-test, fresh-alone}
 use Rattle.rings.proofs.LinkLaws.{rank-yes, rank-mono, rank-less, none-between, NthRow, nth-row, places-most, place-step, entry-below}
 
 -- row j, as the code reads it
 module _ (d f s : List ℕ) (S : Sound d f s) {j : ℕ} (l : j < length d) where
   pub fresh-reads : (lo : ℕ) (links : List ℕ) {y : Bool} → Pairs (tableOf d f s) links → y ≡ (leb lo j and leb (getD links (8192 + 2 * length d + j) 0) lo) → y ≡ fresh (tableOf d f s) lo j
-  unfolding fresh
-  fresh-reads lo links P h = h ∙ ap (λ (c : ℕ). leb lo j and leb c lo) (P j l)
+  fresh-reads lo links P h = fresh-test (tableOf d f s) lo j (P j l) h
 
   pub fresh-place : (links : List ℕ) → 8192 + 4 * length d ≤ length links → (length d ≤ 16384) × (j < length d) × (8192 + 2 * length d + j < length links)
   fresh-place links long = (S .most, l, omega arith)
@@ -74,7 +74,7 @@ module _ {d f s links : List ℕ} {u p : ℕ} (R : RowStands d f s links u p) {j
 
     -- v is the account that is not u, e the earlier row
     pub row-read : (lo : ℕ) {day v e : ℕ} → day ≡ getD d j 0 → v ≡ pickOther (eqb a u) a c → e ≡ getD links (8192 + 2 * length d + j) 0 → RowRead (tableOf d f s) links lo u p (record { row = j; day = day; other = v; leads = leb e lo })
-    unfolding dayOf at fresh _and_
+    unfolding dayOf at
     row-read lo ed ev ee =
         record {
           row = ej;
@@ -83,7 +83,7 @@ module _ {d f s links : List ℕ} {u p : ℕ} (R : RowStands d f s links u p) {j
           day = ed;
           other = row-other d f s (R .sound) at-below u at-touch ea ec ev;
           small = row-small d f s (R .sound) at-below u at-touch ea ec ev;
-          leads = λ h. ap (λ (c : ℕ). leb c lo) (ee ∙ R .pairs j at-below) ∙ ap (λ (y : Bool). y and leb (earlier (tableOf d f s) j) lo) (sym (le-leb lo j h));
+          leads = λ h. fresh-alone (tableOf d f s) lo j h (ee ∙ R .pairs j at-below);
         }
 
 pub record Along (t : Table) (u b p : ℕ) : Type 0 where

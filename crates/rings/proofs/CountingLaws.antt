@@ -19,37 +19,40 @@ use mathlib.Core.List.{List}
 use lib.ListN.{length, getD, set, replicate, length-set, length-replicate, getD-replicate}
 use lib.Seq.{getD-set-same, getD-set-other, set-getD}
 use lib.Dec.{leb, eqb}
-use borrow.Author.Tests.{eq-eqb, ne-eqb, leb-true, leb-false, le-leb}
-use Rattle.rings.specs.Words.{_and_, count}
-use Rattle.rings.specs.Table.{Table, tableOf, dayOf, firstOf, secondOf, inWindow}
+use borrow.Author.Tests.{eq-eqb, ne-eqb, leb-true, leb-false}
+use Rattle.rings.specs.Words.{count}
+use Rattle.rings.specs.Table.{Table, tableOf, dayOf, firstOf, secondOf}
 use Rattle.rings.specs.CoreTimes.{never, accountTime, rowTime}
 use Rattle.rings.specs.Ring.{query}
+use Rattle.rings.specs.Inner.Links.{openDay, opensBy}
 use Rattle.rings.specs.Inner.Peeling.{Setting, season, guess, CoreTimesAre}
 use Rattle.rings.specs.Inner.Counting.{timeBy, IsTime, Histogram, WhereCounted, owed, Owing, Adding, Removing, Taking, Moving}
-use Rattle.rings.proofs.WordLaws.{look, and-i, and-l, and-r, tally-yes, tally-no, count-le, count-mono, count-same, count-none, count-pos, same-or}
+use Rattle.rings.proofs.WordLaws.{look, tally-yes, tally-no, count-le, count-mono, count-same, count-none, count-pos, same-or}
 use Rattle.rings.specs.declared.Query.{Query}
 use Rattle.rings.proofs.PairLaws.{count-drop}
-use Rattle.rings.proofs.CoreTimeLaws.{row-time, row-max, row-before, row-after}
+use Rattle.rings.proofs.LeadLaws.{Opens, open-own, open-day, day-opens, opens-e, opens-i, opens-not}
+use Rattle.rings.proofs.CoreTimeLaws.{row-time, row-max, row-shut}
 use Rattle.rings.proofs.FallLaws.{guess-at}
 
 -- ---- the time of a row by those of its accounts
 
 module _ (t : Table) (x : ℕ → ℕ) (s hi j : ℕ) where
-  pub by-in : s ≤ dayOf t j → dayOf t j ≤ hi → timeBy t x s hi j ≡ max (max (x (firstOf t j)) (x (secondOf t j))) (dayOf t j)
-  unfolding timeBy inWindow
-  by-in a b = ap (λ (c : Bool). elim c [ true ↦ max (max (x (firstOf t j)) (x (secondOf t j))) (dayOf t j) | false ↦ never ]) (and-i (le-leb s (dayOf t j) a) (le-leb (dayOf t j) hi b))
+  pub by-in : Opens t s hi j → timeBy t x s hi j ≡ max (max (x (firstOf t j)) (x (secondOf t j))) (openDay t s j)
+  unfolding timeBy
+  by-in o = ap (λ (c : Bool). elim c [ true ↦ max (max (x (firstOf t j)) (x (secondOf t j))) (openDay t s j) | false ↦ never ]) (opens-i t s hi j o)
+
+  by-shut : opensBy t s hi j ≡ false → timeBy t x s hi j ≡ never
+  unfolding timeBy
+  by-shut h = ap (λ (c : Bool). elim c [ true ↦ max (max (x (firstOf t j)) (x (secondOf t j))) (openDay t s j) | false ↦ never ]) h
 
   pub by-out : (dayOf t j < s) ⊎ (hi < dayOf t j) → timeBy t x s hi j ≡ never
-  unfolding timeBy inWindow
   by-out o =
-      ⊎-elim (λ y. ⊎-elim (λ h. let a = leb-true s (dayOf t j) (and-l (leb s (dayOf t j)) (leb (dayOf t j) hi) y) in absurd (omega arith)) (λ h. let a = leb-true (dayOf t j) hi (and-r (leb s (dayOf t j)) (leb (dayOf t j) hi) y) in absurd (omega arith)) o)
-      (λ y. ap (λ (c : Bool). elim c [ true ↦ max (max (x (firstOf t j)) (x (secondOf t j))) (dayOf t j) | false ↦ never ]) y) (look (leb s (dayOf t j) and leb (dayOf t j) hi))
+      ⊎-elim (λ y. let w = opens-e t s hi j y in let a = w .from in let b = w .to in let c = open-own t s j in ⊎-elim (λ h. absurd (omega arith)) (λ h. absurd (omega arith)) o) by-shut (look (opensBy t s hi j))
 
 -- where the times of the accounts are core times, so are those of the rows
 pub by-core : (d f g : List ℕ) (k s te lo : ℕ) → Setting (tableOf d f g) (query k) s te lo → {xs : List ℕ} → CoreTimesAre d f g (season k s te lo) xs → (j : ℕ) → j < length d → timeBy (tableOf d f g) (guess xs) s te j ≡ rowTime (tableOf d f g) (query k) te s j
 by-core d f g k s te lo S {xs} C j l =
-    ⊎-elim (λ y. ⊎-elim (λ z. inside (leb-true s (dayOf t j) y) (leb-true (dayOf t j) te z)) (λ z. let h = leb-false (dayOf t j) te z in by-out t (guess xs) s te j (_⊎_.inr h) ∙ sym (row-after t (query k) te s j h)) (look (leb (dayOf t j) te)))
-    (λ y. let h = leb-false s (dayOf t j) y in by-out t (guess xs) s te j (_⊎_.inl h) ∙ sym (row-before t (query k) te s j h)) (look (leb s (dayOf t j)))
+    ⊎-elim (λ y. inside (opens-e t s te j y)) (λ y. by-shut t (guess xs) s te j y ∙ sym (row-shut t (query k) te s j (opens-not t s te j y))) (look (opensBy t s te j))
   where
     t : Table
     t = tableOf d f g
@@ -57,16 +60,20 @@ by-core d f g k s te lo S {xs} C j l =
     at : (u : ℕ) → u < 4096 → guess xs u ≡ accountTime t (query k) te s u
     at u h = guess-at xs u (C .long) h ∙ C .times u h
 
-    inside : s ≤ dayOf t j → dayOf t j ≤ te → timeBy t (guess xs) s te j ≡ rowTime t (query k) te s j
-    inside a b =
+    inside : Opens t s te j → timeBy t (guess xs) s te j ≡ rowTime t (query k) te s j
+    inside o =
         let x = S .accounts j l in let y = S .small j l in
         let m = at (firstOf t j) (omega arith) in let n = at (secondOf t j) y in
-        by-in t (guess xs) s te j a b ∙ ((let e : max (max (guess xs (firstOf t j)) (guess xs (secondOf t j))) (dayOf t j) ≡ max (max (accountTime t (query k) te s (firstOf t j)) (accountTime t (query k) te s (secondOf t j))) (dayOf t j) = omega arith in e) ∙ sym (row-max t (query k) te s (S .fits) j (record { row = l; from = a; to = b })))
+        by-in t (guess xs) s te j o ∙ ((let e : max (max (guess xs (firstOf t j)) (guess xs (secondOf t j))) (openDay t s j) ≡ max (max (accountTime t (query k) te s (firstOf t j)) (accountTime t (query k) te s (secondOf t j))) (openDay t s j) = omega arith in e) ∙ sym (row-max t (query k) te s (S .fits) j l o))
 
 -- the day on which the window begins matters only to rows before it
 pub by-later : (t : Table) (x : ℕ → ℕ) (s hi j : ℕ) → s + 1 ≤ dayOf t j → timeBy t x (s + 1) hi j ≡ timeBy t x s hi j
 by-later t x s hi j h =
-    ⊎-elim (λ y. let a = leb-true (dayOf t j) hi y in by-in t x (s + 1) hi j h a ∙ sym (by-in t x s hi j (omega arith) a)) (λ y. let a = leb-false (dayOf t j) hi y in by-out t x (s + 1) hi j (_⊎_.inr a) ∙ sym (by-out t x s hi j (_⊎_.inr a))) (look (leb (dayOf t j) hi))
+    ⊎-elim (λ y.
+    let a = leb-true (dayOf t j) hi y in
+    let m = by-in t x (s + 1) hi j (day-opens t (s + 1) hi j h a) in
+    let n = by-in t x s hi j (day-opens t s hi j (omega arith) a) in
+    let b = open-day t (s + 1) j in let c = open-day t s j in omega arith) (λ y. let a = leb-false (dayOf t j) hi y in by-out t x (s + 1) hi j (_⊎_.inr a) ∙ sym (by-out t x s hi j (_⊎_.inr a))) (look (leb (dayOf t j) hi))
 
 pub is-time : (t : Table) (q : Query) (hi s j : ℕ) → hi ≤ 1024 → {x : ℕ} → x ≡ rowTime t q hi s j → IsTime x
 is-time t q hi s j top {x} e = ⊎-elim (λ y. _⊎_.inr (e ∙ y)) (λ y. let h = y .1 in _⊎_.inl (omega arith)) (row-time t q hi s j)

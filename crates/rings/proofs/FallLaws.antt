@@ -22,9 +22,10 @@ use Rattle.rings.specs.Inner.Support.{supports, supporters}
 use Rattle.rings.specs.Inner.Peeling.{Lost, Setting, Fell, Here, Rows, Place, fallen, Queue, guess, Times, Fall, nothing, passing, Walk}
 use Rattle.rings.specs.declared.Query.{Query}
 use Rattle.rings.proofs.WordLaws.{look, clash, and-i, and-l, and-r, or-l, or-r, or-e, no-i, no-e, same-truth, count-mono, count-less, count-same, count-le, count-none, same-or}
-use Rattle.rings.proofs.RingLaws.{window-e, joins-touch, touch-cases, touch-first, touch-second, met-i, met-e, neighbour-e, ring-within, ring-degree}
+use Rattle.rings.proofs.RingLaws.{joins-touch, touch-cases, touch-first, touch-second, met-i, met-e, neighbour-e, ring-degree, in-marked}
 use Rattle.rings.proofs.OthersLaws.{touch-named}
-use Rattle.rings.proofs.PairLaws.{Partner, count-inject, count-drop, other-first, other-second, joins-other, joins-same, joins-swap, joins-ends, fresh-e, fresh-one, first-fresh}
+use Rattle.rings.proofs.PairLaws.{Partner, count-inject, count-drop, other-first, other-second, joins-other, joins-same, joins-swap, joins-ends}
+use Rattle.rings.proofs.LeadLaws.{fresh-from, fresh-one, ring-opens, lead-opens, open-lead}
 use Rattle.rings.proofs.FixpointLaws.{supports-i, supports-e, Lower, Closed, fixpoint, closed-met}
 
 -- ---- one store
@@ -73,7 +74,7 @@ supporters-mono : (t : Table) (x x′ : ℕ → ℕ) (s c u : ℕ) → ((w : ℕ
 unfolding supporters
 supporters-mono t x x′ s c u f =
     count-mono (supports t x s c u) (supports t x′ s c u) (names t)
-    (λ v l h. let b = supports-e t x s c u v h in supports-i t x′ s c u v (record { row = b .row; below = b .below; join = b .join; from = b .from; to = b .to; other = f v (b .other) }))
+    (λ v l h. let b = supports-e t x s c u v h in supports-i t x′ s c u v (record { row = b .row; below = b .below; join = b .join; opens = b .opens; other = f v (b .other) }))
 
 -- of the pairs of row and account one more has been passed
 pub record Pass (passed passed′ : ℕ → ℕ → Bool) (j v : ℕ) : Type 0 where
@@ -163,15 +164,12 @@ module _ (t : Table) (q : Query) (s hi lo : ℕ) (S : Setting t q s hi lo) where
     ring-live v c l a b m w n =
         let y = neighbour-e t (ring t q s c) v w n in
         let i = y .row in
-        let win = window-e t s c i (ring-within t q s c .all i (y .has)) in
         let w-met = met-i t (ring t q s c) i w (y .below) (y .has) (joins-touch t i v w (y .join) .1) in
         let w-small = touch-small i w (y .below) (joins-touch t i v w (y .join) .1) in
-        let from : lo ≤ i = after i (y .below) (win .from) in
-        let f = first-fresh t lo i v w from (y .join) in
+        let f = open-lead t q s hi lo S i v w c (y .below) (y .join) (ring-opens t q s c i (in-marked t q s c i (y .has))) in
         let j = f .row in
-        let le = f .at-most in
-        let below : j < size t = le-trans (native.Mathlib.Nat.suc-le-suc-iff .1 le) (y .below) in
-        let day : dayOf t j ≤ c = le-trans (S .rising j i le (y .below)) (win .to) in
+        let below = f .below in
+        let day = f .by in
         let other : otherOf t j v ≡ w = other-joins j v w below (f .join) in
         record {
           it = j;
@@ -182,9 +180,6 @@ module _ (t : Table) (q : Query) (s hi lo : ℕ) (S : Setting t q s hi lo) where
               (not-passed j v w below day other w-met w-small);
         }
       where
-        after : (i : ℕ) → i < size t → s ≤ dayOf t i → lo ≤ i
-        after i k h = ⊎-elim (λ y. leb-true lo i y) (λ y. let z = S .before-lo i (leb-false lo i y) in absurd (omega arith)) (look (leb lo i))
-
         not-left : (j : ℕ) → j < size t → dayOf t j ≤ c → j < r
         not-left j k d = ⊎-elim (λ y. ⊎-elim (λ z. absurd (omega arith)) (λ z. absurd (omega arith)) (lw j (leb-true r j y) k)) (λ y. leb-false r j y) (look (leb r j))
 
@@ -758,7 +753,7 @@ module _ (t : Table) (q : Query) (s hi lo : ℕ) (S : Setting t q s hi lo) where
             it = v;
             below = touch-named t j v (joins-touch t j u v jn .1);
             to = (h, jn);
-            has = supports-i t (guess x) s c u v (record { row = j; below = l; join = jn; from = S .from-lo j l (fresh-e t lo j (here .is-fresh) .from); to = days j (here .before) l; other = let g : guess x v ≡ getD x v 0 = guess-at x v (F .len-x) small in omega arith });
+            has = supports-i t (guess x) s c u v (record { row = j; below = l; join = jn; opens = lead-opens t q s hi lo S j c l (here .is-fresh) (days j (here .before) l); other = let g : guess x v ≡ getD x v 0 = guess-at x v (F .len-x) small in omega arith });
           }
 
   -- the rows from j on have left; the next is dated e'
@@ -794,7 +789,7 @@ module _ (t : Table) (q : Query) (s hi lo : ℕ) (S : Setting t q s hi lo) where
   all-fell {e} {head} {x} {d} F u k z =
       let a : q .k ≤ getD d u 0 = F .counts .enough u k k z in
       let b : getD d u 0 ≡ count (λ j. F .live j u) (size t) = F .counts .degrees u k z in
-      let n : count (λ j. F .live j u) (size t) ≡ 0 = count-none (λ j. F .live j u) (size t) (λ j l. ⊎-elim (λ h. let y = F .rows .live-row j u h in let p = y .before in let g = fresh-e t lo j (y .is-fresh) .from in absurd (omega arith)) (λ h. h) (look (F .live j u))) in
+      let n : count (λ j. F .live j u) (size t) ≡ 0 = count-none (λ j. F .live j u) (size t) (λ j l. ⊎-elim (λ h. let y = F .rows .live-row j u h in let p = y .before in let g = fresh-from t lo j (y .is-fresh) in absurd (omega arith)) (λ h. h) (look (F .live j u))) in
       let o = S .some-k in omega arith
 
   pub fall-times : {e head : ℕ} {x d w : List ℕ} (F : Fall t q s hi lo 4096 e lo head head nothing x d w) (u : ℕ) → u < 4096 → getD x u 0 ≡ accountTime t q hi s u

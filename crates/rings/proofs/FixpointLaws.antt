@@ -16,13 +16,15 @@ use mathlib.Core.List.{List}
 use lib.Dec.{leb}
 use borrow.Author.Tests.{leb-true, le-leb}
 use Rattle.rings.specs.Words.{_and_, _or_, marked, run}
-use Rattle.rings.specs.Table.{Table, size, dayOf, firstOf, secondOf, windowRows}
+use Rattle.rings.specs.Table.{Table, size, firstOf, secondOf, windowRows}
 use Rattle.rings.specs.Ring.{joins, neighbour, names, degree, met, Good, Within, ring}
 use Rattle.rings.specs.CoreTimes.{never, accountTime}
+use Rattle.rings.specs.Inner.Links.{opensBy}
 use Rattle.rings.specs.Inner.Support.{backs, supports, supporters}
 use Rattle.rings.specs.declared.Query.{Query}
 use Rattle.rings.proofs.WordLaws.{and-i, and-l, and-r, some-i, some-e, count-mono, count-some, marked-run-e, marked-run-i}
-use Rattle.rings.proofs.RingLaws.{window-e, window-i, touch-cases, joins-cases, joins-touch, met-i, met-e, met-mono, neighbour-i, neighbour-e, ring-within, ring-degree, ring-holds, ring-grows}
+use Rattle.rings.proofs.RingLaws.{window-i, touch-cases, joins-cases, joins-touch, met-i, met-e, met-mono, neighbour-i, neighbour-e, ring-degree, ring-holds, ring-grows, in-marked}
+use Rattle.rings.proofs.LeadLaws.{Opens, opens-e, opens-i, ring-opens, open-own}
 use Rattle.rings.proofs.CoreTimeLaws.{Time, account-time, account-reach-i, account-reach-e, time-day}
 
 pub record Lower (t : Table) (q : Query) (hi s : ℕ) (x : ℕ → ℕ) : Type 0 where
@@ -36,8 +38,7 @@ pub record Backs (t : Table) (x : ℕ → ℕ) (s c u v : ℕ) : Type 0 where
   pub row : ℕ
   pub below : row < size t
   pub join : joins t row u v ≡ true
-  pub from : s ≤ dayOf t row
-  pub to : dayOf t row ≤ c
+  pub opens : Opens t s c row
   pub other : x v ≤ c
 
 pub supports-e : (t : Table) (x : ℕ → ℕ) (s c u v : ℕ) → supports t x s c u v ≡ true → Backs t x s c u v
@@ -45,22 +46,20 @@ unfolding supports backs
 supports-e t x s c u v h =
     let w = some-e (backs t x s c u v) (size t) h in
     let j = w .it in
-    let r = and-r (joins t j u v) (leb s (dayOf t j) and leb (dayOf t j) c and leb (x v) c) (w .has) in
-    let r′ = and-r (leb s (dayOf t j)) (leb (dayOf t j) c and leb (x v) c) r in
+    let r = and-r (joins t j u v) (opensBy t s c j and leb (x v) c) (w .has) in
     record {
       row = j;
       below = w .below;
-      join = and-l (joins t j u v) (leb s (dayOf t j) and leb (dayOf t j) c and leb (x v) c) (w .has);
-      from = leb-true s (dayOf t j) (and-l (leb s (dayOf t j)) (leb (dayOf t j) c and leb (x v) c) r);
-      to = leb-true (dayOf t j) c (and-l (leb (dayOf t j) c) (leb (x v) c) r′);
-      other = leb-true (x v) c (and-r (leb (dayOf t j) c) (leb (x v) c) r′);
+      join = and-l (joins t j u v) (opensBy t s c j and leb (x v) c) (w .has);
+      opens = opens-e t s c j (and-l (opensBy t s c j) (leb (x v) c) r);
+      other = leb-true (x v) c (and-r (opensBy t s c j) (leb (x v) c) r);
     }
 
 pub supports-i : (t : Table) (x : ℕ → ℕ) (s c u v : ℕ) → Backs t x s c u v → supports t x s c u v ≡ true
 unfolding supports backs
 supports-i t x s c u v b =
     some-i (backs t x s c u v) (size t) (b .row) (b .below)
-    (and-i (b .join) (and-i (le-leb s (dayOf t (b .row)) (b .from)) (and-i (le-leb (dayOf t (b .row)) c (b .to)) (le-leb (x v) c (b .other)))))
+    (and-i (b .join) (and-i (opens-i t s c (b .row) (b .opens)) (le-leb (x v) c (b .other))))
 
 module _ (t : Table) (q : Query) (hi s : ℕ) (x : ℕ → ℕ) where
   -- (A)
@@ -71,13 +70,11 @@ module _ (t : Table) (q : Query) (hi s : ℕ) (x : ℕ → ℕ) where
       (count-mono (neighbour t (ring t q s c) u) (supports t x s c u) (names t)
       (λ v o n.
       let y = neighbour-e t (ring t q s c) u v n in
-      let w = window-e t s c (y .row) (ring-within t q s c .all (y .row) (y .has)) in
       supports-i t x s c u v (record {
         row = y .row;
         below = y .below;
         join = y .join;
-        from = w .from;
-        to = w .to;
+        opens = ring-opens t q s c (y .row) (in-marked t q s c (y .row) (y .has));
         other = low .under v c l h (met-i t (ring t q s c) (y .row) v (y .below) (y .has) (joins-touch t (y .row) u v (y .join) .1));
       })))
 
@@ -86,30 +83,27 @@ module _ (t : Table) (q : Query) (hi s : ℕ) (x : ℕ → ℕ) where
     closed-enough : (u : ℕ) → x u ≤ hi → q .k ≤ supporters t x s (x u) u
     closed-enough u h = ⊎-elim (λ n. absurd (omega arith)) (λ e. e) (closed u .enough-or-never)
 
-    -- the payments from s to c between accounts whose x is at most c
+    -- the payments that open by c, between accounts whose x is at most c
     held : ℕ → ℕ → Bool
-    held c j = leb s (dayOf t j) and leb (dayOf t j) c and leb (x (firstOf t j)) c and leb (x (secondOf t j)) c
+    held c j = opensBy t s c j and leb (x (firstOf t j)) c and leb (x (secondOf t j)) c
 
     record Held (c j : ℕ) : Type 0 where
-      from : s ≤ dayOf t j
-      to : dayOf t j ≤ c
+      opens : Opens t s c j
       one : x (firstOf t j) ≤ c
       two : x (secondOf t j) ≤ c
 
     held-e : (c j : ℕ) → held c j ≡ true → Held c j
     unfolding held
     held-e c j h =
-        let f = leb s (dayOf t j) in
-        let d = leb (dayOf t j) c in
+        let d = opensBy t s c j in
         let a = leb (x (firstOf t j)) c in
         let b = leb (x (secondOf t j)) c in
-        let r = and-r f (d and a and b) h in
-        let r′ = and-r d (a and b) r in
-        record { from = leb-true s (dayOf t j) (and-l f (d and a and b) h); to = leb-true (dayOf t j) c (and-l d (a and b) r); one = leb-true (x (firstOf t j)) c (and-l a b r′); two = leb-true (x (secondOf t j)) c (and-r a b r′) }
+        let r = and-r d (a and b) h in
+        record { opens = opens-e t s c j (and-l d (a and b) h); one = leb-true (x (firstOf t j)) c (and-l a b r); two = leb-true (x (secondOf t j)) c (and-r a b r) }
 
     held-i : (c j : ℕ) → Held c j → held c j ≡ true
     unfolding held
-    held-i c j h = and-i (le-leb s (dayOf t j) (h .from)) (and-i (le-leb (dayOf t j) c (h .to)) (and-i (le-leb (x (firstOf t j)) c (h .one)) (le-leb (x (secondOf t j)) c (h .two))))
+    held-i c j h = and-i (opens-i t s c j (h .opens)) (and-i (le-leb (x (firstOf t j)) c (h .one)) (le-leb (x (secondOf t j)) c (h .two)))
 
     core : ℕ → List Bool
     core c = run (held c) 0 (size t)
@@ -119,11 +113,12 @@ module _ (t : Table) (q : Query) (hi s : ℕ) (x : ℕ → ℕ) where
     unfolding core
     core-row c u v l b =
         let p = b .other in
-        let d = b .to in
+        let d = b .opens .to in
+        let o : Opens t s c (b .row) = record { from = b .opens .from; to = omega arith } in
         marked-run-i (held c) (size t) (b .row) (b .below)
         (held-i c (b .row)
-        (⊎-elim (λ e. record { from = b .from; to = omega arith; one = subst (λ (a : ℕ). x a ≤ c) (sym (e .0)) l; two = subst (λ (a : ℕ). x a ≤ c) (sym (e .1)) (omega arith) })
-        (λ e. record { from = b .from; to = omega arith; one = subst (λ (a : ℕ). x a ≤ c) (sym (e .0)) (omega arith); two = subst (λ (a : ℕ). x a ≤ c) (sym (e .1)) l }) (joins-cases t (b .row) u v (b .join))))
+        (⊎-elim (λ e. record { opens = o; one = subst (λ (a : ℕ). x a ≤ c) (sym (e .0)) l; two = subst (λ (a : ℕ). x a ≤ c) (sym (e .1)) (omega arith) })
+        (λ e. record { opens = o; one = subst (λ (a : ℕ). x a ≤ c) (sym (e .0)) (omega arith); two = subst (λ (a : ℕ). x a ≤ c) (sym (e .1)) l }) (joins-cases t (b .row) u v (b .join))))
 
     core-degree : (c u : ℕ) → c ≤ hi → x u ≤ c → q .k ≤ degree t (core c) u
     unfolding supporters degree
@@ -135,7 +130,7 @@ module _ (t : Table) (q : Query) (hi s : ℕ) (x : ℕ → ℕ) where
     core-within : (c : ℕ) → Within (core c) (windowRows t s c)
     unfolding core
     core-within c =
-        record { all = λ j h. let w = marked-run-e (held c) (size t) j h in let y = held-e c j (w .1) in window-i t s c j (record { row = w .0; from = y .from; to = y .to }) }
+        record { all = λ j h. let w = marked-run-e (held c) (size t) j h in let y = held-e c j (w .1) in window-i t s c j (record { row = w .0; from = y .opens .from; to = le-trans (open-own t s j) (y .opens .to) }) }
 
     core-good : (c : ℕ) → c ≤ hi → Good t q (core c)
     unfolding core
@@ -162,7 +157,7 @@ module _ (t : Table) (q : Query) (hi s : ℕ) (x : ℕ → ℕ) where
     closed-from k u h =
         let w = count-some (supports t x s (x u) u) (names t) (le-trans k (closed-enough u h)) in
         let b = supports-e t x s (x u) u (w .it) (w .has) in
-        le-trans (b .from) (b .to)
+        le-trans (b .opens .from) (le-trans (open-own t s (b .row)) (b .opens .to))
 
     -- lower and closed everywhere: the core times
     pub fixpoint : 1 ≤ q .k → ((u : ℕ) → (x u ≤ hi) ⊎ (x u ≡ never)) → Lower t q hi s x → (u : ℕ) → x u ≡ accountTime t q hi s u

@@ -21,13 +21,14 @@ use Rattle.rings.specs.Words.{_and_, at, count}
 use Rattle.rings.specs.Table.{Table, tableOf, size, dayOf}
 use Rattle.rings.specs.Ring.{touches, query}
 use Rattle.rings.specs.CoreTimes.{never}
-use Rattle.rings.specs.Inner.Links.{pickOther, otherOf, fresh, Reading, Every}
+use Rattle.rings.specs.Inner.Links.{pickOther, otherOf, pairCounts, fresh, Reading, Every}
 use Rattle.rings.specs.Inner.Peeling.{Setting, Open, Place, guess}
 use Rattle.rings.specs.declared.frame.Frame.{Frame}
 use Rattle.rings.specs.Inner.Settling.{value, moving, Days, Seen, Noting, Behind, Gathered, Losing, Fewer, Lessened, Queued}
 use Rattle.rings.specs.declared.Query.{Query}
 use Rattle.rings.proofs.WordLaws.{look, and-i, and-l, and-r, count-le, count-none, tally-yes, tally-no, same-or}
-use Rattle.rings.proofs.PairLaws.{other-apart, fresh-e}
+use Rattle.rings.proofs.PairLaws.{other-apart}
+use Rattle.rings.proofs.LeadLaws.{counts-from, counts-here, fresh-counts, fresh-from}
 use Rattle.rings.proofs.FallLaws.{guess-at, other-small}
 use Rattle.rings.proofs.ShelfLaws.{reading-out, reading-row, reading-touch, reading-from, reading-gap, reading-next, reading-fresh, reading-other}
 use Rattle.rings.proofs.CountingLaws.{count-past}
@@ -45,19 +46,19 @@ noting-above (Noting.farther h k en ea em) = (omega arith, _⊎_.inr (omega arit
 
 module _ (t : Table) (x : ℕ → ℕ) (lo hi : ℕ) where
   pub record Moved (c u j : ℕ) : Type 0 where
-    pub from : lo ≤ j
+    pub counts : pairCounts t lo j ≡ true
     pub touch : touches t j u ≡ true
     pub by : value t x j u ≤ c
 
   pub moving-e : (c u j : ℕ) → moving t x lo c u j ≡ true → Moved c u j
   unfolding moving
   moving-e c u j h =
-      let b = and-r (leb lo j) (touches t j u and leb (value t x j u) c) h in
-      record { from = leb-true lo j (and-l (leb lo j) (touches t j u and leb (value t x j u) c) h); touch = and-l (touches t j u) (leb (value t x j u) c) b; by = leb-true (value t x j u) c (and-r (touches t j u) (leb (value t x j u) c) b) }
+      let b = and-r (pairCounts t lo j) (touches t j u and leb (value t x j u) c) h in
+      record { counts = and-l (pairCounts t lo j) (touches t j u and leb (value t x j u) c) h; touch = and-l (touches t j u) (leb (value t x j u) c) b; by = leb-true (value t x j u) c (and-r (touches t j u) (leb (value t x j u) c) b) }
 
   pub moving-i : (c u j : ℕ) → Moved c u j → moving t x lo c u j ≡ true
   unfolding moving
-  moving-i c u j b = and-i (le-leb lo j (b .from)) (and-i (b .touch) (le-leb (value t x j u) c (b .by)))
+  moving-i c u j b = and-i (b .counts) (and-i (b .touch) (le-leb (value t x j u) c (b .by)))
 
   moving-not : (c u j : ℕ) → (Moved c u j → ⊥) → moving t x lo c u j ≡ false
   moving-not c u j h = ⊎-elim (λ y. absurd (h (moving-e c u j y))) (λ y. y) (look (moving t x lo c u j))
@@ -65,9 +66,9 @@ module _ (t : Table) (x : ℕ → ℕ) (lo hi : ℕ) where
   pub gathered-start : {c u tail : ℕ} (ws : List ℕ) → Gathered t x lo hi c u lo never 0 tail tail ws
   gathered-start {c} {u} {tail} ws =
       record {
-        apart = λ j a l. absurd (omega arith);
-        moves = sym (count-none (moving t x lo c u) lo (λ i l. moving-not c u i (λ m. let a = m .from in omega arith)));
-        loses = λ j l f. let a = fresh-e t lo j f .from in absurd (omega arith);
+        apart = λ j a l. let b = counts-from t lo j a in absurd (omega arith);
+        moves = sym (count-none (moving t x lo c u) lo (λ i l. moving-not c u i (λ m. let a = counts-from t lo i (m .counts) in omega arith)));
+        loses = λ j l f. let a = fresh-from t lo j f in absurd (omega arith);
         small = λ i a b. absurd (omega arith);
         grows = le-refl tail;
       }
@@ -76,19 +77,19 @@ module _ (t : Table) (x : ℕ → ℕ) (lo hi : ℕ) where
     -- a row that the walk passes over comes in on no day
     gap-not : {i : ℕ} → (touches t i u ≡ true → (i < lo) ⊎ (x (otherOf t i u) ≡ never)) → moving t x lo c u i ≡ false
     unfolding value
-    gap-not {i} gap = moving-not c u i (λ m. let a = m .from in let b = m .by in ⊎-elim (λ z. omega arith) (λ z. omega arith) (gap (m .touch)))
+    gap-not {i} gap = moving-not c u i (λ m. let a = counts-from t lo i (m .counts) in let b = m .by in ⊎-elim (λ z. omega arith) (λ z. omega arith) (gap (m .touch)))
 
     gap-apart : {i above′ : ℕ} → above′ ≤ above → lo ≤ i → (i < lo) ⊎ (x (otherOf t i u) ≡ never) → (value t x i u ≤ c) ⊎ (above′ ≤ value t x i u)
     unfolding value
     gap-apart le l o = ⊎-elim (λ z. absurd (omega arith)) (λ z. _⊎_.inr (omega arith)) o
 
     gap-loses : {A : Type 0} {i : ℕ} → fresh t lo i ≡ true → x (otherOf t i u) ≡ c → (i < lo) ⊎ (x (otherOf t i u) ≡ never) → A
-    gap-loses {i = i} f e o = let a = fresh-e t lo i f .from in ⊎-elim (λ z. absurd (omega arith)) (λ z. absurd (omega arith)) o
+    gap-loses {i = i} f e o = let a = fresh-from t lo i f in ⊎-elim (λ z. absurd (omega arith)) (λ z. absurd (omega arith)) o
 
     pub gathered-out : b ≤ size t → ((i : ℕ) → b ≤ i → i < size t → touches t i u ≡ true → (i < lo) ⊎ (x (otherOf t i u) ≡ never)) → Gathered t x lo hi c u (size t) above moved tail end ws
     gathered-out l gap =
         record {
-          apart = λ j a k h o. ⊎-elim (λ y. gap-apart (le-refl above) a (gap j (leb-true b j y) k h)) (λ y. G .apart j a (leb-false b j y) h o) (look (leb b j));
+          apart = λ j a k h o. ⊎-elim (λ y. gap-apart (le-refl above) (counts-from t lo j a) (gap j (leb-true b j y) k h)) (λ y. G .apart j a (leb-false b j y) h o) (look (leb b j));
           moves = G .moves ∙ sym (count-past (moving t x lo c u) b (size t) l (λ i a k. gap-not (gap i a k)));
           loses = λ j k f h e o. ⊎-elim (λ y. gap-loses f e (gap j (leb-true b j y) k h)) (λ y. G .loses j (leb-false b j y) f h e o) (look (leb b j));
           small = G .small;
@@ -97,8 +98,8 @@ module _ (t : Table) (x : ℕ → ℕ) (lo hi : ℕ) where
 
     -- the next row of u in the book is j
     module _ (j : ℕ) (from : b ≤ j) (gap : (i : ℕ) → b ≤ i → i < j → touches t i u ≡ true → (i < lo) ⊎ (x (otherOf t i u) ≡ never)) where
-      earlier : {above′ : ℕ} → above′ ≤ above → (i : ℕ) → lo ≤ i → i < j → touches t i u ≡ true → dayOf t i ≤ hi → (value t x i u ≤ c) ⊎ (above′ ≤ value t x i u)
-      earlier le i a l h o = ⊎-elim (λ y. gap-apart le a (gap i (leb-true b i y) l h)) (λ y. ⊎-elim _⊎_.inl (λ z. _⊎_.inr (le-trans le z)) (G .apart i a (leb-false b i y) h o)) (look (leb b i))
+      earlier : {above′ : ℕ} → above′ ≤ above → (i : ℕ) → pairCounts t lo i ≡ true → i < j → touches t i u ≡ true → dayOf t i ≤ hi → (value t x i u ≤ c) ⊎ (above′ ≤ value t x i u)
+      earlier le i a l h o = ⊎-elim (λ y. gap-apart le (counts-from t lo i a) (gap i (leb-true b i y) l h)) (λ y. ⊎-elim _⊎_.inl (λ z. _⊎_.inr (le-trans le z)) (G .apart i a (leb-false b i y) h o)) (look (leb b i))
 
       listed : (i : ℕ) → i < j → fresh t lo i ≡ true → touches t i u ≡ true → x (otherOf t i u) ≡ c → dayOf t i ≤ c → Place ws tail end (otherOf t i u)
       listed i l f h e o = ⊎-elim (λ y. gap-loses f e (gap i (leb-true b i y) l h)) (λ y. G .loses i (leb-false b i y) f h e o) (look (leb b i))
@@ -129,7 +130,7 @@ module _ (t : Table) (x : ℕ → ℕ) (lo hi : ℕ) where
         unfolding count
         is-moved =
             subst (λ (i : ℕ). moved + a ≡ count (moving t x lo c u) i) (sym (add-one j))
-            (⊎-elim (λ h. let e = A .0 h in let m = moves-to in let o = tally-yes (count (moving t x lo c u) j) (moving-i c u j (record { from = l; touch = touch; by = let g = leb-true z c h in omega arith })) in omega arith)
+            (⊎-elim (λ h. let e = A .0 h in let m = moves-to in let o = tally-yes (count (moving t x lo c u) j) (moving-i c u j (record { counts = counts-here t lo j l; touch = touch; by = let g = leb-true z c h in omega arith })) in omega arith)
             (λ h. let e = A .1 h in let m = moves-to in let o = tally-no (count (moving t x lo c u) j) (moving-not c u j (λ k. let g = leb-false z c h in let i = k .by in omega arith)) in omega arith) (look (leb z c)))
 
         own : fresh t lo j ≡ true → x (otherOf t j u) ≡ c → dayOf t j ≤ c → Place ws′ tail (end + w) (otherOf t j u)
@@ -313,5 +314,5 @@ gathered-lessened t q s hi lo S xs len D {u} {c} {new} {tail = tail} {end = end}
         let v = other-small t q s hi lo S j u l h in
         let g = guess-at xs (otherOf t j u) len v in
         let day : dayOf t j ≤ hi = ⊎-elim (λ y. omega arith) (λ y. absurd (omega arith)) (D (otherOf t j u) v) in
-        let same-day : guess xs (otherOf t j u) ≡ c = ⊎-elim (λ y. omega arith) (λ y. absurd (omega arith)) (G .apart j (fresh-e t lo j f .from) l h day) in
+        let same-day : guess xs (otherOf t j u) ≡ c = ⊎-elim (λ y. omega arith) (λ y. absurd (omega arith)) (G .apart j (fresh-counts t lo j f) l h day) in
         taken (G .loses j l f h same-day (omega arith))

@@ -9,6 +9,7 @@ pub mod CheckLaws
 pub mod TableLaws
 pub mod AcceptedLaws
 pub mod PairLaws
+pub mod LeadLaws
 pub mod OthersLaws
 pub mod LinkLaws
 pub mod SlotLaws

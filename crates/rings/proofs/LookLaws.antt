@@ -29,7 +29,8 @@ use Rattle.rings.specs.Inner.Settling.{value, backing, backers, Days, Se
 use Rattle.rings.specs.declared.Query.{Query}
 use Rattle.rings.proofs.WordLaws.{look, clash, and-i, and-l, and-r, count-mono, count-none, tally-yes, tally-no}
 use Rattle.rings.proofs.RingLaws.{joins-touch}
-use Rattle.rings.proofs.PairLaws.{count-inject, joins-other, joins-same, fresh-e, fresh-one, first-fresh}
+use Rattle.rings.proofs.PairLaws.{count-inject, joins-other, joins-same}
+use Rattle.rings.proofs.LeadLaws.{fresh-from, fresh-one, lead-opens, open-lead}
 use Rattle.rings.proofs.FixpointLaws.{supports-e, supports-i, enough}
 use Rattle.rings.proofs.OthersLaws.{touch-named}
 use Rattle.rings.proofs.FallLaws.{guess-at, other-small}
@@ -71,26 +72,21 @@ module _ (t : Table) (q : Query) (s hi lo : ℕ) (S : Setting t q s hi lo) (x : 
       record {
         it = otherOf t j u;
         below = touch-named t j (otherOf t j u) (joins-touch t j u (otherOf t j u) jn .1);
-        has = supports-i t x s c u (otherOf t j u) (record { row = j; below = l; join = jn; from = S .from-lo j l (fresh-e t lo j (b .is-fresh) .from); to = omega arith; other = omega arith });
+        has = supports-i t x s c u (otherOf t j u) (record { row = j; below = l; join = jn; opens = lead-opens t q s hi lo S j c l (b .is-fresh) (omega arith); other = omega arith });
         to = (b .is-fresh, jn);
       })
       (λ i i′ v p p′. fresh-one t lo i i′ u v (p .0) (p′ .0) (p .1) (p′ .1)))
       (count-inject (supports t x s c u) (names t) (backing t x lo c u) (size t) (λ v j. joins t j u v ≡ true)
       (λ v l h.
       let b = supports-e t x s c u v h in
-      let f = first-fresh t lo (b .row) u v (from-row (b .row) (b .from)) (b .join) in
-      let m = f .at-most in
-      let below : f .row < size t = let k = b .below in omega arith in
+      let f = open-lead t q s hi lo S (b .row) u v c (b .below) (b .join) (b .opens) in
       record {
         it = f .row;
-        below = below;
-        has = backing-i c u (f .row) (record { is-fresh = f .is-fresh; touch = joins-touch t (f .row) u v (f .join) .0; by = value-le c u v (f .row) below (f .join) (b .other) (le-trans (S .rising (f .row) (b .row) m (b .below)) (b .to)) });
+        below = f .below;
+        has = backing-i c u (f .row) (record { is-fresh = f .is-fresh; touch = joins-touch t (f .row) u v (f .join) .0; by = value-le c u v (f .row) (f .below) (f .join) (b .other) (f .by) });
         to = f .join;
       })
       (λ v v′ j p p′. joins-same t j u v v′ p p′))
-    where
-      from-row : (j : ℕ) → s ≤ dayOf t j → lo ≤ j
-      from-row j h = ⊎-elim (λ y. leb-true lo j y) (λ y. let k = S .before-lo j (leb-false lo j y) in absurd (omega arith)) (look (leb lo j))
 
   -- ---- a look at u
 
@@ -117,7 +113,7 @@ module _ (t : Table) (q : Query) (s hi lo : ℕ) (S : Setting t q s hi lo) (x : 
   gap-not : (c u j : ℕ) → c < never → (touches t j u ≡ true → (j < lo) ⊎ (x (otherOf t j u) ≡ never)) → backing t x lo c u j ≡ false
   unfolding value
   gap-not c u j h gap =
-      ⊎-elim (λ y. let w = backing-e c u j y in let b = w .by in let a = fresh-e t lo j (w .is-fresh) .from in ⊎-elim (λ z. absurd (omega arith)) (λ z. absurd (omega arith)) (gap (w .touch))) (λ y. y) (look (backing t x lo c u j))
+      ⊎-elim (λ y. let w = backing-e c u j y in let b = w .by in let a = fresh-from t lo j (w .is-fresh) in ⊎-elim (λ z. absurd (omega arith)) (λ z. absurd (omega arith)) (gap (w .touch))) (λ y. y) (look (backing t x lo c u j))
 
   -- so such rows change nothing
   backers-flat : (c u b j : ℕ) → c < never → b ≤ j → ((i : ℕ) → b ≤ i → i < j → touches t i u ≡ true → (i < lo) ⊎ (x (otherOf t i u) ≡ never)) → backers t x lo c u j ≡ backers t x lo c u b
@@ -139,7 +135,7 @@ module _ (t : Table) (q : Query) (s hi lo : ℕ) (S : Setting t q s hi lo) (x : 
     -- a first row of u that the walk passed over comes in after the day above
     gap-late : {i above′ : ℕ} → above′ ≤ above → fresh t lo i ≡ true → (i < lo) ⊎ (x (otherOf t i u) ≡ never) → (value t x i u ≤ c) ⊎ (above′ ≤ value t x i u)
     unfolding value
-    gap-late {i} le f o = let a = fresh-e t lo i f .from in let m = above-most in ⊎-elim (λ z. absurd (omega arith)) (λ z. _⊎_.inr (omega arith)) o
+    gap-late {i} le f o = let a = fresh-from t lo i f in let m = above-most in ⊎-elim (λ z. absurd (omega arith)) (λ z. _⊎_.inr (omega arith)) o
 
     -- the next row of u in the book is j
     module _ (j : ℕ) (from : b ≤ j) (gap : (i : ℕ) → b ≤ i → i < j → touches t i u ≡ true → (i < lo) ⊎ (x (otherOf t i u) ≡ never)) where
@@ -303,9 +299,9 @@ module _ (t : Table) (q : Query) (s hi lo : ℕ) (S : Setting t q s hi lo) (x : 
   unfolding backers
   seen-start c u h =
       record {
-        counted = sym (count-none (backing t x lo c u) lo (λ i l. ⊎-elim (λ y. let a = fresh-e t lo i (backing-e c u i y .is-fresh) .from in absurd (omega arith)) (λ y. y) (look (backing t x lo c u i))));
+        counted = sym (count-none (backing t x lo c u) lo (λ i l. ⊎-elim (λ y. let a = fresh-from t lo i (backing-e c u i y .is-fresh) in absurd (omega arith)) (λ y. y) (look (backing t x lo c u i))));
         rises = h;
-        none-between = λ j l f k. let a = fresh-e t lo j f .from in absurd (omega arith);
+        none-between = λ j l f k. let a = fresh-from t lo j f in absurd (omega arith);
         day = _⊎_.inr refl;
         few = omega arith;
         then = _⊎_.inl refl;

@@ -29,7 +29,8 @@ use Rattle.rings.specs.Inner.Settling.{value, backing, backers, Days, Lo
 use Rattle.rings.specs.declared.Query.{Query}
 use Rattle.rings.proofs.WordLaws.{look, clash, and-l, count-none, same-or}
 use Rattle.rings.proofs.RingLaws.{touch-cases}
-use Rattle.rings.proofs.PairLaws.{other-first, other-second, fresh-e}
+use Rattle.rings.proofs.PairLaws.{other-first, other-second}
+use Rattle.rings.proofs.LeadLaws.{fresh-from}
 use Rattle.rings.proofs.FallLaws.{guess-at, other-small}
 use Rattle.rings.proofs.ShelfLaws.{reading-out, reading-row, reading-touch, reading-gap, reading-next, reading-fresh, reading-other}
 use Rattle.rings.proofs.LookLaws.{By, by-most, both, not-first, backing-e, backers-yes, backers-no}
@@ -149,7 +150,7 @@ queued-then {a} {b} {c} {sp} {ws} {sp₁} {ws₁} {sp₂} {ws₂} P Q =
 
 module _ (t : Table) (x : ℕ → ℕ) (lo u old new : ℕ) (sp₀ : List ℕ) where
   lessened-start : length sp₀ ≡ 4096 → Lessened t x lo u lo old new sp₀ sp₀
-  lessened-start l = record { long = l; less = λ w. le-refl (getD sp₀ w 0); lost = λ j a f. let y = fresh-e t lo j f .from in absurd (omega arith) }
+  lessened-start l = record { long = l; less = λ w. le-refl (getD sp₀ w 0); lost = λ j a f. let y = fresh-from t lo j f in absurd (omega arith) }
 
   module _ {b : ℕ} {sp : List ℕ} (O : Lessened t x lo u b old new sp₀ sp) where
     -- what is left takes nothing
@@ -190,7 +191,7 @@ module _ (d f g links : List ℕ) (r : Frame) (R : Open d f g links r) (xs : Lis
 
   -- a first row of u that the walk passed over takes nobody away
   over : {i : ℕ} → (i < r .lo) ⊎ (guess xs (otherOf tw i u) ≡ never) → fresh tw (r .lo) i ≡ true → guess xs (otherOf tw i u) < new → ⊥
-  over {i} o f h = let a = fresh-e tw (r .lo) i f .from in let m = new-most in ⊎-elim (λ z. omega arith) (λ z. omega arith) o
+  over {i} o f h = let a = fresh-from tw (r .lo) i f in let m = new-most in ⊎-elim (λ z. omega arith) (λ z. omega arith) o
 
   pub wave-start : {p : ℕ} → length sp₀ ≡ 4096 → length ws₀ ≡ 4352 → Reading links u (r .lo) p → Wave d f g links r xs u old new tail sp₀ ws₀ (r .lo) p tail sp₀ ws₀
   wave-start l m A = record { reading = A; done = lessened-start tw (guess xs) (r .lo) u old new sp₀ l; queued = queued-start tail sp₀ ws₀ m }
@@ -255,7 +256,7 @@ backed-fresh t x lo c u i h = and-l (fresh t lo i) (touches t i u and leb (value
 
 backers-below : (t : Table) (x : ℕ → ℕ) (lo c u m : ℕ) → m ≤ lo → backers t x lo c u m ≡ 0
 unfolding backers
-backers-below t x lo c u m l = count-none (backing t x lo c u) m (λ i h. ⊎-elim (λ y. let b = fresh-e t lo i (backed-fresh t x lo c u i y) .from in absurd (omega arith)) (λ y. y) (look (backing t x lo c u i)))
+backers-below t x lo c u m l = count-none (backing t x lo c u) m (λ i h. ⊎-elim (λ y. let b = fresh-from t lo i (backed-fresh t x lo c u i y) in absurd (omega arith)) (λ y. y) (look (backing t x lo c u i)))
 
 module _ (t : Table) (q : Query) (s hi lo : ℕ) (S : Setting t q s hi lo) (xs : List ℕ) (len : length xs ≡ 4096) (D : Days hi xs) where
   abbrev x : ℕ → ℕ

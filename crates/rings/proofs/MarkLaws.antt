@@ -23,7 +23,8 @@ use Rattle.rings.specs.Buffers.{mark, marks}
 use Rattle.rings.specs.Inner.Peeling.{Falling, Ready, Span}
 use Rattle.rings.specs.declared.frame.Frame.{Frame}
 use Rattle.rings.proofs.WordLaws.{and-i, and-l, and-r, same-truth, tally-yes, tally-no}
-use Rattle.rings.proofs.RingLaws.{Inside, in-marked, marked-in, two-met, met-first, met-second}
+use Rattle.rings.proofs.RingLaws.{in-marked, marked-in, met-first, met-second}
+use Rattle.rings.proofs.LeadLaws.{Opens, day-opens, opens-ring}
 use Rattle.rings.proofs.FallLaws.{fell-look, stays-met, fell-not}
 
 pub is-zero : (x : List ℕ) {a v : ℕ} (b : ℕ) → a ≡ b → v ≡ getD x a 0 → v ≡ 0 → eqb (getD x b 0) 0 ≡ true
@@ -86,9 +87,9 @@ module _ (d f s links : List ℕ) (q : Frame) (R : Ready d f s links q) {end tai
   stays-place = let a = R .sound .firsts in let c = R .sound .seconds in let n = F .len-x in let y = rank-a in let z = rank-b in (omega arith, omega arith, omega arith, omega arith)
 
   -- the rows of the window are those from lo to end
-  inside : q .lo ≤ j → j < end → Inside (tableOf d f s) (q .start) (q .stop) j
+  inside : q .lo ≤ j → j < end → Opens (tableOf d f s) (q .start) (q .stop) j
   unfolding dayOf at
-  inside h k = record { row = b; from = R .setting .from-lo j b h; to = Sp .inside j k }
+  inside h k = day-opens (tableOf d f s) (q .start) (q .stop) j (R .setting .from-lo j b h) (Sp .inside j k)
 
   days-inside : (i : ℕ) → i < end → i < length d → dayOf (tableOf d f s) i ≤ q .stop
   unfolding dayOf at
@@ -122,5 +123,5 @@ module _ (d f s links : List ℕ) (q : Frame) (R : Ready d f s links q) {end tai
       comes h =
           let m : (u : ℕ) → u < 4096 → getD x u 0 ≡ 0 → Rattle.rings.specs.Ring.met (tableOf d f s) rg u ≡ true = stays-met (tableOf d f s) (q .query) (q .start) (q .stop) (q .lo) (R .setting) F days-inside in
           marked-in (tableOf d f s) (q .query) (q .start) (q .stop) j
-          (two-met (tableOf d f s) (q .query) (q .start) (q .stop) j (inside from to)
+          (opens-ring (tableOf d f s) (q .query) (q .start) (q .stop) j b (inside from to)
           (m (getD f j 0) rank-a (eqb-true (getD x (getD f j 0) 0) 0 (and-l za zb h))) (m (getD s j 0) rank-b (eqb-true (getD x (getD s j 0) 0) 0 (and-r za zb h))))

@@ -21,7 +21,7 @@ use lib.Seq.{getD-set-same, getD-set-other, set-getD}
 use lib.Dec.{leb}
 use borrow.Author.Tests.{leb-true, leb-false}
 use Rattle.rings.specs.Words.{count}
-use Rattle.rings.specs.Table.{Table, tableOf, size, dayOf, firstOf, secondOf, Split}
+use Rattle.rings.specs.Table.{Table, tableOf, size, firstOf, secondOf, Split}
 use Rattle.rings.specs.Ring.{joins, names, touches, ring, query}
 use Rattle.rings.specs.CoreTimes.{never, accountTime}
 use Rattle.rings.specs.Inner.Links.{otherOf, fresh, Every, Covered}
@@ -32,7 +32,8 @@ use Rattle.rings.specs.Inner.Counting.{timeBy, Histogram, Moving, Raised
 use Rattle.rings.specs.declared.Query.{Query}
 use Rattle.rings.proofs.WordLaws.{look, clash, count-mono, tally-yes, tally-no, same-or}
 use Rattle.rings.proofs.RingLaws.{joins-touch, joins-cases, met-e}
-use Rattle.rings.proofs.PairLaws.{joins-other, joins-same, joins-swap, fresh-e, fresh-i, first-fresh}
+use Rattle.rings.proofs.PairLaws.{joins-other, joins-same, joins-swap}
+use Rattle.rings.proofs.LeadLaws.{counts-here, fresh-on, open-lead}
 use Rattle.rings.proofs.FixpointLaws.{supports-e, supports-i, Lower, Closed, enough, fixpoint, times-closed, lower-next}
 use Rattle.rings.proofs.CoreTimeLaws.{account-time}
 use Rattle.rings.proofs.CoreTimeLaws as core-time
@@ -89,13 +90,13 @@ module _ (t : Table) (q : Query) (s hi : ℕ) (x x′ : ℕ → ℕ) (u y : ℕ)
   unfolding supporters
   rise-own accounts c =
       count-mono (supports t x s c u) (supports t x′ s c u) (names t)
-      (λ v l h. let b = supports-e t x s c u v h in supports-i t x′ s c u v (record { row = b .row; below = b .below; join = b .join; from = b .from; to = b .to; other = subst (λ (a : ℕ). a ≤ c) (sym (else v (apart v (b .row) (b .below) (b .join)))) (b .other) }))
+      (λ v l h. let b = supports-e t x s c u v h in supports-i t x′ s c u v (record { row = b .row; below = b .below; join = b .join; opens = b .opens; other = subst (λ (a : ℕ). a ≤ c) (sym (else v (apart v (b .row) (b .below) (b .join)))) (b .other) }))
     where
       apart : (v j : ℕ) → j < size t → joins t j u v ≡ true → v ≡ u → ⊥
       apart v j l h e = let a = accounts j l in ⊎-elim (λ c. let f = c .0 in let g = c .1 in omega arith) (λ c. let f = c .0 in let g = c .1 in omega arith) (joins-cases t j u v h)
 
   stays : (c w v : ℕ) → (v ≡ u → ⊥) → supports t x s c w v ≡ true → supports t x′ s c w v ≡ true
-  stays c w v n h = let b = supports-e t x s c w v h in supports-i t x′ s c w v (record { row = b .row; below = b .below; join = b .join; from = b .from; to = b .to; other = subst (λ (a : ℕ). a ≤ c) (sym (else v n)) (b .other) })
+  stays c w v n h = let b = supports-e t x s c w v h in supports-i t x′ s c w v (record { row = b .row; below = b .below; join = b .join; opens = b .opens; other = subst (λ (a : ℕ). a ≤ c) (sym (else v n)) (b .other) })
 
   -- another account loses u at most
   rise-other : (c w : ℕ) → supporters t x s c w ≤ supporters t x′ s c w + 1
@@ -110,7 +111,7 @@ module _ (t : Table) (q : Query) (s hi : ℕ) (x x′ : ℕ → ℕ) (u y : ℕ)
       keeps : (v : ℕ) → v ≡ u → supports t x s c w v ≡ true → supports t x′ s c w v ≡ true
       keeps v e h =
           ⊎-elim (λ f. clash (subst (λ (a : ℕ). supports t x s c w a ≡ true) e h) f)
-          (λ k. let b = supports-e t x s c w v h in supports-i t x′ s c w v (record { row = b .row; below = b .below; join = b .join; from = b .from; to = b .to; other = subst (λ (a : ℕ). x′ a ≤ c) (sym e) (subst (λ (a : ℕ). a ≤ c) (sym now) k) })) o
+          (λ k. let b = supports-e t x s c w v h in supports-i t x′ s c w v (record { row = b .row; below = b .below; join = b .join; opens = b .opens; other = subst (λ (a : ℕ). x′ a ≤ c) (sym e) (subst (λ (a : ℕ). a ≤ c) (sym now) k) })) o
 
 -- ---- an account settles
 
@@ -163,22 +164,16 @@ module _ (t : Table) (q : Query) (s hi lo : ℕ) (S : Setting t q s hi lo) {xs s
       (λ v. let r = rise-keeps t q s hi (guess xs) (guess xs′) u y now-is else-is L (guess xs w) w (_⊎_.inl v) in omega arith) (look (supports t (guess xs) s (guess xs w) w u))))
       (Z .enough w l (omega arith))
     where
-      from-row : (j : ℕ) → s ≤ dayOf t j → lo ≤ j
-      from-row j h = ⊎-elim (λ z. leb-true lo j z) (λ z. let p = S .before-lo j (leb-false lo j z) in absurd (omega arith)) (look (leb lo j))
-
       -- w had u for a supporter: the first row of their pair says so too
       less : (w : ℕ) → (w ≡ u → ⊥) → supports t (guess xs) s (guess xs w) w u ≡ true → guess xs w < y → getD sp″ w 0 ≤ getD (set sp u m) w 0 - 1
       less w n v h =
           let b = supports-e t (guess xs) s (guess xs w) w u v in
-          let f = first-fresh t lo (b .row) u w (from-row (b .row) (b .from)) (joins-swap t (b .row) w u (b .join)) in
-          let am = f .at-most in
-          let bb = b .below in
-          let below : f .row < size t = omega arith in
+          let f = open-lead t q s hi lo S (b .row) u w (guess xs w) (b .below) (joins-swap t (b .row) w u (b .join)) (b .opens) in
+          let below = f .below in
           let tu = joins-touch t (f .row) u w (f .join) .0 in
           let e : otherOf t (f .row) u ≡ w = joins-same t (f .row) u (otherOf t (f .row) u) w (joins-other t (f .row) u (S .accounts (f .row) below) tu) (f .join) in
           let g : guess xs′ (otherOf t (f .row) u) ≡ guess xs w = ap (guess xs′) e ∙ else-is w n in
-          let p = S .rising (f .row) (b .row) am bb in
-          let c = b .to in
+          let c = f .by in
           let o = b .other in
           let x₁ = at-place sp″ e in
           let x₂ = at-place (set sp u m) e in
@@ -413,7 +408,7 @@ module _ (d f g : List ℕ) (k s te lo : ℕ) (S : Setting (tableOf d f g) (quer
       count-mono (supports ts (accountTime ts (query k) te s) s c u) (supports ts (guess xs) s c u) (names ts)
       (λ v l h.
       let b = supports-e ts (accountTime ts (query k) te s) s c u v h in
-      supports-i ts (guess xs) s c u v (record { row = b .row; below = b .below; join = b .join; from = b .from; to = b .to; other = subst (λ (a : ℕ). a ≤ c) (sym (at-core C v (touch-small ts (query k) s te lo S (b .row) v (b .below) (joins-touch ts (b .row) u v (b .join) .1)))) (b .other) }))
+      supports-i ts (guess xs) s c u v (record { row = b .row; below = b .below; join = b .join; opens = b .opens; other = subst (λ (a : ℕ). a ≤ c) (sym (at-core C v (touch-small ts (query k) s te lo S (b .row) v (b .below) (joins-touch ts (b .row) u v (b .join) .1)))) (b .other) }))
 
   -- after a peel nobody is known to have a supporter to spare
   pub spare-ones : {xs sp : List ℕ} → CoreTimesAre d f g (season k s te lo) xs → length sp ≡ 4096 → ((u : ℕ) → u < 4096 → getD sp u 0 ≡ 1) → Spare ts (query k) s xs sp
@@ -427,12 +422,8 @@ module _ (d f g : List ℕ) (k s te lo : ℕ) (S : Setting (tableOf d f g) (quer
 
   -- the rows dated s have left
   module _ {next : ℕ} (S′ : Setting (tableOf d f g) (query k) (s + 1) te next) (up : lo ≤ next) (within : next ≤ length d) {xs sp₀ sp ws₀ ws : List ℕ} {r : ℕ} (C : CoreTimesAre d f g (season k s te lo) xs) (P : Spare ts (query k) s xs sp₀) (F : Leaving ts (guess xs) lo next sp₀ sp) (Q : Queued 0 sp₀ ws₀ r sp ws) where
-    -- a first row of a pair from lo on is one from next on
-    fresh-on : (j : ℕ) → next ≤ j → fresh ts lo j ≡ true → fresh ts next j ≡ true
-    fresh-on j h fr = fresh-i ts next j (record { from = h; none-before = λ i a b. fresh-e ts lo j fr .none-before i (le-trans up a) b })
-
     backing-on : (c u j : ℕ) → next ≤ j → backing ts (guess xs) lo c u j ≡ true → backing ts (guess xs) next c u j ≡ true
-    backing-on c u j h b = let e = backing-e ts (query k) s te lo S (guess xs) c u j b in backing-i ts (query k) (s + 1) te next S′ (guess xs) c u j (record { is-fresh = fresh-on j h (e .is-fresh); touch = e .touch; by = e .by })
+    backing-on c u j h b = let e = backing-e ts (query k) s te lo S (guess xs) c u j b in backing-i ts (query k) (s + 1) te next S′ (guess xs) c u j (record { is-fresh = fresh-on ts up j (counts-here ts next j h) (e .is-fresh); touch = e .touch; by = e .by })
 
     fewer : (c u : ℕ) → supporters ts (guess xs) s c u ≤ backers ts (guess xs) lo c u next + supporters ts (guess xs) (s + 1) c u
     unfolding backers

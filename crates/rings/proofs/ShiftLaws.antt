@@ -17,10 +17,10 @@ use lib.Seq.{getD-set-same, getD-set-other}
 use lib.Dec.{ltb}
 use borrow.Author.Tests.{ltb-true, ltb-false, lt-ltb, le-ltb}
 use Rattle.rings.specs.Words.{at}
-use Rattle.rings.specs.Table.{Table, tableOf, size, dayOf, firstOf, secondOf, inWindow, Split}
+use Rattle.rings.specs.Table.{Table, tableOf, size, dayOf, firstOf, secondOf, Split}
 use Rattle.rings.specs.Ring.{touches, query}
 use Rattle.rings.specs.CoreTimes.{never, rowTime}
-use Rattle.rings.specs.Inner.Links.{otherOf}
+use Rattle.rings.specs.Inner.Links.{otherOf, pairCounts, openDay, opensBy}
 use Rattle.rings.specs.Inner.Peeling.{Setting, season, guess, CoreTimesAre}
 use Rattle.rings.specs.Inner.Settling.{value, moving, Gathered}
 use Rattle.rings.specs.Inner.Counting.{timeBy, Histogram, Owing, Removing, Taking, Raised}
@@ -28,6 +28,7 @@ use Rattle.rings.specs.declared.Query.{Query}
 use Rattle.rings.proofs.WordLaws.{look, clash, same-or}
 use Rattle.rings.proofs.RingLaws.{touch-cases, touch-first, touch-second}
 use Rattle.rings.proofs.PairLaws.{other-first, other-second}
+use Rattle.rings.proofs.LeadLaws.{Opens, counts-from, counts-here, open-is}
 use Rattle.rings.proofs.CoreTimeLaws.{row-before}
 use Rattle.rings.proofs.FallLaws.{guess-at}
 use Rattle.rings.proofs.GatherLaws.{moving-e, moving-i}
@@ -63,20 +64,23 @@ module _ (t : Table) (q : Query) (s hi lo : ℕ) (S : Setting t q s hi lo) (x x�
   not-mine j h =
       let a : x (firstOf t j) ≡ x′ (firstOf t j) = sym (else (firstOf t j) (λ e. clash (subst (λ (c : ℕ). touches t j c ≡ true) e (touch-first t j)) h)) in
       let b : x (secondOf t j) ≡ x′ (secondOf t j) = sym (else (secondOf t j) (λ e. clash (subst (λ (c : ℕ). touches t j c ≡ true) e (touch-second t j)) h)) in
-      ap (λ (c : ℕ). elim (inWindow s hi (dayOf t j)) [ true ↦ max (max c (x (secondOf t j))) (dayOf t j) | false ↦ never ]) a
-      ∙ ap (λ (c : ℕ). elim (inWindow s hi (dayOf t j)) [ true ↦ max (max (x′ (firstOf t j)) c) (dayOf t j) | false ↦ never ]) b
+      ap (λ (c : ℕ). elim (opensBy t s hi j) [ true ↦ max (max c (x (secondOf t j))) (openDay t s j) | false ↦ never ]) a
+      ∙ ap (λ (c : ℕ). elim (opensBy t s hi j) [ true ↦ max (max (x′ (firstOf t j)) c) (openDay t s j) | false ↦ never ]) b
 
   record Mine (j : ℕ) : Type 0 where
     other : x′ (otherOf t j u) ≡ x (otherOf t j u)
     first : before j ≡ max (max old (x′ (otherOf t j u))) (dayOf t j)
     then : after j ≡ max (max new (x′ (otherOf t j u))) (dayOf t j)
 
-  -- a row of u in the range
-  mine : (j : ℕ) → j < size t → touches t j u ≡ true → lo ≤ j → dayOf t j ≤ hi → Mine j
+  -- a row of u in the range, by which its pair counts
+  mine : (j : ℕ) → j < size t → touches t j u ≡ true → pairCounts t lo j ≡ true → dayOf t j ≤ hi → Mine j
   mine j l k h o = ⊎-elim (λ e. one e) (λ e. two e) (touch-cases t j u k)
     where
-      is-in : s ≤ dayOf t j
-      is-in = S .from-lo j l h
+      own : openDay t s j ≡ dayOf t j
+      own = open-is t q s hi lo S j l h
+
+      opens : Opens t s hi j
+      opens = let e = own in record { from = S .from-lo j l (counts-from t lo j h); to = omega arith }
 
       apart : firstOf t j < secondOf t j
       apart = S .accounts j l
@@ -88,7 +92,7 @@ module _ (t : Table) (q : Query) (s hi lo : ℕ) (S : Setting t q s hi lo) (x x�
           let a : x (firstOf t j) ≡ old = ap x e ∙ was in
           let b : x′ (firstOf t j) ≡ new = ap x′ e ∙ now in
           let c : x′ (otherOf t j u) ≡ x′ (secondOf t j) = ap x′ v in
-          let m = by-in t x s hi j is-in o in let n = by-in t x′ s hi j is-in o in
+          let m = by-in t x s hi j opens in let n = by-in t x′ s hi j opens in let g = own in
           record { other = ap x′ v ∙ (else (secondOf t j) (λ y. let p = apart in omega arith) ∙ ap x (sym v)); first = m ∙ omega arith; then = n ∙ omega arith }
 
       two : secondOf t j ≡ u → Mine j
@@ -98,7 +102,7 @@ module _ (t : Table) (q : Query) (s hi lo : ℕ) (S : Setting t q s hi lo) (x x�
           let a : x (secondOf t j) ≡ old = ap x e ∙ was in
           let b : x′ (secondOf t j) ≡ new = ap x′ e ∙ now in
           let c : x′ (otherOf t j u) ≡ x′ (firstOf t j) = ap x′ v in
-          let m = by-in t x s hi j is-in o in let n = by-in t x′ s hi j is-in o in
+          let m = by-in t x s hi j opens in let n = by-in t x′ s hi j opens in let g = own in
           record { other = ap x′ v ∙ (else (firstOf t j) (λ y. let p = apart in omega arith) ∙ ap x (sym v)); first = m ∙ omega arith; then = n ∙ omega arith }
 
   -- a row that has left
@@ -113,13 +117,13 @@ module _ (t : Table) (q : Query) (s hi lo : ℕ) (S : Setting t q s hi lo) (x x�
       behind h = by-out t x s hi j (_⊎_.inr h) ∙ sym (by-out t x′ s hi j (_⊎_.inr h))
 
       inside : lo ≤ j → dayOf t j ≤ hi → (new ≤ x′ (otherOf t j u)) ⊎ ((new ≤ dayOf t j) ⊎ (hi < dayOf t j)) → before j ≡ after j
-      inside m h y = let M = mine j l k m h in let a = M .first in let b = M .then in ⊎-elim (λ c. omega arith) (λ c. ⊎-elim (λ d. omega arith) (λ d. absurd (omega arith)) c) y
+      inside m h y = let M = mine j l k (counts-here t lo j m) h in let a = M .first in let b = M .then in ⊎-elim (λ c. omega arith) (λ c. ⊎-elim (λ d. omega arith) (λ d. absurd (omega arith)) c) y
 
   -- where no row of u comes in between the old time and the new one: those that come in by the old one go from it to the new one, and the others keep their times
-  pub shift-moves : old ≤ hi → ((j : ℕ) → lo ≤ j → j < size t → touches t j u ≡ true → dayOf t j ≤ hi → (value t x j u ≤ old) ⊎ (new ≤ value t x j u)) → Moves before after (moving t x lo old u) old new (size t)
+  pub shift-moves : old ≤ hi → ((j : ℕ) → pairCounts t lo j ≡ true → j < size t → touches t j u ≡ true → dayOf t j ≤ hi → (value t x j u ≤ old) ⊎ (new ≤ value t x j u)) → Moves before after (moving t x lo old u) old new (size t)
   unfolding value
   shift-moves top between j l = (
-    λ h. let B = moving-e t x lo hi old u j h in let b = B .by in let M = mine j l (B .touch) (B .from) (omega arith) in let o = M .other in let m = M .first in let n = M .then in (omega arith, omega arith),
+    λ h. let B = moving-e t x lo hi old u j h in let b = B .by in let M = mine j l (B .touch) (B .counts) (omega arith) in let o = M .other in let m = M .first in let n = M .then in (omega arith, omega arith),
     λ h. sym (⊎-elim (λ k. ⊎-elim (λ y. left (ltb-true j lo y)) (λ y. ⊎-elim (λ z. behind (ltb-true hi (dayOf t j) z)) (λ z. inside k (ltb-false j lo y) (ltb-false hi (dayOf t j) z) h) (look (ltb hi (dayOf t j)))) (look (ltb j lo))) (λ k. not-mine j k) (look (touches t j u))),
   )
     where
@@ -128,8 +132,8 @@ module _ (t : Table) (q : Query) (s hi lo : ℕ) (S : Setting t q s hi lo) (x x�
 
       inside : touches t j u ≡ true → lo ≤ j → dayOf t j ≤ hi → moving t x lo old u j ≡ false → before j ≡ after j
       inside k y z h =
-          ⊎-elim (λ w. clash (moving-i t x lo hi old u j (record { from = y; touch = k; by = w })) h)
-          (λ w. let M = mine j l k y z in let o = M .other in let m = M .first in let n = M .then in omega arith) (between j y l k z)
+          ⊎-elim (λ w. clash (moving-i t x lo hi old u j (record { counts = counts-here t lo j y; touch = k; by = w })) h)
+          (λ w. let M = mine j l k (counts-here t lo j y) z in let o = M .other in let m = M .first in let n = M .then in omega arith) (between j (counts-here t lo j y) l k z)
 
   -- the rows of u below b have been passed, and m of them moved
   abbrev Shifting : ℕ → ℕ → List ℕ → Type 0
@@ -165,10 +169,10 @@ module _ (t : Table) (q : Query) (s hi lo : ℕ) (S : Setting t q s hi lo) (x x�
 
       module _ (day : dayOf t j ≤ hi) (soon : dayOf t j < new) (top : hi ≤ 1024) {test : Bool} {z time : ℕ} (ez : z ≡ x′ (otherOf t j u)) (et : time ≡ max (max old z) (dayOf t j)) (yes : test ≡ true → (lo ≤ j) × (z < new)) (not : test ≡ false → (j < lo) ⊎ (new ≤ z)) where
         was-time : test ≡ true → mixed before after b j ≡ time
-        was-time y = let h = yes y in mixed-from before after b j from ∙ (mine j l k (h .0) day .first ∙ (let e = ez in let f = et in omega arith))
+        was-time y = let h = yes y in mixed-from before after b j from ∙ (mine j l k (counts-here t lo j (h .0)) day .first ∙ (let e = ez in let f = et in omega arith))
 
         moves-to : test ≡ true → mixed before after (j + 1) j ≡ new
-        moves-to y = let h = yes y in let a = h .1 in mixed-below before after (j + 1) j (omega arith) ∙ (mine j l k (h .0) day .then ∙ (let e = ez in omega arith))
+        moves-to y = let h = yes y in let a = h .1 in mixed-below before after (j + 1) j (omega arith) ∙ (mine j l k (counts-here t lo j (h .0)) day .then ∙ (let e = ez in omega arith))
 
         -- old, z and the day are days before the new time, and not never
         small : (old ≤ hi) → test ≡ true → (z ≤ hi) ⊎ (z ≡ never) → new ≤ never → time < 1025

@@ -22,6 +22,7 @@ use Rattle.rings.specs.declared.frame.Frame.{Frame}
 use Rattle.rings.proofs.WordLaws.{look, clash, and-i, and-l, and-r, no-i, no-e, same-truth, count-same, count-none, count-pos, count-le, same-or}
 use Rattle.rings.proofs.RingLaws.{touch-cases, touch-first, touch-second}
 use Rattle.rings.proofs.PairLaws.{count-drop}
+use Rattle.rings.proofs.LeadLaws.{fresh-from, fresh-test}
 use Rattle.rings.proofs.FallLaws.{fell-look, room, times-fall, queue-fall, fall-lower, walk-start, leave-stale, leave-fell, leave-first-one, leave-second-one, leave-both, next-day, fall-times}
 
 -- nobody has fallen exactly where all times are 0
@@ -74,8 +75,7 @@ module _ (d f s links : List ℕ) (q : Frame) (R : Ready d f s links q) where
 
     -- what `is_fresh` answers
     fresh-is : {y : Bool} → y ≡ (leb (q .lo) j and leb (getD links (8192 + 2 * length d + j) 0) (q .lo)) → fresh t (q .lo) j ≡ y
-    unfolding fresh
-    fresh-is h = sym (h ∙ ap (λ (c : ℕ). leb (q .lo) j and leb c (q .lo)) (R .linked .pairs j b))
+    fresh-is h = sym (fresh-test t (q .lo) j (R .linked .pairs j b) h)
 
     a-small : getD f j 0 < 4096
     a-small = let y = R .sound .rows j b in let z = y .accounts in let k = y .account-to in omega arith
@@ -207,7 +207,7 @@ module _ (d f s links : List ℕ) (q : Frame) (R : Ready d f s links q) where
     where
       none : (u i : ℕ) → counts-for (q .lo) u i ≡ false
       none u i =
-          ⊎-elim (λ h. let a = counts-below (q .lo) u i h in let b = Rattle.rings.proofs.PairLaws.fresh-e t (q .lo) i (and-l (fresh t (q .lo) i) (ltb i (q .lo)) (and-l (fresh t (q .lo) i and ltb i (q .lo)) (touches t i u) h)) .from in absurd (omega arith)) (λ h. h) (look (counts-for (q .lo) u i))
+          ⊎-elim (λ h. let a = counts-below (q .lo) u i h in let b = fresh-from t (q .lo) i (and-l (fresh t (q .lo) i) (ltb i (q .lo)) (and-l (fresh t (q .lo) i and ltb i (q .lo)) (touches t i u) h)) in absurd (omega arith)) (λ h. h) (look (counts-for (q .lo) u i))
 
   module _ {j end : ℕ} {l : List ℕ} (C : Counted t (q .lo) j l) (below : j < end) (within : end ≤ length d) where
     j-row : j < length d
@@ -220,8 +220,7 @@ module _ (d f s links : List ℕ) (q : Frame) (R : Ready d f s links q) where
     row-b = let k = R .sound .rows j j-row .account-to in omega arith
 
     fresh-of : {y : Bool} → y ≡ (leb (q .lo) j and leb (getD links (8192 + 2 * length d + j) 0) (q .lo)) → fresh t (q .lo) j ≡ y
-    unfolding fresh
-    fresh-of h = sym (h ∙ ap (λ (c : ℕ). leb (q .lo) j and leb c (q .lo)) (R .linked .pairs j j-row))
+    fresh-of h = sym (fresh-test t (q .lo) j (R .linked .pairs j j-row) h)
 
     pub count-place : (length d ≤ 16384) × (j < length d) × (8192 + 2 * length d + j < length links)
     count-place = let a = R .linked .long in let b = j-row in (R .sound .most, b, omega arith)

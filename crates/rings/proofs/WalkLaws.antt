@@ -18,7 +18,7 @@ use Rattle.rings.specs.Inner.Links.{pickOther, otherOf, placeOf, fresh}
 use Rattle.rings.specs.Inner.Peeling.{Lost, Ready, Falling, Walking}
 use Rattle.rings.specs.declared.frame.Frame.{Frame}
 use Rattle.rings.proofs.WordLaws.{look}
-use Rattle.rings.proofs.PairLaws.{fresh-e}
+use Rattle.rings.proofs.LeadLaws.{fresh-from}
 use Rattle.rings.proofs.AlongLaws.{Along, begun, ahead-of, along-last, along-out, along-place, along-few, along-row, along-touch, along-from, along-none, along-next, along-fresh, along-fresh-place, along-ends, along-other}
 use Rattle.rings.proofs.FallLaws.{walk-small, walk-to, next-small, walk-lose-one, walk-lost, walk-skip, walk-end}
 
@@ -50,7 +50,7 @@ module _ (d f s links : List ℕ) (q : Frame) (R : Ready d f s links q) where
     pub at-start : {p : ℕ} → Walking d f s q 0 e r head last u x l w → p ≡ getD links (4096 + u) 0 → At d f s q e r head u p last x l w
     at-start {p} W ep =
         let B = begun (ahead-of d f s links (R .sound) (R .linked) (at-small W) (R .setting .from-lo) ep) in
-        record { b = B .b; state = walk-to t (q .query) (q .start) (q .stop) (q .lo) (R .setting) W (B .b) (omega arith) (λ i a k h. ⊎-elim (λ y. let c = fresh-e t (q .lo) i y .from in let o = B .before i k h in absurd (omega arith)) (λ y. y) (look (fresh t (q .lo) i))); along = B .along }
+        record { b = B .b; state = walk-to t (q .query) (q .start) (q .stop) (q .lo) (R .setting) W (B .b) (omega arith) (λ i a k h. ⊎-elim (λ y. let c = fresh-from t (q .lo) i y in let o = B .before i k h in absurd (omega arith)) (λ y. y) (look (fresh t (q .lo) i))); along = B .along }
 
     module _ {p end : ℕ} (A : At d f s q e r head u p last x l w) (ee : end ≡ placeOf t (suc u)) where
       small : u < 4096

@@ -1,5 +1,5 @@
 -- Day counts: how many rows have each day as their time, kept up as the times of the accounts rise.
---     timeBy t x s hi j     the time of row j where x gives those of the accounts: the greatest of both and of its own day; never outside the days from s to hi
+--     timeBy t x s hi j     the time of row j where x gives those of the accounts: the greatest of both and of the day on which it opens; never if it does not open from s to hi
 --     IsTime x              x is a day, or never
 --     Histogram g n xs      xs holds, for each day, how many of the first n rows have it by g
 --     CountsBy              that histogram, by the times that the accounts have
@@ -20,17 +20,17 @@ use mathlib.Core.List.{List}
 use lib.ListN.{length, getD, set}
 use lib.Dec.{eqb}
 use Rattle.rings.specs.Words.{count}
-use Rattle.rings.specs.Table.{Table, tableOf, size, dayOf, firstOf, secondOf, inWindow}
+use Rattle.rings.specs.Table.{Table, tableOf, size, firstOf, secondOf}
 use Rattle.rings.specs.CoreTimes.{never, rowTime}
 use Rattle.rings.specs.Ring.{query}
 use Rattle.rings.specs.Inner.Peeling.{guess, Open, CoreTimesAre}
 use Rattle.rings.specs.declared.frame.Frame.{Frame}
-use Rattle.rings.specs.Inner.Links.{Covered}
+use Rattle.rings.specs.Inner.Links.{openDay, opensBy, Covered}
 use Rattle.rings.specs.Inner.Settling.{Spare}
 use Rattle.rings.specs.declared.Query.{Query}
 
 unfoldable pub timeBy : Table → (ℕ → ℕ) → ℕ → ℕ → ℕ → ℕ
-timeBy t x s hi j = elim (inWindow s hi (dayOf t j)) [ true ↦ max (max (x (firstOf t j)) (x (secondOf t j))) (dayOf t j) | false ↦ never ]
+timeBy t x s hi j = elim (opensBy t s hi j) [ true ↦ max (max (x (firstOf t j)) (x (secondOf t j))) (openDay t s j) | false ↦ never ]
 
 abbrev pub IsTime : ℕ → Type 0
 IsTime x = (x < 1025) ⊎ (x ≡ never)

@@ -1,6 +1,6 @@
 -- Settling: from the core times at one start to those at the next. x gives each account a day or never. It never passes the core times, and only accounts that wait may lack supporters.
 -- spare holds, for each account, one more than the supporters that it can lose before it lacks one, at least; 0 says that it waits. Counting from below makes every loss a step down, and no gain matters.
---     value t x j u         the first day on which row j supports u: the later of its own day and its other account's time
+--     value t x j u         the first day on which row j supports u, if its pair counts by it: the later of its own day, on which it opens, and its other account's time
 --     backing t x lo c u j  row j is the first of its pair from lo on, has the account u, and supports it at c
 --     backers t x lo c u n  how many of the first n rows do
 --     Days                  each time is a day of the range or never
@@ -8,7 +8,7 @@
 --     Over                  no later row can change what a walk has found
 --     Seen, Noting          what a walk over the rows of u has found: how many support it at c, the least day above c on which one more may, and how many more then; one row more
 --     Glanced               a walk has counted enough, or has seen all rows
---     moving t x lo c u j   row j is one of u's from lo on, and comes in by day c
+--     moving t x lo c u j   row j is one of u's by which its pair counts, and comes in by day c
 --     Behind                a list is written behind a place alone
 --     Gathered              what a walk has kept besides, for a rise of u from c to the day above: how many rows move with it, and who loses it
 --     Short                 u has too few supporters on each day from c on that lies before d
@@ -34,7 +34,7 @@ use Rattle.rings.specs.Words.{_and_, tally, count}
 use Rattle.rings.specs.Table.{Table, dayOf}
 use Rattle.rings.specs.Ring.{touches, met, ring}
 use Rattle.rings.specs.CoreTimes.{never}
-use Rattle.rings.specs.Inner.Links.{otherOf, fresh}
+use Rattle.rings.specs.Inner.Links.{otherOf, pairCounts, fresh}
 use Rattle.rings.specs.Inner.Support.{supporters}
 use Rattle.rings.specs.Inner.Peeling.{guess, Place}
 use Rattle.rings.specs.declared.Query.{Query}
@@ -90,7 +90,7 @@ pub data Glanced (t : Table) (x : ℕ → ℕ) (lo hi c u m k n above more : ℕ
 -- ---- a look that keeps what a rise needs
 
 unfoldable pub moving : Table → (ℕ → ℕ) → ℕ → ℕ → ℕ → ℕ → Bool
-moving t x lo c u j = leb lo j and touches t j u and leb (value t x j u) c
+moving t x lo c u j = pairCounts t lo j and touches t j u and leb (value t x j u) c
 
 pub record Behind (tail : ℕ) (ws ws′ : List ℕ) : Type 0 where
   pub long : length ws′ ≡ 4352
@@ -98,7 +98,7 @@ pub record Behind (tail : ℕ) (ws ws′ : List ℕ) : Type 0 where
 
 -- of the rows of u below b, first of their pairs or not, none comes in between c and the day above; `moved` of them come in by c; and who has the time c and stands in a first row that comes in by it is listed, from place tail to end
 pub record Gathered (t : Table) (x : ℕ → ℕ) (lo hi c u b above moved tail end : ℕ) (ws : List ℕ) : Type 0 where
-  pub apart : (j : ℕ) → lo ≤ j → j < b → touches t j u ≡ true → dayOf t j ≤ hi → (value t x j u ≤ c) ⊎ (above ≤ value t x j u)
+  pub apart : (j : ℕ) → pairCounts t lo j ≡ true → j < b → touches t j u ≡ true → dayOf t j ≤ hi → (value t x j u ≤ c) ⊎ (above ≤ value t x j u)
   pub moves : moved ≡ count (moving t x lo c u) b
   pub loses : (j : ℕ) → j < b → fresh t lo j ≡ true → touches t j u ≡ true → x (otherOf t j u) ≡ c → dayOf t j ≤ c → Place ws tail end (otherOf t j u)
   pub small : (i : ℕ) → tail ≤ i → i < end → getD ws i 0 < 4096

@@ -5,7 +5,7 @@
 --     Renewed t q hi s sc j   that of row j is its time at the day after s
 --     Reached                 it is renewed, or has the time y or a later one already
 --     Passed                  the rows below m are renewed
---     Walked                  the rows of u from next to b that are dated before the time y of u have reached it
+--     Walked                  the rows of u from next to b that open before the time y of u have reached it
 --     Through                 so have all such rows of the first i accounts of a list; xs are the times of the accounts
 --     Stays                   a row that was renewed is so still, and no kept time falls
 --     Turned                  the rows of u have reached its time, and nothing else is lost
@@ -15,10 +15,10 @@ use mathlib.Core.Logic.{_⊎_}
 use mathlib.Core.Bool.{true}
 use mathlib.Core.List.{List}
 use lib.ListN.{getD}
-use Rattle.rings.specs.Table.{Table, size, dayOf}
+use Rattle.rings.specs.Table.{Table, size}
 use Rattle.rings.specs.Ring.{touches}
 use Rattle.rings.specs.CoreTimes.{rowTime}
-use Rattle.rings.specs.Inner.Links.{Linked}
+use Rattle.rings.specs.Inner.Links.{openDay, Linked}
 use Rattle.rings.specs.declared.Query.{Query}
 
 unfoldable pub timeOf : Table → List ℕ → ℕ → ℕ
@@ -42,10 +42,10 @@ pub record Passed (t : Table) (q : Query) (hi s m : ℕ) (sc : List ℕ) : Type 
   pub renewed : (j : ℕ) → j < m → j < size t → Renewed t q hi s sc j
 
 pub record Walked (t : Table) (q : Query) (hi s next u y b : ℕ) (sc : List ℕ) : Type 0 where
-  pub reached : (j : ℕ) → next ≤ j → j < b → j < size t → touches t j u ≡ true → dayOf t j < y → Reached t q hi s sc y j
+  pub reached : (j : ℕ) → next ≤ j → j < b → j < size t → touches t j u ≡ true → openDay t (s + 1) j < y → Reached t q hi s sc y j
 
 pub record Through (t : Table) (q : Query) (hi s next : ℕ) (xs list : List ℕ) (i : ℕ) (sc : List ℕ) : Type 0 where
-  pub reached : (h j : ℕ) → h < i → next ≤ j → j < size t → touches t j (getD list h 0) ≡ true → dayOf t j < getD xs (getD list h 0) 0 → Reached t q hi s sc (getD xs (getD list h 0) 0) j
+  pub reached : (h j : ℕ) → h < i → next ≤ j → j < size t → touches t j (getD list h 0) ≡ true → openDay t (s + 1) j < getD xs (getD list h 0) 0 → Reached t q hi s sc (getD xs (getD list h 0) 0) j
 
 pub record Stays (t : Table) (q : Query) (hi s : ℕ) (sc₀ sc : List ℕ) : Type 0 where
   pub renewed : (j : ℕ) → j < size t → Renewed t q hi s sc₀ j → Renewed t q hi s sc j
