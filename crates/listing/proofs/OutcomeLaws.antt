@@ -12,6 +12,7 @@ use lib.ListN.{length, take, drop, length-append, length-map, length-drop}
 use lib.Seq.{take-at}
 use lib.Dec.{leb, ltb}
 use borrow.Author.Tests.{ltb-false, le-leb}
+use Rattle.text.specs.Layout.{queryBytes, mostInput}
 use Rattle.text.specs.Line.{linesOf, rowOf, queryOf}
 use Rattle.text.specs.Table.{dayOf, daysOf, tableReadOf, place}
 use Rattle.text.specs.Print.{refusedLine}
@@ -48,9 +49,9 @@ lineIn (stopped n line) = line
 pub record Bounded (o : Outcome) : Type 0 where
   pub rings : ringsIn o ≤ 2048
   pub number : numberIn o ≤ 14
-  pub line : lineIn o ≤ 18450
+  pub line : lineIn o ≤ mostInput + 2
 
-stops : (n line : ℕ) → n ≤ 14 → line ≤ 18450 → Bounded (stopped n line)
+stops : (n line : ℕ) → n ≤ 14 → line ≤ mostInput + 2 → Bounded (stopped n line)
 unfolding ringsIn numberIn lineIn
 stops n line a b = record { rings = omega arith; number = a; line = b }
 
@@ -82,7 +83,7 @@ line-most SmallScratch = omega arith
 line-most NoRoom = omega arith
 line-most (BadEntry i) = omega arith
 
-by-list : (t : Table) (q : Query) (lo hi : ℕ) (a : Listed) → listingAnswer t q lo hi 2048 2048 2048 12288 ≡ a → size t ≤ 18448 → Bounded (fromList a (listing t q lo hi))
+by-list : (t : Table) (q : Query) (lo hi : ℕ) (a : Listed) → listingAnswer t q lo hi 2048 2048 2048 12288 ≡ a → size t ≤ mostInput → Bounded (fromList a (listing t q lo hi))
 unfolding fromList stoppedBy ringsIn numberIn lineIn
 by-list t q lo hi (Listed.Rings n sum) e h =
     record { rings = omega (arith, rings-count t q lo hi (sym e) refl, rings-most t q lo hi (sym e) refl); number = omega arith; line = omega arith }
@@ -93,7 +94,7 @@ rows-most : (text : List ℕ) → size (tableOf text) ≤ length text
 unfolding tableOf daysOf
 rows-most text = omega (arith, lines-most text, length-map (linesOf text) (λ (l : List ℕ). dayOf (rowOf l)))
 
-by-rows : (text : List ℕ) (q : Query) (lo hi : ℕ) (r : TableRead) → r ≡ tableReadOf text 1024 1024 1024 → length text ≤ 18448 → Bounded (fromRows r (tableOf text) q lo hi)
+by-rows : (text : List ℕ) (q : Query) (lo hi : ℕ) (r : TableRead) → r ≡ tableReadOf text 1024 1024 1024 → length text ≤ mostInput → Bounded (fromRows r (tableOf text) q lo hi)
 unfolding fromRows unlessRefused listed
 by-rows text q lo hi (TableRead.Rows n) e h =
     by-list (tableOf text) q lo hi (listingAnswer (tableOf text) q lo hi 2048 2048 2048 12288) refl (omega (arith, rows-most text))
@@ -102,21 +103,21 @@ by-rows text q lo hi (TableRead.BrokenField n) e h = stops _ _ (omega arith) (om
 by-rows text q lo hi (TableRead.LargeNumber n) e h = stops _ _ (omega arith) (omega (arith, reader-most n, place-lines text 1024 1024 1024 e))
 by-rows text q lo hi TableRead.Room e h = stops _ _ (omega arith) (omega (arith, reader-most 0))
 
-by-query : (q : QueryRead) (text : List ℕ) → length text ≤ 18448 → Bounded (fromQuery q text)
+by-query : (q : QueryRead) (text : List ℕ) → length text ≤ mostInput → Bounded (fromQuery q text)
 unfolding fromQuery badQuery
 by-query (QueryRead.Query k lo hi) text h = by-rows text (record { k = k }) lo hi (tableReadOf text 1024 1024 1024) refl h
 by-query QueryRead.BadLength text h = stops _ _ (omega arith) (omega arith)
 by-query QueryRead.BadField text h = stops _ _ (omega arith) (omega arith)
 by-query QueryRead.LargeNumber text h = stops _ _ (omega arith) (omega arith)
 
-by-length : (input : List ℕ) (b : Bool) → ltb 18448 (length input) ≡ b → Bounded (unlessLong b (fromQuery (queryOf input) (drop 16 input)))
+by-length : (input : List ℕ) (b : Bool) → ltb mostInput (length input) ≡ b → Bounded (unlessLong b (fromQuery (queryOf input) (drop queryBytes input)))
 unfolding unlessLong stoppedBy numberOf inputLine
 by-length input true e = stops _ _ (omega arith) (omega arith)
-by-length input false e = by-query (queryOf input) (drop 16 input) (omega (arith, ltb-false 18448 (length input) e, length-drop 16 input))
+by-length input false e = by-query (queryOf input) (drop queryBytes input) (omega (arith, ltb-false mostInput (length input) e, length-drop queryBytes input))
 
 pub bounded : (input : List ℕ) → Bounded (outcome input)
 unfolding outcome
-bounded input = by-length input (ltb 18448 (length input)) refl
+bounded input = by-length input (ltb mostInput (length input)) refl
 
 -- ---- an output that holds every text
 
@@ -134,7 +135,7 @@ pub record TextAnswer (o : Outcome) (n : ℕ) (now : List ℕ) : Type 0 where
 
 pub record RefusedAnswer (o : Outcome) (n line : ℕ) (old now : List ℕ) : Type 0 where
   pub number : n ≤ 14
-  pub place : line ≤ 18450
+  pub place : line ≤ mostInput + 2
   pub kept : now ≡ old
   pub is : refusedLine n line ≡ outcomeText o
 

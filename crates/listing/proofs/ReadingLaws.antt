@@ -18,6 +18,7 @@ use lib.ListN.{length, take, drop, length-take, length-drop}
 use lib.Seq.{take-at, take-length}
 use lib.Dec.{leb, eqb}
 use borrow.Author.Tests.{leb-true, lt-ltb, le-ltb}
+use Rattle.text.specs.Layout.{queryLayout, queryBytes, mostInput}
 use Rattle.text.specs.Line.{prepend, linesOf, firstLine, isWhole, rowOf, queryFrom, queryOf}
 use Rattle.text.specs.Table.{dayOf, firstOf, secondOf, daysOf, firstsOf, secondsOf, faultOr, judgedFrom, roomFor, tableReadOf, filled, place}
 use Rattle.text.specs.declared.lines.Line.{Line}
@@ -148,40 +149,40 @@ module _ (text : List ℕ) (k lo hi : ℕ) (days first second : List ℕ) {days�
 no-query : {A : Type 0} (k lo hi : ℕ) → QueryRead.BadLength ≡ QueryRead.Query k lo hi → A
 no-query k lo hi e = absurd-eq (cc)
 
-pub query-fits : (s : List ℕ) (k lo hi : ℕ) → queryOf s ≡ QueryRead.Query k lo hi → 16 ≤ length s
+pub query-fits : (s : List ℕ) (k lo hi : ℕ) → queryOf s ≡ QueryRead.Query k lo hi → queryBytes ≤ length s
 unfolding queryOf
-query-fits [] k lo hi e = no-query k lo hi (sym (ap queryFrom (step-none 5 5 5 [] refl)) ∙ e)
+query-fits [] k lo hi e = no-query k lo hi (sym (ap queryFrom (step-none queryLayout [] refl)) ∙ e)
 query-fits (x ∷ xs) k lo hi e =
-    ⊎-elim (λ t. whole-fits (x ∷ xs) 16 t) (λ t. no-query k lo hi (sym (ap queryFrom (step-short 5 5 5 (x ∷ xs) (omega arith) t)) ∙ e))
-    (look (isWhole 16 (firstLine (x ∷ xs))))
+    ⊎-elim (λ t. whole-fits (x ∷ xs) queryBytes t) (λ t. no-query k lo hi (sym (ap queryFrom (step-short queryLayout (x ∷ xs) (omega arith) t)) ∙ e))
+    (look (isWhole queryBytes (firstLine (x ∷ xs))))
 
-module _ (input : List ℕ) (short : length input ≤ 18448) where
-  by-query : {r : QueryRead} → r ≡ queryOf input → outcome input ≡ fromQuery r (drop 16 input)
+module _ (input : List ℕ) (short : length input ≤ mostInput) where
+  by-query : {r : QueryRead} → r ≡ queryOf input → outcome input ≡ fromQuery r (drop queryBytes input)
   unfolding outcome unlessLong
-  by-query e = rw (le-ltb 18448 (length input) short, e)
+  by-query e = rw (le-ltb mostInput (length input) short, e)
 
   -- the part of the input behind the query line
   rest : List ℕ
-  rest = take (length input - 16) (drop 16 input)
+  rest = take (length input - queryBytes) (drop queryBytes input)
 
-  rest-is : rest ≡ drop 16 input
+  rest-is : rest ≡ drop queryBytes input
   unfolding rest
-  rest-is = ap (λ (k : ℕ). take k (drop 16 input)) (sym (length-drop 16 input)) ∙ take-length (drop 16 input)
+  rest-is = ap (λ (k : ℕ). take k (drop queryBytes input)) (sym (length-drop queryBytes input)) ∙ take-length (drop queryBytes input)
 
   pub asks-query : {r : QueryRead} {k lo hi : ℕ} {a : Asked} {d f s : List ℕ} → r ≡ queryOf input → r ≡ QueryRead.Query k lo hi
-      → Asks (fromRows (tableReadOf (take (length input - 16) (drop 16 input)) 1024 1024 1024) (tableOf (take (length input - 16) (drop 16 input))) (query k) lo hi) a d f s → Asks (outcome input) a d f s
+      → Asks (fromRows (tableReadOf (take (length input - queryBytes) (drop queryBytes input)) 1024 1024 1024) (tableOf (take (length input - queryBytes) (drop queryBytes input))) (query k) lo hi) a d f s → Asks (outcome input) a d f s
   unfolding fromQuery rest
   asks-query {r} {k} {lo} {hi} e q h =
       record { most = h .most; is = by-query (sym q ∙ e) ∙ ap (λ (l : List ℕ). fromRows (tableReadOf l 1024 1024 1024) (tableOf l) (query k) lo hi) (sym rest-is) ∙ h .is }
 
-  pub asks-none : {r : QueryRead} (q : QueryRead) {n line : ℕ} {d f s : List ℕ} → r ≡ queryOf input → r ≡ q → fromQuery q (drop 16 input) ≡ stopped n line
+  pub asks-none : {r : QueryRead} (q : QueryRead) {n line : ℕ} {d f s : List ℕ} → r ≡ queryOf input → r ≡ q → fromQuery q (drop queryBytes input) ≡ stopped n line
       → Asks (outcome input) (Asked.Refused n line) d f s
   unfolding rowsOf asked
   asks-none q e t h = record { most = omega arith; is = by-query (sym t ∙ e) ∙ h }
 
-pub too-long : (input : List ℕ) → 18448 < length input → outcome input ≡ stopped 2 0
+pub too-long : (input : List ℕ) → mostInput < length input → outcome input ≡ stopped 2 0
 unfolding outcome unlessLong stoppedBy numberOf inputLine
-too-long input h = rw (lt-ltb 18448 (length input) h)
+too-long input h = rw (lt-ltb mostInput (length input) h)
 
 module _ {o : Outcome} {a : Asked} {d f s : List ℕ} (h : Asks o a d f s) where
   pub asked-none : {n line : ℕ} → a ≡ Asked.Refused n line → o ≡ stopped n line

@@ -19,6 +19,7 @@ use mathlib.Core.Bool.{Bool, true, false}
 use mathlib.Core.List.{List}
 use lib.ListN.{length, drop}
 use lib.Dec.{ltb}
+use Rattle.text.specs.Layout.{queryBytes, mostInput}
 use Rattle.text.specs.Line.{queryOf, queryNumber, queryPlace}
 use Rattle.text.specs.Table.{daysOf, firstsOf, secondsOf, tableReadOf, number, place}
 use Rattle.text.specs.declared.lines.QueryRead.{QueryRead}
@@ -98,4 +99,4 @@ unlessLong false o = o
 
 -- 01: "a query line of 16 bytes .., then rows"
 unfoldable pub outcome : List ℕ → Outcome
-outcome input = unlessLong (ltb 18448 (length input)) (fromQuery (queryOf input) (drop 16 input))
+outcome input = unlessLong (ltb mostInput (length input)) (fromQuery (queryOf input) (drop queryBytes input))

@@ -12,8 +12,8 @@ use Prim.Native.Nat.{ℕ}
 use mathlib.Core.Path.{_≡_, refl}
 use mathlib.Core.List.{List, [], _∷_, _++_}
 use lib.ListN.{replicate}
-use Rattle.text.specs.Decimal.{unblank, isDigit, allDigits, leadsWell, isNumeral, value, numeralUpTo, fieldUpTo, fieldOf}
-use Rattle.text.specs.Line.{prepend, linesOf, firstLine, isWhole, judged, lineAs, stepAs, rowOf, stepAt, queryOf}
+use Rattle.text.specs.Decimal.{unblank, isDigit, allDigits, leadsWell, isNumeral, value, numeralOf, fieldOf}
+use Rattle.text.specs.Line.{prepend, linesOf, firstLine, isWhole, judged, fieldAt, lineAs, stepAs, rowOf, stepAt, queryOf}
 use Rattle.text.specs.Table.{daysOf, firstsOf, secondsOf, judgedFrom, tableReadOf}
 use Rattle.text.specs.Print.{columnOf, printed, listingLine, entryLines, listingText, refusedLine}
 use Rattle.text.specs.TextNumbers.{five, six, row}
@@ -44,8 +44,8 @@ seasonList = headLine ++ line 1 2 1 3 ++ line 1 4 3 4 ++ line 1 6 5 6 ++ line 2 
 unfoldable pub compute-program : Unit {0}
 unfolding
     compute memberDays lowest firstDay lastDay nonempty tightest tight entryOf listing rowSum listingChecks summed listingAnswer
-    unblank isDigit allDigits leadsWell isNumeral value numeralUpTo fieldUpTo fieldOf
-    prepend linesOf firstLine isWhole judged lineAs stepAs rowOf stepAt queryOf daysOf firstsOf secondsOf judgedFrom tableReadOf
+    unblank isDigit allDigits leadsWell isNumeral value numeralOf fieldOf
+    prepend linesOf firstLine isWhole judged fieldAt lineAs stepAs rowOf stepAt queryOf daysOf firstsOf secondsOf judgedFrom tableReadOf
     columnOf printed listingLine entryLines listingText refusedLine
     readerLine inputLine stoppedBy unlessRefused tableOf fromList listedBy fromRows badQuery fromQuery unlessLong outcome
     span lineOf listText outcomeText programText refusedOf fitted listAnswer listOutput printedReport

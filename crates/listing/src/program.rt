@@ -5,6 +5,7 @@ ghost use lib.ListN.{length};
 ghost use Rattle.rings.specs.Refusals.{placeOf};
 ghost use Rattle.rings.specs.Ring.{query};
 ghost use Rattle.rings.specs.Table.{tableOf as columns};
+ghost use Rattle.text.specs.Layout.{mostInput};
 ghost use Rattle.text.specs.Table.{place, tableReadOf};
 ghost use Rattle.text.specs.Print.{pasted};
 ghost use Rattle.listing.specs.Program.{found, rowLine, readerLine, tableOf, listed, fromRows, outcome};
@@ -15,6 +16,8 @@ use crate::Printed;
 use crate::list::list_rings;
 use rings::Query;
 use rings::Refusal;
+use text::MOST_INPUT;
+use text::QUERY_BYTES;
 use text::QueryRead;
 use text::TableRead;
 use text::put_header;
@@ -75,7 +78,7 @@ fn refused(r: Refusal) -> Printed
 
 // A refusal of the reader: its line 1 is input line 2, and its place 0 is no line.
 fn at_line(number: u32, line: usize) -> Asked
-    requires { ⌜ line ≤ 18448 ⌝ }
+    requires { ⌜ line ≤ mostInput ⌝ }
     ensures { λ r. ⌜ r ≡ Asked.Refused number (readerLine line) ⌝ }
 {
     if line == 0 {
@@ -89,7 +92,7 @@ fn at_line(number: u32, line: usize) -> Asked
 
 // What the reader's answer comes to.
 fn asked_by(read: TableRead, k: u16, ts: u16, te: u16) -> Asked
-    requires { ⌜ place read ≤ 18448 ⌝ }
+    requires { ⌜ place read ≤ mostInput ⌝ }
     ensures { λ r. ⌜ r ≡ askedBy read k ts te ⌝ }
 {
     match read {
@@ -111,7 +114,7 @@ fn read_rows(
     first: &mut [u16],
     second: &mut [u16],
 ) -> Asked
-    requires { ⌜ length (now text) ≤ 18448 ⌝ }
+    requires { ⌜ length (now text) ≤ mostInput ⌝ }
     requires { ⌜ (length (now days) ≡ 1024) × (length (now first) ≡ 1024) × (length (now second) ≡ 1024) ⌝ }
     ensures { λ r. ⌜ Asks (fromRows (tableReadOf (now (text .entry)) 1024 1024 1024) (tableOf (now (text .entry))) (query k) ts te) r (now (days .exit)) (now (first .exit)) (now (second .exit)) ⌝ }
 {
@@ -121,14 +124,14 @@ fn read_rows(
 
 // The query line, then the rows.
 fn read_input(input: &[u8], days: &mut [u16], first: &mut [u16], second: &mut [u16]) -> Asked
-    requires { ⌜ length (now input) ≤ 18448 ⌝ }
+    requires { ⌜ length (now input) ≤ mostInput ⌝ }
     requires { ⌜ (length (now days) ≡ 1024) × (length (now first) ≡ 1024) × (length (now second) ≡ 1024) ⌝ }
     ensures { λ r. ⌜ Asks (outcome (now (input .entry))) r (now (days .exit)) (now (first .exit)) (now (second .exit)) ⌝ }
 {
     let line = read_query(input);
     match line {
         QueryRead::Query(k, ts, te) => {
-            return read_rows(&input[16..], k, ts, te, days, first, second);
+            return read_rows(&input[QUERY_BYTES..], k, ts, te, days, first, second);
         }
         QueryRead::BadLength => {
             return Asked::Refused {
@@ -237,7 +240,7 @@ pub fn list_text(input: &[u8], output: &mut [u8]) -> Printed
     ensures { λ r. ⌜ r ≡ listAnswer (outcome (now (input .entry))) (length (now (output .entry))) ⌝ }
     ensures { λ r. ⌜ now (output .exit) ≡ listOutput r (outcome (now (input .entry))) (now (output .entry)) ⌝ }
 {
-    if 18448 < input.len() {
+    if MOST_INPUT < input.len() {
         return Printed::Refused { number: 2, line: 0 };
     }
     let mut days = [0u16; 1024];

@@ -1,9 +1,10 @@
 // The listing program: a query and rows from standard input, their listing or the refused line to standard output.
 ghost use mathlib.Core.Path.{_≡_};
-ghost use Prim.Native.Nat.{ℕ, _≤_};
+ghost use Prim.Native.Nat.{ℕ, _+_, _≤_, _<_};
 ghost use mathlib.Core.List.{List};
 ghost use lib.ListN.{length, take};
 ghost use Rattle.io.specs.Counts.{Counts};
+ghost use Rattle.text.specs.Layout.{mostInput};
 ghost use Rattle.text.specs.Print.{refusedLine};
 ghost use Rattle.listing.specs.ProgramText.{programText};
 ghost use Rattle.listing.specs.ProgramInput.{Brought};
@@ -11,11 +12,12 @@ use libc::STDIN_FILENO;
 use libc::STDOUT_FILENO;
 use listing::Printed;
 use listing::list_text;
+use text::MOST_INPUT;
 use text::put_refused;
 
 // The refused line, of 19 bytes.
 fn refuse(number: u32, line: usize, output: &mut [u8]) -> usize
-    requires { ⌜ (number ≤ 14) × (line ≤ 18450) × (length (now output) ≡ 45078) ⌝ }
+    requires { ⌜ (number ≤ 14) × (line ≤ mostInput + 2) × (length (now output) ≡ 45078) ⌝ }
     ensures { λ r. ⌜ Counts r (now (output .exit)) ⌝ }
     ensures { λ r. ⌜ take r (now (output .exit)) ≡ refusedLine number line ⌝ }
 {
@@ -40,11 +42,11 @@ fn print(input: &[u8], output: &mut [u8]) -> usize
     }
 }
 
-// What the program prints for the input of which a read brought so many bytes into the buffer. 18,449 bytes are one more than an input may have: a
-// longer one is seen to be too long, and of any other all is there.
+// What the program prints for the input of which a read brought so many bytes into the buffer. The buffer has one byte more than an input
+// may have: a longer one is seen to be too long, and of any other all is there.
 fn answer(buffer: &[u8], read: usize, output: &mut [u8]) -> usize
     requires { ⌜ Counts read (now buffer) ⌝ }
-    requires { ⌜ (18449 ≤ length (now buffer)) × (length (now output) ≡ 45078) ⌝ }
+    requires { ⌜ (mostInput < length (now buffer)) × (length (now output) ≡ 45078) ⌝ }
     ensures { λ r. ⌜ Counts r (now (output .exit)) ⌝ }
     ensures { λ r. ⌜ ((input : List ℕ) → Brought input (now (buffer .entry)) read → take r (now (output .exit)) ≡ programText input) ⌝ }
 {
@@ -52,7 +54,7 @@ fn answer(buffer: &[u8], read: usize, output: &mut [u8]) -> usize
 }
 
 fn main() {
-    let mut buffer = [0u8; 18449];
+    let mut buffer = [0u8; MOST_INPUT + 1];
     let mut output = [0u8; 45078];
     let read = io::read_full(STDIN_FILENO, &mut buffer);
     let size = answer(&buffer, read, &mut output);

@@ -9,8 +9,9 @@
 use mathlib.Core.Path.{_≡_, refl}
 use mathlib.Core.List.{List, [], _∷_}
 use Prim.Native.Nat.{ℕ}
-use Rattle.text.specs.Decimal.{fieldOf, fieldUpTo, numeralUpTo, unblank, isNumeral, leadsWell, allDigits, isDigit, value}
-use Rattle.text.specs.Line.{linesOf, prepend, isWhole, judged, lineAs, stepAs, rowOf, queryOf}
+use Rattle.text.specs.Layout.{largest}
+use Rattle.text.specs.Decimal.{fieldOf, numeralOf, unblank, isNumeral, leadsWell, allDigits, isDigit, value}
+use Rattle.text.specs.Line.{linesOf, prepend, isWhole, judged, fieldAt, lineAs, stepAs, rowOf, queryOf}
 use Rattle.text.specs.Table.{judgedFrom, tableReadOf, daysOf}
 use Rattle.text.specs.Print.{printed, columnOf, listingLine, refusedLine}
 use Rattle.text.specs.declared.decimal.Field.the-variants.{Number, Large, Broken}
@@ -19,44 +20,44 @@ use Rattle.text.specs.declared.table.TableRead.the-variants.{Rows}
 
 -- ---- fields
 
-zero-field : fieldOf (32 ∷ 32 ∷ 32 ∷ 32 ∷ 48 ∷ []) ≡ Number 0
-unfolding fieldOf fieldUpTo numeralUpTo unblank isNumeral leadsWell allDigits isDigit value
+zero-field : fieldOf largest (32 ∷ 32 ∷ 32 ∷ 32 ∷ 48 ∷ []) ≡ Number 0
+unfolding fieldOf numeralOf unblank isNumeral leadsWell allDigits isDigit value
 zero-field = refl
 
-largest-field : fieldOf (32 ∷ 54 ∷ 53 ∷ 53 ∷ 51 ∷ 53 ∷ []) ≡ Number 65535
-unfolding fieldOf fieldUpTo numeralUpTo unblank isNumeral leadsWell allDigits isDigit value
+largest-field : fieldOf largest (32 ∷ 54 ∷ 53 ∷ 53 ∷ 51 ∷ 53 ∷ []) ≡ Number 65535
+unfolding fieldOf numeralOf unblank isNumeral leadsWell allDigits isDigit value
 largest-field = refl
 
-large-field : fieldOf (32 ∷ 54 ∷ 53 ∷ 53 ∷ 51 ∷ 54 ∷ []) ≡ Large
-unfolding fieldOf fieldUpTo numeralUpTo unblank isNumeral leadsWell allDigits isDigit value
+large-field : fieldOf largest (32 ∷ 54 ∷ 53 ∷ 53 ∷ 51 ∷ 54 ∷ []) ≡ Large
+unfolding fieldOf numeralOf unblank isNumeral leadsWell allDigits isDigit value
 large-field = refl
 
-needless-zero : fieldOf (48 ∷ 54 ∷ 53 ∷ 53 ∷ 51 ∷ 54 ∷ []) ≡ Broken
-unfolding fieldOf fieldUpTo numeralUpTo unblank isNumeral leadsWell allDigits isDigit value
+needless-zero : fieldOf largest (48 ∷ 54 ∷ 53 ∷ 53 ∷ 51 ∷ 54 ∷ []) ≡ Broken
+unfolding fieldOf numeralOf unblank isNumeral leadsWell allDigits isDigit value
 needless-zero = refl
 
-two-zeros : fieldOf (48 ∷ 48 ∷ []) ≡ Broken
-unfolding fieldOf fieldUpTo numeralUpTo unblank isNumeral leadsWell allDigits isDigit value
+two-zeros : fieldOf largest (48 ∷ 48 ∷ []) ≡ Broken
+unfolding fieldOf numeralOf unblank isNumeral leadsWell allDigits isDigit value
 two-zeros = refl
 
-all-blank : fieldOf (32 ∷ 32 ∷ 32 ∷ 32 ∷ 32 ∷ []) ≡ Broken
-unfolding fieldOf fieldUpTo numeralUpTo unblank isNumeral leadsWell allDigits isDigit value
+all-blank : fieldOf largest (32 ∷ 32 ∷ 32 ∷ 32 ∷ 32 ∷ []) ≡ Broken
+unfolding fieldOf numeralOf unblank isNumeral leadsWell allDigits isDigit value
 all-blank = refl
 
-empty-field : fieldOf ([]) ≡ Broken
-unfolding fieldOf fieldUpTo numeralUpTo unblank isNumeral leadsWell allDigits isDigit value
+empty-field : fieldOf largest ([]) ≡ Broken
+unfolding fieldOf numeralOf unblank isNumeral leadsWell allDigits isDigit value
 empty-field = refl
 
-blank-behind : fieldOf (49 ∷ 50 ∷ 32 ∷ []) ≡ Broken
-unfolding fieldOf fieldUpTo numeralUpTo unblank isNumeral leadsWell allDigits isDigit value
+blank-behind : fieldOf largest (49 ∷ 50 ∷ 32 ∷ []) ≡ Broken
+unfolding fieldOf numeralOf unblank isNumeral leadsWell allDigits isDigit value
 blank-behind = refl
 
-two-numbers : fieldOf (49 ∷ 32 ∷ 32 ∷ 50 ∷ []) ≡ Broken
-unfolding fieldOf fieldUpTo numeralUpTo unblank isNumeral leadsWell allDigits isDigit value
+two-numbers : fieldOf largest (49 ∷ 32 ∷ 32 ∷ 50 ∷ []) ≡ Broken
+unfolding fieldOf numeralOf unblank isNumeral leadsWell allDigits isDigit value
 two-numbers = refl
 
-million : fieldOf (49 ∷ 48 ∷ 48 ∷ 48 ∷ 48 ∷ 48 ∷ 48 ∷ []) ≡ Large
-unfolding fieldOf fieldUpTo numeralUpTo unblank isNumeral leadsWell allDigits isDigit value
+million : fieldOf largest (49 ∷ 48 ∷ 48 ∷ 48 ∷ 48 ∷ 48 ∷ 48 ∷ []) ≡ Large
+unfolding fieldOf numeralOf unblank isNumeral leadsWell allDigits isDigit value
 million = refl
 
 -- ---- lines
@@ -82,15 +83,15 @@ example =
     32 ∷ 32 ∷ 32 ∷ 32 ∷ 54 ∷ 32 ∷ 32 ∷ 32 ∷ 32 ∷ 32 ∷ 50 ∷ 32 ∷ 32 ∷ 32 ∷ 32 ∷ 32 ∷ 52 ∷ 10 ∷ []
 
 example-reads : tableReadOf example 6 7 6 ≡ Rows 6
-unfolding example tableReadOf judgedFrom rowOf lineAs judged isWhole linesOf prepend fieldOf fieldUpTo numeralUpTo unblank isNumeral leadsWell allDigits isDigit value
+unfolding example tableReadOf judgedFrom rowOf lineAs fieldAt judged isWhole linesOf prepend fieldOf numeralOf unblank isNumeral leadsWell allDigits isDigit value
 example-reads = refl
 
 example-days : daysOf example ≡ 1 ∷ 2 ∷ 2 ∷ 4 ∷ 5 ∷ 6 ∷ []
-unfolding example daysOf rowOf lineAs judged isWhole linesOf prepend fieldOf fieldUpTo numeralUpTo unblank isNumeral leadsWell allDigits isDigit value
+unfolding example daysOf rowOf lineAs fieldAt judged isWhole linesOf prepend fieldOf numeralOf unblank isNumeral leadsWell allDigits isDigit value
 example-days = refl
 
 example-query : queryOf (32 ∷ 32 ∷ 32 ∷ 32 ∷ 50 ∷ 32 ∷ 32 ∷ 32 ∷ 32 ∷ 49 ∷ 32 ∷ 32 ∷ 32 ∷ 32 ∷ 54 ∷ 10 ∷ []) ≡ Query 2 1 6
-unfolding queryOf stepAs lineAs judged isWhole linesOf prepend fieldOf fieldUpTo numeralUpTo unblank isNumeral leadsWell allDigits isDigit value
+unfolding queryOf stepAs lineAs fieldAt judged isWhole linesOf prepend fieldOf numeralOf unblank isNumeral leadsWell allDigits isDigit value
 example-query = refl
 
 example-line : listingLine 1 4 3 4 ≡ 32 ∷ 32 ∷ 32 ∷ 32 ∷ 49 ∷ 32 ∷ 32 ∷ 32 ∷ 32 ∷ 52 ∷ 32 ∷ 32 ∷ 32 ∷ 32 ∷ 51 ∷ 32 ∷ 32 ∷ 32 ∷ 32 ∷ 32 ∷ 52 ∷ 10 ∷ []

@@ -27,7 +27,8 @@ use lib.Dec.{leb, ltb, eqb, lit<}
 use lib.ListN.{length, getD, take, drop, length-drop}
 use lib.Seq.{drop-cons, drop-length, take-all}
 use borrow.Author.Tests.{leb-true, eq-eqb, ne-eqb, le-leb, lt-leb, lt-ltb}
-use Rattle.text.specs.Decimal.{unblank, isDigit, allDigits, leadsWell, isNumeral, value, numeralUpTo, fieldUpTo}
+use Rattle.text.specs.Layout.{mostDigits}
+use Rattle.text.specs.Decimal.{unblank, isDigit, allDigits, leadsWell, isNumeral, value, numeralOf, fieldOf}
 use Rattle.text.specs.declared.decimal.Field.the-variants.{Number, Large, Broken}
 use Rattle.text.proofs.Tests.{and-left, and-right, pick-true, pick-false}
 
@@ -141,10 +142,10 @@ unfolding value
 value-end f i e = rw (e, drop-length f)
 
 -- the part of one digit fits beside the sum so far
-pub value-sum : (f : List ℕ) (i p sum : ℕ) → i < length f → p ≡ 10 ^ (length f - 1 - i) → allDigits f ≡ true → length f ≤ 5 → sum + value (drop i f) ≡ value f
-    → sum + (getD f i 0 - 48) * p < 10 ^ 5
+pub value-sum : (f : List ℕ) (i p sum : ℕ) → i < length f → p ≡ 10 ^ (length f - 1 - i) → allDigits f ≡ true → length f ≤ mostDigits → sum + value (drop i f) ≡ value f
+    → sum + (getD f i 0 - 48) * p < 10 ^ mostDigits
 value-sum f i p sum h q e l s =
-    let m : 10 ^ length f ≤ 10 ^ 5 = pow-le-pow-right (lit< tt) l in
+    let m : 10 ^ length f ≤ 10 ^ mostDigits = pow-le-pow-right (lit< tt) l in
     omega (arith, value-below f e, value-next f i p h q)
 
 leads : (ds : List ℕ) → isNumeral ds ≡ true → 1 < length ds → getD ds 0 0 ≡ 48 → ⊥
@@ -165,16 +166,16 @@ numeral-above (b ∷ bs) k e p h =
 -- ---- fields, for any limit
 
 module _ (limit : ℕ) (f : List ℕ) where
-  pub broken-field : isNumeral (unblank f) ≡ false → fieldUpTo limit f ≡ Broken
-  unfolding fieldUpTo numeralUpTo
+  pub broken-field : isNumeral (unblank f) ≡ false → fieldOf limit f ≡ Broken
+  unfolding fieldOf numeralOf
   broken-field e = pick-false _ _ _ e
 
-  pub large-field : isNumeral (unblank f) ≡ true → limit < value (unblank f) → fieldUpTo limit f ≡ Large
-  unfolding fieldUpTo numeralUpTo
+  pub large-field : isNumeral (unblank f) ≡ true → limit < value (unblank f) → fieldOf limit f ≡ Large
+  unfolding fieldOf numeralOf
   large-field e h = pick-true _ _ _ e ∙ pick-false _ _ _ (lt-leb _ _ h)
 
-  pub number-field : isNumeral (unblank f) ≡ true → value (unblank f) ≤ limit → fieldUpTo limit f ≡ Number (value (unblank f))
-  unfolding fieldUpTo numeralUpTo
+  pub number-field : isNumeral (unblank f) ≡ true → value (unblank f) ≤ limit → fieldOf limit f ≡ Number (value (unblank f))
+  unfolding fieldOf numeralOf
   number-field e h = pick-true _ _ _ e ∙ pick-true _ _ _ (le-leb _ _ h)
 
 -- ---- the field without its blanks, as the part of the slice that the code takes
@@ -186,19 +187,22 @@ pub tail-is : (f : List ℕ) (r : ℕ) → tail f r ≡ drop r f
 tail-is f r = take-all (length f - r) (drop r f) (le-of-eq (length-drop r f))
 
 module _ (limit : ℕ) (f : List ℕ) (r : ℕ) (e : drop r f ≡ unblank f) where
-  pub tail-broken : {b : Bool} → b ≡ isNumeral (tail f r) → b ≡ false → Broken ≡ fieldUpTo limit f
-  tail-broken p q = sym (broken-field limit f (ap isNumeral (sym (tail-is f r ∙ e)) ∙ sym p ∙ q))
+  is-field : tail f r ≡ unblank f
+  is-field = tail-is f r ∙ e
 
-  is-numeral : {b : Bool} → b ≡ isNumeral (tail f r) → b ≡ true → isNumeral (unblank f) ≡ true
-  is-numeral p q = ap isNumeral (sym (tail-is f r ∙ e)) ∙ sym p ∙ q
+  pub tail-broken : isNumeral (tail f r) ≡ false → Broken ≡ fieldOf limit f
+  tail-broken p = sym (broken-field limit f (rw is-field at p))
 
-  pub tail-large : {b : Bool} (k : ℕ) → b ≡ isNumeral (tail f r) → b ≡ true → 0 < k → k < length (tail f r) → limit < 10 ^ k → Large ≡ fieldUpTo limit f
-  tail-large k p q z h l =
-      sym (large-field limit f (is-numeral p q) (lt-of-lt-of-le l (numeral-above (unblank f) k (is-numeral p q) z (rw (tail-is f r ∙ e) at h))))
+  pub tail-large : (k : ℕ) → isNumeral (tail f r) ≡ true → 0 < k → k < length (tail f r) → limit < 10 ^ k → Large ≡ fieldOf limit f
+  tail-large k p z h l =
+      let numeral : isNumeral (unblank f) ≡ true = rw is-field at p in
+      let above : 10 ^ k ≤ value (unblank f) = numeral-above (unblank f) k numeral z (rw is-field at h) in
+      sym (large-field limit f numeral (lt-of-lt-of-le l above))
 
-  pub tail-high : {b : Bool} {n : ℕ} → b ≡ isNumeral (tail f r) → b ≡ true → n ≡ value (tail f r) → limit < n → Large ≡ fieldUpTo limit f
-  tail-high p q v h = sym (large-field limit f (is-numeral p q) (rw (v ∙ ap value (tail-is f r ∙ e)) at h))
+  pub tail-high : {n : ℕ} → isNumeral (tail f r) ≡ true → n ≡ value (tail f r) → limit < n → Large ≡ fieldOf limit f
+  tail-high p v h = sym (large-field limit f (rw is-field at p) (rw (v ∙ ap value is-field) at h))
 
-  pub tail-number : {b : Bool} {n : ℕ} → b ≡ isNumeral (tail f r) → b ≡ true → n ≡ value (tail f r) → n ≤ limit → Number n ≡ fieldUpTo limit f
-  tail-number p q v h =
-      ap Number (v ∙ ap value (tail-is f r ∙ e)) ∙ sym (number-field limit f (is-numeral p q) (rw (v ∙ ap value (tail-is f r ∙ e)) at h))
+  pub tail-number : {n : ℕ} → isNumeral (tail f r) ≡ true → n ≡ value (tail f r) → n ≤ limit → Number n ≡ fieldOf limit f
+  tail-number p v h =
+      let is = v ∙ ap value is-field in
+      ap Number is ∙ sym (number-field limit f (rw is-field at p) (rw is at h))

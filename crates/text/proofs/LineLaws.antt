@@ -7,7 +7,7 @@
 --   short-line early-end open-line whole-line line-ends     the test for a whole line, by the code's cases
 --   whole-size whole-first whole-fits     a whole first line is the text's first bytes
 --   part-of                   a part of the first bytes is a part of the text
---   step-none step-first step-short step-whole step-judged   what the first line holds, by the code's cases
+--   step-none step-first step-short step-whole part-field step-judged   what the first line holds, by the code's cases
 --   step-past step-within     past the text there is no line; within it, the part that the code takes
 --   next-start lines-from step-from     where each line before line n is 18 bytes, the reader finds line n
 --   found-line                the same where line n is reached, past the last line too
@@ -27,8 +27,11 @@ use lib.Dec.{eqb}
 use lib.ListN.{length, getD, take, drop, length-drop}
 use lib.Seq.{take-take, length-take-le, getD-take, drop-drop, drop-cons, drop-length}
 use borrow.Author.Tests.{eq-eqb, ne-eqb, eqb-true, eqb-false}
+use Rattle.text.specs.Layout.{bytesOf, tableLayout, lineBytes}
 use Rattle.text.specs.Decimal.{fieldOf}
-use Rattle.text.specs.Line.{prepend, linesOf, firstLine, isWhole, judged, lineAs, stepAs, stepAt, passed, stepFrom, lineAt, Reached}
+use Rattle.text.specs.Line.{prepend, linesOf, firstLine, isWhole, judged, fieldAt, lineAs, stepAs, stepAt, passed, stepFrom, lineAt, Reached}
+use Rattle.text.specs.declared.layout.Format.{Format}
+use Rattle.text.specs.declared.layout.Layout.{Layout}
 use Rattle.text.specs.declared.lines.Line.{Line}
 use Rattle.text.specs.declared.lines.Line.the-variants.{Row, End, BadLength, BadField, LargeNumber}
 use Rattle.text.specs.declared.lines.Step.{Step}
@@ -165,52 +168,63 @@ part-of (suc a) b (suc n) (x ∷ s) h = part-of a b n s (omega arith)
 
 -- ---- what the first line holds
 
-pub step-none : (a b c : ℕ) (s : List ℕ) → length s ≡ 0 → stepAs a b c (linesOf s) ≡ End
+pub step-none : (y : Layout) (s : List ℕ) → length s ≡ 0 → stepAs y (linesOf s) ≡ End
 unfolding stepAs linesOf
-step-none a b c [] e = refl
-step-none a b c (x ∷ s) e = let z : ⊥ = omega arith in absurd z
+step-none y [] e = refl
+step-none y (x ∷ s) e = let z : ⊥ = omega arith in absurd z
 
-pub step-first : (a b c : ℕ) (s : List ℕ) → 0 < length s → stepAs a b c (linesOf s) ≡ lineAs a b c (firstLine s)
+pub step-first : (y : Layout) (s : List ℕ) → 0 < length s → stepAs y (linesOf s) ≡ lineAs y (firstLine s)
 unfolding stepAs
-step-first a b c s h = ap (stepAs a b c) (lines-first s h)
+step-first y s h = ap (stepAs y) (lines-first s h)
 
-pub step-short : (a b c : ℕ) (s : List ℕ) → 0 < length s → isWhole (a + b + c + 1) (firstLine s) ≡ false → stepAs a b c (linesOf s) ≡ BadLength
+pub step-short : (y : Layout) (s : List ℕ) → 0 < length s → isWhole (bytesOf y) (firstLine s) ≡ false → stepAs y (linesOf s) ≡ BadLength
 unfolding lineAs
-step-short a b c s h e = step-first a b c s h ∙ pick-false _ _ _ e
+step-short y s h e = step-first y s h ∙ pick-false _ _ _ e
 
-pub step-whole : (a b c : ℕ) (s : List ℕ) → 0 < length s → isWhole (a + b + c + 1) (firstLine s) ≡ true
-    → stepAs a b c (linesOf s) ≡ judged (fieldOf (take a s)) (fieldOf (take b (drop a s))) (fieldOf (take c (drop (a + b) s)))
+-- a field within the first n bytes
+field-part : (f : Format) (from n : ℕ) (s : List ℕ) → from + f .width ≤ n → fieldAt f from (take n s) ≡ fieldAt f from s
+unfolding fieldAt
+field-part f from n s h = ap (fieldOf (f .limit)) (part-of from (f .width) n s h)
+
+pub step-whole : (y : Layout) (s : List ℕ) → 0 < length s → isWhole (bytesOf y) (firstLine s) ≡ true
+    → stepAs y (linesOf s) ≡ judged (fieldAt (y .first) 0 s) (fieldAt (y .second) (y .first .width) s) (fieldAt (y .third) (y .first .width + y .second .width) s)
 unfolding lineAs
-step-whole a b c s h e =
-    step-first a b c s h ∙ pick-true _ _ _ e
-    ∙ rw (whole-first s (a + b + c + 1) e, part-of a b (a + b + c + 1) s (omega arith), part-of (a + b) c (a + b + c + 1) s (omega arith), take-take a (a + b + c + 1) s (omega arith))
+step-whole y s h e =
+    let a = y .first .width in
+    let b = y .second .width in
+    let part₁ = field-part (y .first) 0 (bytesOf y) s (omega arith) in
+    let part₂ = field-part (y .second) a (bytesOf y) s (omega arith) in
+    let part₃ = field-part (y .third) (a + b) (bytesOf y) s (omega arith) in
+    step-first y s h ∙ pick-true _ _ _ e ∙ rw (whole-first s (bytesOf y) e, part₁, part₂, part₃)
 
-pub step-past : (text : List ℕ) (n : ℕ) → length text / 18 < n → stepAt text n ≡ End
+pub step-past : (text : List ℕ) (n : ℕ) → length text / lineBytes < n → stepAt text n ≡ End
 unfolding stepAt
-step-past text n h = step-none 5 6 6 (drop (18 * n) text) (length-drop (18 * n) text ∙ omega arith)
+step-past text n h = step-none tableLayout (drop (lineBytes * n) text) (length-drop (lineBytes * n) text ∙ omega arith)
 
 pub whole-fits : (s : List ℕ) (n : ℕ) → isWhole n (firstLine s) ≡ true → n ≤ length s
 whole-fits s n e = omega (arith, first-length s, whole-size n (firstLine s) e)
 
--- the line's answer from the parts that the code takes
-pub step-judged : (a b c : ℕ) (s : List ℕ) {x y z : Field} {r : Line} → 0 < length s → isWhole (a + b + c + 1) (firstLine s) ≡ true
-    → x ≡ fieldOf (take (a - 0) s) → y ≡ fieldOf (take (a + b - a) (drop a s)) → z ≡ fieldOf (take (a + b + c - (a + b)) (drop (a + b) s))
-    → r ≡ judged x y z → r ≡ stepAs a b c (linesOf s)
-step-judged a b c s h e p q t j =
-    let i : a - 0 ≡ a = omega arith in
-    let k : a + b - a ≡ b = omega arith in
-    let l : a + b + c - (a + b) ≡ c = omega arith in
-    j ∙ rw (p, q, t, i, k, l) (sym (step-whole a b c s h e))
+-- a field, as the part of the slice that the code takes
+pub part-field : (f : Format) (s : List ℕ) (from : ℕ) {x : Field}
+    → x ≡ fieldOf (f .limit) (take (from + f .width - from) (drop from s)) → x ≡ fieldAt f from s
+unfolding fieldAt
+part-field f s from q = let w : from + f .width - from ≡ f .width = omega arith in q ∙ rw w
 
-pub step-within : (text : List ℕ) (n : ℕ) {r : Line} → r ≡ stepAs 5 6 6 (linesOf (tail text (18 * n))) → r ≡ stepAt text n
+-- the line's answer from the parts that the code takes
+pub step-judged : (y : Layout) (s : List ℕ) {a b c : Field} {r : Line} → 0 < length s → isWhole (bytesOf y) (firstLine s) ≡ true
+    → a ≡ fieldAt (y .first) 0 s → b ≡ fieldAt (y .second) (y .first .width) s → c ≡ fieldAt (y .third) (y .first .width + y .second .width) s
+    → r ≡ judged a b c → r ≡ stepAs y (linesOf s)
+step-judged y s h e p q t j = j ∙ rw (p, q, t) (sym (step-whole y s h e))
+
+pub step-within : (text : List ℕ) (n : ℕ) {r : Line} → r ≡ stepAs tableLayout (linesOf (tail text (lineBytes * n))) → r ≡ stepAt text n
 unfolding stepAt
-step-within text n e = e ∙ ap (λ (s : List ℕ). stepAs 5 6 6 (linesOf s)) (tail-is text (18 * n))
+step-within text n e = e ∙ ap (λ (s : List ℕ). stepAs tableLayout (linesOf s)) (tail-is text (lineBytes * n))
 
 -- ---- the line reader's place
 
--- line n + 1 starts 18 bytes behind line n
-pub next-start : (text : List ℕ) (n : ℕ) → drop 18 (drop (18 * n) text) ≡ drop (18 * (n + 1)) text
-next-start text n = let e : 18 * n + 18 ≡ 18 * (n + 1) = omega arith in drop-drop 18 (18 * n) text ∙ ap (λ (k : ℕ). drop k text) e
+-- line n + 1 starts a line's bytes behind line n
+pub next-start : (text : List ℕ) (n : ℕ) → drop lineBytes (drop (lineBytes * n) text) ≡ drop (lineBytes * (n + 1)) text
+next-start text n = let e : lineBytes * n + lineBytes ≡ lineBytes * (n + 1) = omega arith in drop-drop lineBytes (lineBytes * n) text ∙ ap (λ (k : ℕ). drop k text) e
 
 some-bytes : (s : List ℕ) → 0 < length (linesOf s) → 0 < length s
 unfolding linesOf
@@ -218,27 +232,27 @@ some-bytes [] h = h
 some-bytes (x ∷ xs) h = omega arith
 
 -- one line on, where s starts line n of the lines ls
-next-lines : (s : List ℕ) (ls : List (List ℕ)) (n : ℕ) {t : List ℕ} → linesOf s ≡ drop n ls → n < length ls → isWhole 18 (getD ls n []) ≡ true → drop 18 s ≡ t → linesOf t ≡ drop (suc n) ls
+next-lines : (s : List ℕ) (ls : List (List ℕ)) (n : ℕ) {t : List ℕ} → linesOf s ≡ drop n ls → n < length ls → isWhole lineBytes (getD ls n []) ≡ true → drop lineBytes s ≡ t → linesOf t ≡ drop (suc n) ls
 unfolding firstLine
 next-lines s ls n e h w q =
     let d : drop n ls ≡ getD ls n [] ∷ drop (suc n) ls = drop-cons ls n [] h in
     let f : firstLine s ≡ getD ls n [] = ap (λ (x : List (List ℕ)). getD x 0 []) (e ∙ d) in
-    let z : length (firstLine s) ≡ 18 = ap length f ∙ whole-size 18 (getD ls n []) w in
+    let z : length (firstLine s) ≡ lineBytes = ap length f ∙ whole-size lineBytes (getD ls n []) w in
     let p : 0 < length s = some-bytes s (omega (arith, ap length (e ∙ d))) in
     ap linesOf (sym q) ∙ ap (λ (k : ℕ). linesOf (drop k s)) (sym z) ∙ ap (drop 1) (sym (lines-first s p) ∙ e ∙ d)
 
 -- where each line before line n is 18 bytes, the lines from line n on are those of the text from byte 18 n on
-pub lines-from : (text : List ℕ) (n : ℕ) → n ≤ length (linesOf text) → ((i : ℕ) → i < n → isWhole 18 (getD (linesOf text) i []) ≡ true) → linesOf (drop (18 * n) text) ≡ drop n (linesOf text)
+pub lines-from : (text : List ℕ) (n : ℕ) → n ≤ length (linesOf text) → ((i : ℕ) → i < n → isWhole lineBytes (getD (linesOf text) i []) ≡ true) → linesOf (drop (lineBytes * n) text) ≡ drop n (linesOf text)
 lines-from text zero h w = refl
 lines-from text (suc n) h w = go (lines-from text n (omega arith) (λ i l. w i (omega arith)))
   where
-    go : linesOf (drop (18 * n) text) ≡ drop n (linesOf text) → linesOf (drop (18 * suc n) text) ≡ drop (suc n) (linesOf text)
-    go e = next-lines (drop (18 * n) text) (linesOf text) n e h (w n (omega arith)) (next-start text n ∙ ap (λ (k : ℕ). drop (18 * k) text) (add-one n))
+    go : linesOf (drop (lineBytes * n) text) ≡ drop n (linesOf text) → linesOf (drop (lineBytes * suc n) text) ≡ drop (suc n) (linesOf text)
+    go e = next-lines (drop (lineBytes * n) text) (linesOf text) n e h (w n (omega arith)) (next-start text n ∙ ap (λ (k : ℕ). drop (lineBytes * k) text) (add-one n))
 
 -- what the line reader finds there is what line n holds
-pub step-from : (text : List ℕ) (n : ℕ) → n ≤ length (linesOf text) → ((i : ℕ) → i < n → isWhole 18 (getD (linesOf text) i []) ≡ true) → stepAt text n ≡ stepAs 5 6 6 (drop n (linesOf text))
+pub step-from : (text : List ℕ) (n : ℕ) → n ≤ length (linesOf text) → ((i : ℕ) → i < n → isWhole lineBytes (getD (linesOf text) i []) ≡ true) → stepAt text n ≡ stepAs tableLayout (drop n (linesOf text))
 unfolding stepAt
-step-from text n h w = ap (stepAs 5 6 6) (lines-from text n h w)
+step-from text n h w = ap (stepAs tableLayout) (lines-from text n h w)
 
 -- ---- a step of the line reader
 
@@ -246,7 +260,7 @@ no-lines : (s : List ℕ) → linesOf s ≡ [] → length s ≡ 0
 no-lines [] e = refl
 no-lines (x ∷ xs) e = let z : ⊥ = omega (arith, ap length (sym (lines-first (x ∷ xs) (omega arith)) ∙ e)) in absurd z
 
-none-left : (ls : List (List ℕ)) → length ls ≡ 0 → stepAs 5 6 6 ls ≡ End
+none-left : (ls : List (List ℕ)) → length ls ≡ 0 → stepAs tableLayout ls ≡ End
 unfolding stepAs
 none-left [] e = refl
 none-left (l ∷ ls) e = let z : ⊥ = omega arith in absurd z
@@ -256,9 +270,9 @@ past-line : (text : List ℕ) (n : ℕ) → length (linesOf text) < n → Reache
 unfolding stepAt lineAt
 past-line text n past h =
     let m : ℕ = length (linesOf text) in
-    let rest : linesOf (drop (18 * m) text) ≡ [] = lines-from text m (le-refl m) (λ i l. h .each i (omega arith) l) ∙ drop-length (linesOf text) in
-    let size : length (drop (18 * m) text) ≡ 0 = no-lines (drop (18 * m) text) rest in
-    step-none 5 6 6 (drop (18 * n) text) (omega (arith, length-drop (18 * n) text, length-drop (18 * m) text))
+    let rest : linesOf (drop (lineBytes * m) text) ≡ [] = lines-from text m (le-refl m) (λ i l. h .each i (omega arith) l) ∙ drop-length (linesOf text) in
+    let size : length (drop (lineBytes * m) text) ≡ 0 = no-lines (drop (lineBytes * m) text) rest in
+    step-none tableLayout (drop (lineBytes * n) text) (omega (arith, length-drop (lineBytes * n) text, length-drop (lineBytes * m) text))
     ∙ sym (none-left (drop n (linesOf text)) (omega (arith, length-drop n (linesOf text))))
 
 pub found-line : (text : List ℕ) (n : ℕ) → Reached text n → stepAt text n ≡ lineAt text n
@@ -274,11 +288,11 @@ passed-most BadLength = omega arith
 passed-most BadField = omega arith
 passed-most LargeNumber = omega arith
 
-passed-whole : (l : List ℕ) → 0 < passed (lineAs 5 6 6 l) → isWhole 18 l ≡ true
+passed-whole : (l : List ℕ) → 0 < passed (lineAs tableLayout l) → isWhole lineBytes l ≡ true
 unfolding lineAs
 passed-whole l h =
-    ⊎-elim (λ t. t) (λ t. let e : lineAs 5 6 6 l ≡ BadLength = pick-false _ _ _ t in let z : ⊥ = omega (arith, ap passed e) in absurd z)
-    (look (isWhole 18 l))
+    ⊎-elim (λ t. t) (λ t. let e : lineAs tableLayout l ≡ BadLength = pick-false _ _ _ t in let z : ⊥ = omega (arith, ap passed e) in absurd z)
+    (look (isWhole lineBytes l))
 
 pub reached-first : (text : List ℕ) → Reached text 0
 reached-first text = record { each = λ i h. absurd (not-suc-le-zero h) }
@@ -289,22 +303,22 @@ reached-next text n h = record {
   each = λ i l k. ⊎-elim (λ before. h .each i before k) (λ (here : n ≤ i). at-line i here l k) (lt-or-le i n);
 }
   where
-    at-line : (i : ℕ) → n ≤ i → i < n + passed (stepAt text n) → i < length (linesOf text) → isWhole 18 (getD (linesOf text) i []) ≡ true
+    at-line : (i : ℕ) → n ≤ i → i < n + passed (stepAt text n) → i < length (linesOf text) → isWhole lineBytes (getD (linesOf text) i []) ≡ true
     at-line i here l k =
         let same : n ≡ i = omega (arith, passed-most (stepAt text n)) in
-        let is : stepAt text n ≡ lineAs 5 6 6 (getD (linesOf text) n []) =
-        found-line text n h ∙ ap (stepAs 5 6 6) (drop-cons (linesOf text) n [] (omega arith)) in
-        ap (λ (j : ℕ). isWhole 18 (getD (linesOf text) j [])) (sym same) ∙ passed-whole (getD (linesOf text) n []) (omega (arith, ap passed is))
+        let is : stepAt text n ≡ lineAs tableLayout (getD (linesOf text) n []) =
+        found-line text n h ∙ ap (stepAs tableLayout) (drop-cons (linesOf text) n [] (omega arith)) in
+        ap (λ (j : ℕ). isWhole lineBytes (getD (linesOf text) j [])) (sym same) ∙ passed-whole (getD (linesOf text) n []) (omega (arith, ap passed is))
 
-pub passed-fits : (s : List ℕ) → 18 * passed (stepAs 5 6 6 (linesOf s)) ≤ length s
-passed-fits [] = omega (arith, ap passed (step-none 5 6 6 [] refl))
+pub passed-fits : (s : List ℕ) → lineBytes * passed (stepAs tableLayout (linesOf s)) ≤ length s
+passed-fits [] = omega (arith, ap passed (step-none tableLayout [] refl))
 passed-fits (x ∷ xs) =
-    ⊎-elim (λ t. omega (arith, whole-fits (x ∷ xs) 18 t, passed-most (stepAs 5 6 6 (linesOf (x ∷ xs)))))
-    (λ t. omega (arith, ap passed (step-short 5 6 6 (x ∷ xs) (omega arith) t))) (look (isWhole 18 (firstLine (x ∷ xs))))
+    ⊎-elim (λ t. omega (arith, whole-fits (x ∷ xs) lineBytes t, passed-most (stepAs tableLayout (linesOf (x ∷ xs)))))
+    (λ t. omega (arith, ap passed (step-short tableLayout (x ∷ xs) (omega arith) t))) (look (isWhole lineBytes (firstLine (x ∷ xs))))
 
 pub step-fits : (text : List ℕ) (n m : ℕ) → n < m → length text < m → n + passed (stepAt text n) < m
 unfolding stepAt
-step-fits text n m h l = omega (arith, passed-fits (drop (18 * n) text), length-drop (18 * n) text)
+step-fits text n m h l = omega (arith, passed-fits (drop (lineBytes * n) text), length-drop (lineBytes * n) text)
 
 pub step-is : (text : List ℕ) (n : ℕ) {l : Line} {m : ℕ} → l ≡ stepAt text n → m ≡ n + passed l
     → _≡_ {A = Step} (record { found = l; line = m }) (stepFrom text n)

@@ -11,6 +11,7 @@ use mathlib.Core.List.{List, [], _∷_, _++_, append-assoc, append-nil}
 use native.Mathlib.Nat.{zero-add}
 use native.Mathlib.Omega.{arith}
 use lib.ListN.{length, length-append}
+use Rattle.text.specs.Layout.{entryBytes}
 use Rattle.text.specs.Print.{Entry, header, listingLine, entryLines, listingText, pasted}
 use Rattle.text.proofs.PasteLaws.{pasted-pasted}
 use Rattle.text.proofs.PrintLaws.{line-length}
@@ -27,13 +28,13 @@ pub listing-more : (es : List Entry) (e : Entry) → listingText (es ++ e ∷ []
 unfolding listingText
 listing-more es e = ap (λ (l : List ℕ). header ++ l) (entries-more es e) ∙ sym (append-assoc header (entryLines es) (lineOf e))
 
-entries-length : (es : List Entry) → length (entryLines es) ≡ 22 * length es
+entries-length : (es : List Entry) → length (entryLines es) ≡ entryBytes * length es
 unfolding entryLines
 entries-length [] = refl
 entries-length (e ∷ es) =
     length-append (lineOf e) (entryLines es) ∙ omega (arith, line-length (e .start) (e .end) (e .span) (e .rows), entries-length es)
 
-pub listing-length : (es : List Entry) → length (listingText es) ≡ 22 + 22 * length es
+pub listing-length : (es : List Entry) → length (listingText es) ≡ entryBytes + entryBytes * length es
 unfolding listingText
 listing-length es = length-append header (entryLines es) ∙ omega (arith, entries-length es)
 

@@ -19,6 +19,7 @@ use native.Mathlib.Omega.{arith}
 use lib.Dec.{leb, ltb, lit<}
 use lib.ListN.{length, getD, length-append}
 use borrow.Author.Tests.{lt-ltb, le-ltb, lt-leb, le-leb, leb-true, leb-false, not-true, not-false}
+use Rattle.text.specs.Layout.{mostDigits, dayWidth, rowsWidth, numberWidth, placeWidth, entryBytes, refusedBytes}
 use Rattle.text.specs.Print.{columnOf, printed, fits, pasted, putOf, fieldPut, listingLine, refusedLine}
 use Rattle.text.specs.declared.print.Put.the-variants.{Wrote, NoRoom}
 use Rattle.text.proofs.Tests.{look, pick-true, pick-false}
@@ -43,8 +44,8 @@ unfolding columnOf
 column-digit k n h = rw (le-ltb n (10 ^ k) h, and-false (ltb 0 k))
 
 -- a number of 16 bits has no digit at place 5 or above
-pub above : (k n : ℕ) → 5 ≤ k → n < 2 ^ 16 → n < 10 ^ k
-above k n h l = let m : 10 ^ 5 ≤ 10 ^ k = pow-le-pow-right (lit< tt) h in omega arith
+pub above : (k n : ℕ) → mostDigits ≤ k → n < 2 ^ 16 → n < 10 ^ k
+above k n h l = let m : 10 ^ mostDigits ≤ 10 ^ k = pow-le-pow-right (lit< tt) h in omega arith
 
 -- ---- printed fields
 
@@ -69,7 +70,7 @@ pub fits-place : (width n : ℕ) → 0 < width → fits width n ≡ ltb n (10 ^ 
 unfolding fits
 fits-place width n h = rw (lt-ltb 0 width h)
 
-pub fits-wide : (width n : ℕ) → 5 ≤ width → n < 2 ^ 16 → fits width n ≡ true
+pub fits-wide : (width n : ℕ) → mostDigits ≤ width → n < 2 ^ 16 → fits width n ≡ true
 fits-wide width n h l = fits-place width n (omega arith) ∙ lt-ltb n (10 ^ width) (above width n h l)
 
 pub room-short : (len at size : ℕ) → len < size → leb (at + size) len ≡ false
@@ -112,35 +113,35 @@ field-wide out at width n {b} e t = pick-false _ _ _ (sym e ∙ not-true b t)
 abbrev pub Wrote-at : List ℕ → ℕ → ℕ → List ℕ → ℕ → List ℕ → Type 0
 Wrote-at out at size bytes next now = (next ≡ at + size) × (now ≡ pasted out at bytes)
 
-pub line-pieces : (out : List ℕ) (at : ℕ) {o₁ o₂ o₃ o₄ o₅ : List ℕ} {a b c d r : ℕ} (start end span rows : ℕ) → at + 22 ≤ length out
-    → Wrote-at out at 5 (printed 5 start) a o₁ → Wrote-at o₁ a 5 (printed 5 end) b o₂ → Wrote-at o₂ b 5 (printed 5 span) c o₃
-    → Wrote-at o₃ c 6 (printed 6 rows) d o₄ → Wrote-at o₄ d 1 (10 ∷ []) r o₅
-    → Wrote-at out at 22 (listingLine start end span rows) r o₅
+pub line-pieces : (out : List ℕ) (at : ℕ) {o₁ o₂ o₃ o₄ o₅ : List ℕ} {a b c d r : ℕ} (start end span rows : ℕ) → at + entryBytes ≤ length out
+    → Wrote-at out at dayWidth (printed dayWidth start) a o₁ → Wrote-at o₁ a dayWidth (printed dayWidth end) b o₂ → Wrote-at o₂ b dayWidth (printed dayWidth span) c o₃
+    → Wrote-at o₃ c rowsWidth (printed rowsWidth rows) d o₄ → Wrote-at o₄ d 1 (10 ∷ []) r o₅
+    → Wrote-at out at entryBytes (listingLine start end span rows) r o₅
 unfolding listingLine
 line-pieces out at {o₁} {o₂} {o₃} {o₄} {o₅} {a} {b} {c} {d} {r} start end span rows h w₁ w₂ w₃ w₄ w₅ =
-    let p₁ : Pieces (printed 5 start) out o₁ at a = piece-first _ 5 (printed-length 5 start) (omega arith) w₁ in
-    let p₂ : Pieces (printed 5 start ++ printed 5 end) out o₂ at b = piece-more _ 5 p₁ (printed-length 5 end) (omega arith) w₂ in
-    let p₃ : Pieces (printed 5 start ++ printed 5 end ++ printed 5 span) out o₃ at c = piece-more _ 5 p₂ (printed-length 5 span) (omega arith) w₃ in
-    let p₄ : Pieces (printed 5 start ++ printed 5 end ++ printed 5 span ++ printed 6 rows) out o₄ at d = piece-more _ 6 p₃ (printed-length 6 rows) (omega arith) w₄ in
+    let p₁ : Pieces (printed dayWidth start) out o₁ at a = piece-first _ dayWidth (printed-length dayWidth start) (omega arith) w₁ in
+    let p₂ : Pieces (printed dayWidth start ++ printed dayWidth end) out o₂ at b = piece-more _ dayWidth p₁ (printed-length dayWidth end) (omega arith) w₂ in
+    let p₃ : Pieces (printed dayWidth start ++ printed dayWidth end ++ printed dayWidth span) out o₃ at c = piece-more _ dayWidth p₂ (printed-length dayWidth span) (omega arith) w₃ in
+    let p₄ : Pieces (printed dayWidth start ++ printed dayWidth end ++ printed dayWidth span ++ printed rowsWidth rows) out o₄ at d = piece-more _ rowsWidth p₃ (printed-length rowsWidth rows) (omega arith) w₄ in
     (omega arith, piece-more _ 1 p₄ refl (omega arith) w₅ .is)
 
 abbrev pub refused : List ℕ
 refused = 114 ∷ 101 ∷ 102 ∷ 117 ∷ 115 ∷ 101 ∷ 100 ∷ []
 
-pub refused-pieces : (out : List ℕ) {o₁ o₂ o₃ o₄ : List ℕ} {a b c r : ℕ} (number line : ℕ) → 19 ≤ length out
-    → Wrote-at out 0 7 refused a o₁ → Wrote-at o₁ a 5 (printed 5 number) b o₂ → Wrote-at o₂ b 6 (printed 6 line) c o₃ → Wrote-at o₃ c 1 (10 ∷ []) r o₄
-    → (r ≡ 19) × (o₄ ≡ pasted out 0 (refusedLine number line))
+pub refused-pieces : (out : List ℕ) {o₁ o₂ o₃ o₄ : List ℕ} {a b c r : ℕ} (number line : ℕ) → refusedBytes ≤ length out
+    → Wrote-at out 0 7 refused a o₁ → Wrote-at o₁ a numberWidth (printed numberWidth number) b o₂ → Wrote-at o₂ b placeWidth (printed placeWidth line) c o₃ → Wrote-at o₃ c 1 (10 ∷ []) r o₄
+    → (r ≡ refusedBytes) × (o₄ ≡ pasted out 0 (refusedLine number line))
 unfolding refusedLine
 refused-pieces out {o₁} {o₂} {o₃} {o₄} {a} {b} {c} {r} number line h w₁ w₂ w₃ w₄ =
     let p₁ : Pieces refused out o₁ 0 a = piece-first _ 7 refl (omega arith) w₁ in
-    let p₂ : Pieces (refused ++ printed 5 number) out o₂ 0 b = piece-more _ 5 p₁ (printed-length 5 number) (omega arith) w₂ in
-    let p₃ : Pieces (refused ++ printed 5 number ++ printed 6 line) out o₃ 0 c = piece-more _ 6 p₂ (printed-length 6 line) (omega arith) w₃ in
+    let p₂ : Pieces (refused ++ printed numberWidth number) out o₂ 0 b = piece-more _ numberWidth p₁ (printed-length numberWidth number) (omega arith) w₂ in
+    let p₃ : Pieces (refused ++ printed numberWidth number ++ printed placeWidth line) out o₃ 0 c = piece-more _ placeWidth p₂ (printed-length placeWidth line) (omega arith) w₃ in
     (omega arith, piece-more _ 1 p₃ refl (omega arith) w₄ .is)
 
-pub line-length : (start end span rows : ℕ) → length (listingLine start end span rows) ≡ 22
+pub line-length : (start end span rows : ℕ) → length (listingLine start end span rows) ≡ entryBytes
 unfolding listingLine
 line-length start end span rows = simp (length-append, printed-length)
 
-pub refused-length : (number line : ℕ) → length (refusedLine number line) ≡ 19
+pub refused-length : (number line : ℕ) → length (refusedLine number line) ≡ refusedBytes
 unfolding refusedLine
 refused-length number line = simp (length-append, printed-length)

@@ -1,8 +1,7 @@
 -- What is printed reads back.
 --
---   reads-back     a number that fits its field and is within the limit, printed and read, is that number
---   reads-large    a number above the limit is Large
---   field-back     the same for the fields of this crate
+--   field-back     a number that fits its field and is within the limit, printed and read, is that number
+--   large-back     a number above the limit is Large
 --   wide-back      every number of 16 bits, in 5 columns or more
 --   row-back       a printed line of a table reads back as its row
 --   Small AllSmall     rows of numbers of 16 bits
@@ -20,8 +19,9 @@ use lib.Dec.{ltb, lit<, lit≤}
 use lib.ListN.{length, getD, take, drop, length-append}
 use lib.Seq.{take-at, drop-at, getD-at}
 use borrow.Author.Tests.{eq-eqb, le-leb}
-use Rattle.text.specs.Decimal.{unblank, allDigits, isNumeral, value, fieldUpTo, fieldOf}
-use Rattle.text.specs.Line.{prepend, linesOf, isWhole, judged, lineAs, rowOf}
+use Rattle.text.specs.Layout.{largest, mostDigits, dayWidth, accountWidth}
+use Rattle.text.specs.Decimal.{unblank, allDigits, isNumeral, value, fieldOf}
+use Rattle.text.specs.Line.{prepend, linesOf, isWhole, judged, fieldAt, lineAs, rowOf}
 use Rattle.text.specs.Table.{dayOf, firstOf, secondOf, daysOf, firstsOf, secondsOf, faultOr, judgedFrom, roomFor, tableReadOf}
 use Rattle.text.specs.Print.{columnOf, printed, tableLine, TableRow, tableText}
 use Rattle.text.specs.declared.decimal.Field.the-variants.{Number, Large}
@@ -111,25 +111,19 @@ numeral-back (suc (suc k)) n p h = go (numeral-back (suc k) n (omega arith)) (lt
 -- ---- for any limit and any width
 
 module _ (limit w n : ℕ) (p : 0 < w) (h : n < 10 ^ w) where
-  pub reads-back : n ≤ limit → fieldUpTo limit (printed w n) ≡ Number n
-  reads-back l =
+  pub field-back : n ≤ limit → fieldOf limit (printed w n) ≡ Number n
+  field-back l =
       let r : Numeral w n = numeral-back w n p h in
       number-field limit (printed w n) (r .numeral) (rw (r .sum) l) ∙ ap Number (r .sum)
 
-  pub reads-large : limit < n → fieldUpTo limit (printed w n) ≡ Large
-  reads-large l =
+  pub large-back : limit < n → fieldOf limit (printed w n) ≡ Large
+  large-back l =
       let r : Numeral w n = numeral-back w n p h in
       large-field limit (printed w n) (r .numeral) (rw (r .sum) l)
 
--- ---- the fields of this crate
-
-pub field-back : (w n : ℕ) → 0 < w → n < 10 ^ w → n ≤ 65535 → fieldOf (printed w n) ≡ Number n
-unfolding fieldOf
-field-back w n p h l = reads-back 65535 w n p h l
-
 -- a number of 16 bits fits 5 columns and more
-pub wide-back : (w n : ℕ) → 5 ≤ w → n < 2 ^ 16 → fieldOf (printed w n) ≡ Number n
-wide-back w n p h = field-back w n (omega arith) (above w n p h) (omega arith)
+pub wide-back : (w n : ℕ) → mostDigits ≤ w → n < 2 ^ 16 → fieldOf largest (printed w n) ≡ Number n
+wide-back w n p h = field-back largest w n (omega arith) (above w n p h) (omega arith)
 
 -- ---- a line of a table
 
@@ -154,17 +148,23 @@ module _ (a b c : List ℕ) (rest : List ℕ) where
 
 -- a printed row reads back as its row
 pub row-back : (day first second : ℕ) → day < 2 ^ 16 → first < 2 ^ 16 → second < 2 ^ 16 → rowOf (tableLine day first second) ≡ Row day first second
-unfolding rowOf lineAs tableLine judged
+unfolding rowOf lineAs fieldAt tableLine judged
 row-back day first second p q r =
-    let d : List ℕ = printed 5 day in
-    let f : List ℕ = printed 6 first in
-    let s : List ℕ = printed 6 second in
+    let d : List ℕ = printed dayWidth day in
+    let f : List ℕ = printed accountWidth first in
+    let s : List ℕ = printed accountWidth second in
     let l : List ℕ = d ++ f ++ s ++ 10 ∷ [] in
-    let x : fieldOf (take 5 l) ≡ Number day = ap fieldOf (first-part d f s (10 ∷ []) 5 (printed-length 5 day)) ∙ wide-back 5 day (lit≤ tt) p in
-    let y : fieldOf (take 6 (drop 5 l)) ≡ Number first = ap fieldOf (second-part d f s (10 ∷ []) 5 6 (printed-length 5 day) (printed-length 6 first)) ∙ wide-back 6 first (lit≤ tt) q in
-    let z : fieldOf (take 6 (drop 11 l)) ≡ Number second =
-    ap fieldOf (third-part d f s (10 ∷ []) 11 6 (simp (length-append, printed-length)) (printed-length 6 second)) ∙ wide-back 6 second (lit≤ tt) r in
-    pick-true _ _ _ (line-whole (d ++ f ++ s) 17 (simp (length-append, printed-length))) ∙ rw (x, y, z)
+    let both : length (d ++ f) ≡ dayWidth + accountWidth = simp (length-append, printed-length) in
+    let all : length (d ++ f ++ s) ≡ dayWidth + accountWidth + accountWidth = simp (length-append, printed-length) in
+    let x : fieldOf largest (take dayWidth l) ≡ Number day =
+    ap (fieldOf largest) (first-part d f s (10 ∷ []) dayWidth (printed-length dayWidth day)) ∙ wide-back dayWidth day (lit≤ tt) p in
+    let y : fieldOf largest (take accountWidth (drop dayWidth l)) ≡ Number first =
+    ap (fieldOf largest) (second-part d f s (10 ∷ []) dayWidth accountWidth (printed-length dayWidth day) (printed-length accountWidth first))
+    ∙ wide-back accountWidth first (lit≤ tt) q in
+    let z : fieldOf largest (take accountWidth (drop (dayWidth + accountWidth) l)) ≡ Number second =
+    ap (fieldOf largest) (third-part d f s (10 ∷ []) (dayWidth + accountWidth) accountWidth both (printed-length accountWidth second))
+    ∙ wide-back accountWidth second (lit≤ tt) r in
+    pick-true _ _ _ (line-whole (d ++ f ++ s) (dayWidth + accountWidth + accountWidth) all) ∙ rw (x, y, z)
 
 -- ---- a whole table
 
@@ -195,9 +195,9 @@ lines-behind (b ∷ p) rest i =
 row-lines : (day first second : ℕ) (rest : List ℕ) → linesOf (tableLine day first second ++ rest) ≡ tableLine day first second ∷ linesOf rest
 unfolding tableLine
 row-lines day first second rest =
-    let p : List ℕ = printed 5 day ++ printed 6 first ++ printed 6 second in
+    let p : List ℕ = printed dayWidth day ++ printed accountWidth first ++ printed accountWidth second in
     ap linesOf (append-assoc p (10 ∷ []) rest)
-    ∙ lines-behind p rest (inner-append (printed 5 day ++ printed 6 first) (printed 6 second) (inner-append (printed 5 day) (printed 6 first) (printed-inner 5 day) (printed-inner 6 first)) (printed-inner 6 second))
+    ∙ lines-behind p rest (inner-append (printed dayWidth day ++ printed accountWidth first) (printed accountWidth second) (inner-append (printed dayWidth day) (printed accountWidth first) (printed-inner dayWidth day) (printed-inner accountWidth first)) (printed-inner accountWidth second))
 
 -- each number is one of 16 bits
 pub record Small (r : TableRow) : Type 0 where

@@ -19,7 +19,8 @@ use native.Mathlib.Omega.{arith}
 use lib.ListN.{length, getD, take, drop, length-drop, length-map, List·getD-map}
 use borrow.Author.Tests.{lt-leb, le-leb}
 use lib.Seq.{drop-cons, drop-length}
-use Rattle.text.specs.Decimal.{fieldOf, fieldValue}
+use Rattle.text.specs.Layout.{tableLayout, lineBytes}
+use Rattle.text.specs.Decimal.{fieldValue}
 use Rattle.text.specs.Line.{linesOf, firstLine, isWhole, lineNumber, oneRefuses, judged, lineAs, stepAs, rowOf, stepAt, passed, stepFrom}
 use Rattle.text.specs.Table.{faultOr, judgedFrom, roomFor, tableReadOf}
 use Rattle.text.specs.declared.decimal.Field.{Field}
@@ -56,31 +57,31 @@ fields-are x y z = judged-is (oneRefuses (lineNumber line.BadField) x y z) (oneR
 
 pub never-end : (l : List ℕ) → is-end (rowOf l) ≡ 0
 unfolding rowOf lineAs
-never-end l = line-is (isWhole 18 l) (judged (fieldOf (take 5 l)) (fieldOf (take 6 (drop 5 l))) (fieldOf (take 6 (drop 11 l)))) (fields-are _ _ _)
+never-end l = line-is (isWhole lineBytes l) _ (fields-are _ _ _)
 
 -- ---- the lowest fault from line n on
 
-fault-at : (n : ℕ) (ls : List (List ℕ)) (r : Line) → stepAs 5 6 6 ls ≡ r → is-end r ≡ 0 → judgedFrom n ls ≡ faultOr (n + 1) r (judgedFrom (n + 1) (drop 1 ls))
+fault-at : (n : ℕ) (ls : List (List ℕ)) (r : Line) → stepAs tableLayout ls ≡ r → is-end r ≡ 0 → judgedFrom n ls ≡ faultOr (n + 1) r (judgedFrom (n + 1) (drop 1 ls))
 unfolding stepAs judgedFrom rowOf
 fault-at n [] r e z = zero-one (sym (ap is-end e ∙ z))
 fault-at n (l ∷ ls) r e z = ap (λ (x : Line). faultOr (n + 1) x (judgedFrom (n + 1) ls)) e
 
-fault-none : (n : ℕ) (ls : List (List ℕ)) → stepAs 5 6 6 ls ≡ line.End → judgedFrom n ls ≡ Rows n
+fault-none : (n : ℕ) (ls : List (List ℕ)) → stepAs tableLayout ls ≡ line.End → judgedFrom n ls ≡ Rows n
 unfolding stepAs judgedFrom rowOf
 fault-none n [] e = refl
 fault-none n (l ∷ ls) e = zero-one (sym (never-end l) ∙ ap is-end e)
 
 -- the first line is 18 bytes, and the other lines start behind it
 pub record FirstWhole (s : List ℕ) : Type 0 where
-  pub fits : 18 ≤ length s
-  pub split : linesOf s ≡ firstLine s ∷ linesOf (drop 18 s)
+  pub fits : lineBytes ≤ length s
+  pub split : linesOf s ≡ firstLine s ∷ linesOf (drop lineBytes s)
 
-whole-step : (s : List ℕ) → isWhole 18 (firstLine s) ≡ true → FirstWhole s
+whole-step : (s : List ℕ) → isWhole lineBytes (firstLine s) ≡ true → FirstWhole s
 whole-step s e =
-    let f : 18 ≤ length s = whole-fits s 18 e in
+    let f : lineBytes ≤ length s = whole-fits s lineBytes e in
     record {
       fits = f;
-      split = lines-first s (omega arith) ∙ ap (λ (k : ℕ). firstLine s ∷ linesOf (drop k s)) (whole-size 18 (firstLine s) e);
+      split = lines-first s (omega arith) ∙ ap (λ (k : ℕ). firstLine s ∷ linesOf (drop k s)) (whole-size lineBytes (firstLine s) e);
     }
 
 no-row : {A : Type 0} (d a b : ℕ) → line.BadLength ≡ line.Row d a b → A
@@ -89,32 +90,32 @@ no-row d a b e = zero-one (cc)
 no-end-row : {A : Type 0} (d a b : ℕ) → line.End ≡ line.Row d a b → A
 no-end-row d a b e = zero-one (cc)
 
-row-step : (s : List ℕ) (d a b : ℕ) → stepAs 5 6 6 (linesOf s) ≡ line.Row d a b → FirstWhole s
-row-step [] d a b e = no-end-row d a b (sym (step-none 5 6 6 [] refl) ∙ e)
+row-step : (s : List ℕ) (d a b : ℕ) → stepAs tableLayout (linesOf s) ≡ line.Row d a b → FirstWhole s
+row-step [] d a b e = no-end-row d a b (sym (step-none tableLayout [] refl) ∙ e)
 row-step (x ∷ xs) d a b e =
-    ⊎-elim (λ t. whole-step (x ∷ xs) t) (λ t. no-row d a b (sym (step-short 5 6 6 (x ∷ xs) (omega arith) t) ∙ e))
-    (look (isWhole 18 (firstLine (x ∷ xs))))
+    ⊎-elim (λ t. whole-step (x ∷ xs) t) (λ t. no-row d a b (sym (step-short tableLayout (x ∷ xs) (omega arith) t) ∙ e))
+    (look (isWhole lineBytes (firstLine (x ∷ xs))))
 
 -- line m is the one behind line n, within the text, and the lowest fault from there on is that of the whole
 pub record Onward (text : List ℕ) (n m : ℕ) (found : TableRead) : Type 0 where
   pub next : m ≡ n + 1
-  pub within : 18 * m ≤ length text
-  pub rest : judgedFrom m (linesOf (drop (18 * m) text)) ≡ found
+  pub within : lineBytes * m ≤ length text
+  pub rest : judgedFrom m (linesOf (drop (lineBytes * m) text)) ≡ found
 
-module _ (text : List ℕ) (n : ℕ) {s : Step} {found : TableRead} (so : judgedFrom n (linesOf (drop (18 * n) text)) ≡ found) (is : s ≡ stepFrom text n) where
+module _ (text : List ℕ) (n : ℕ) {s : Step} {found : TableRead} (so : judgedFrom n (linesOf (drop (lineBytes * n) text)) ≡ found) (is : s ≡ stepFrom text n) where
   at-end : s .found ≡ line.End → Rows n ≡ found
   unfolding stepAt
   at-end e = sym (fault-none n _ (sym (step-found text n is) ∙ e)) ∙ so
 
-  at-fault : (f : Line) → s .found ≡ f → is-end f ≡ 0 → faultOr (n + 1) f (judgedFrom (n + 1) (drop 1 (linesOf (drop (18 * n) text)))) ≡ found
+  at-fault : (f : Line) → s .found ≡ f → is-end f ≡ 0 → faultOr (n + 1) f (judgedFrom (n + 1) (drop 1 (linesOf (drop (lineBytes * n) text)))) ≡ found
   unfolding stepAt
   at-fault f e z = sym (fault-at n _ f (sym (step-found text n is) ∙ e) z) ∙ so
 
-  next-row : (d a b : ℕ) → s .found ≡ line.Row d a b → (18 * (n + 1) ≤ length text) × (judgedFrom (n + 1) (linesOf (drop (18 * (n + 1)) text)) ≡ found)
+  next-row : (d a b : ℕ) → s .found ≡ line.Row d a b → (lineBytes * (n + 1) ≤ length text) × (judgedFrom (n + 1) (linesOf (drop (lineBytes * (n + 1)) text)) ≡ found)
   unfolding stepAt
   next-row d a b e =
-      let st : FirstWhole (drop (18 * n) text) = row-step (drop (18 * n) text) d a b (sym (step-found text n is) ∙ e) in (
-        omega (arith, length-drop (18 * n) text),
+      let st : FirstWhole (drop (lineBytes * n) text) = row-step (drop (lineBytes * n) text) d a b (sym (step-found text n is) ∙ e) in (
+        omega (arith, length-drop (lineBytes * n) text),
         ap (λ (s : List ℕ). judgedFrom (n + 1) (linesOf s)) (sym (next-start text n))
             ∙ ap (λ (ls : List (List ℕ)). judgedFrom (n + 1) (drop 1 ls)) (sym (st .split)) ∙ at-fault (line.Row d a b) e refl,
       )
@@ -155,10 +156,10 @@ passes n c line.BadLength later e = no-rows n c e
 passes n c line.BadField later e = zero-one (cc)
 passes n c line.LargeNumber later e = zero-one (cc)
 
-row-whole : (n c : ℕ) (l : List ℕ) (later : TableRead) → faultOr n (rowOf l) later ≡ Rows c → isWhole 18 l ≡ true
+row-whole : (n c : ℕ) (l : List ℕ) (later : TableRead) → faultOr n (rowOf l) later ≡ Rows c → isWhole lineBytes l ≡ true
 unfolding rowOf lineAs
 row-whole n c l later e =
-    ⊎-elim (λ t. t) (λ t. no-rows n c (ap (λ (x : Line). faultOr n x later) (sym (pick-false _ _ _ t)) ∙ e)) (look (isWhole 18 l))
+    ⊎-elim (λ t. t) (λ t. no-rows n c (ap (λ (x : Line). faultOr n x later) (sym (pick-false _ _ _ t)) ∙ e)) (look (isWhole lineBytes l))
 
 pub rows-count : (n c : ℕ) (ls : List (List ℕ)) → judgedFrom n ls ≡ Rows c → c ≡ n + length ls
 unfolding judgedFrom
@@ -169,7 +170,7 @@ pub all-rows : (c : ℕ) (ls : List (List ℕ)) → judgedFrom 0 ls ≡ Rows c �
 all-rows c ls e = omega (arith, rows-count 0 c ls e)
 
 -- a line that is no row's length refuses
-rows-whole : (n c : ℕ) (ls : List (List ℕ)) → judgedFrom n ls ≡ Rows c → (i : ℕ) → i < length ls → isWhole 18 (getD ls i []) ≡ true
+rows-whole : (n c : ℕ) (ls : List (List ℕ)) → judgedFrom n ls ≡ Rows c → (i : ℕ) → i < length ls → isWhole lineBytes (getD ls i []) ≡ true
 unfolding judgedFrom
 rows-whole n c [] e i h = absurd (not-suc-le-zero h)
 rows-whole n c (l ∷ ls) e zero h = row-whole (n + 1) c l (judgedFrom (n + 1) ls) e
@@ -200,7 +201,7 @@ module _ (text : List ℕ) (c : ℕ) (so : judgedFrom 0 (linesOf text) ≡ Rows 
   found-at i h =
       let k : i < length (linesOf text) = omega (arith, rows-count 0 c (linesOf text) so) in
       step-from text i (omega arith) (λ j q. rows-whole 0 c (linesOf text) so j (omega arith))
-      ∙ ap (stepAs 5 6 6) (drop-cons (linesOf text) i [] k)
+      ∙ ap (stepAs tableLayout) (drop-cons (linesOf text) i [] k)
 
   -- the line reached behind row i is that of row i + 1
   pub line-on : (i : ℕ) → i < c → {s : Step} → s ≡ stepFrom text i → s .line ≡ i + 1
@@ -215,7 +216,7 @@ module _ (text : List ℕ) (c : ℕ) (so : judgedFrom 0 (linesOf text) ≡ Rows 
       let all : i ≡ length (linesOf text) = h ∙ all-rows c (linesOf text) so in
       let end : stepAt text i ≡ line.End =
       step-from text i (omega arith) (λ j q. rows-whole 0 c (linesOf text) so j (omega arith))
-      ∙ ap (stepAs 5 6 6) (ap (λ (k : ℕ). drop k (linesOf text)) all ∙ drop-length (linesOf text)) in
+      ∙ ap (stepAs tableLayout) (ap (λ (k : ℕ). drop k (linesOf text)) all ∙ drop-length (linesOf text)) in
       omega (arith, step-line text i is, ap passed (step-found text i is ∙ end))
 
   -- where the reader moves there is a row

@@ -4,15 +4,16 @@
 --   lt-or-le           one number is below another, or not
 --   and-left and-right both-true     a conjunction and its parts
 --   pick-true pick-false   a choice whose test is known
+--   negated-true negated-false     a test whose negation is known
 --   zero-one           0 is not 1, so anything follows
 -- Assumes nothing.
 use Prim.Native.Nat.{ℕ, _<_, _≤_}
-use mathlib.Core.Path.{_≡_, refl}
-use mathlib.Core.Bool.{Bool, true, false, cond, _&&_, true≢false, false≢true}
+use mathlib.Core.Path.{_≡_, refl, sym, _∙_}
+use mathlib.Core.Bool.{Bool, true, false, not, cond, _&&_, true≢false, false≢true}
 use mathlib.Core.Logic.{_⊎_, inl, inr, ⊎-elim}
 use native.Mathlib.Omega.{arith}
 use lib.Dec.{ltb}
-use borrow.Author.Tests.{ltb-true, ltb-false}
+use borrow.Author.Tests.{ltb-true, ltb-false, not-true, not-false}
 
 pub look : (b : Bool) → (b ≡ true) ⊎ (b ≡ false)
 look true = inl refl
@@ -41,6 +42,14 @@ module _ {A : Type 0} where
   pub pick-false : (b : Bool) (x y : A) → b ≡ false → cond b x y ≡ y
   pick-false true x y e = absurd (true≢false e)
   pick-false false x y e = refl
+
+-- a test that the code negates
+module _ {b t : Bool} (e : b ≡ t) where
+  pub negated-true : not b ≡ true → t ≡ false
+  negated-true n = sym e ∙ not-true b n
+
+  pub negated-false : not b ≡ false → t ≡ true
+  negated-false n = sym e ∙ not-false b n
 
 -- what two different constructors made equal give
 pub zero-one {ℓ} : {A : Type ℓ} → _≡_ {A = ℕ} 0 1 → A

@@ -6,9 +6,8 @@
 --   leadsWell    no needless leading zero
 --   isNumeral    a decimal number: digits, at least one, no needless leading zero
 --   value        the number that digits stand for, by place values
---   numeralUpTo  what a field without its blanks holds, where numbers end at a limit
---   fieldUpTo    what a field holds, where numbers end at a limit
---   fieldOf      what a field of this crate holds: numbers end at 65,535
+--   numeralOf    what a field without its blanks holds, where numbers end at a limit
+--   fieldOf      what a field holds, where numbers end at a limit
 --   fieldNumber  01's refusal number of what a field holds
 --   refuses      a field has this refusal number
 --   fieldValue   the number that a field holds, 0 where it has none
@@ -47,17 +46,13 @@ unfoldable pub value : List ℕ → ℕ
 value [] = 0
 value (b ∷ bs) = (b - 48) * 10 ^ length bs + value bs
 
--- "12: a broken field, an all-blank one included; 13: a number above 65,535 (12 before 13)"
-unfoldable pub numeralUpTo : ℕ → List ℕ → Field
-numeralUpTo limit ds = cond (isNumeral ds) (cond (leb (value ds) limit) (Number (value ds)) Large) Broken
+-- "12: a broken field, an all-blank one included; 13: a number above 65,535 (12 before 13)": 65,535 is the limit of each field of 01
+unfoldable pub numeralOf : ℕ → List ℕ → Field
+numeralOf limit ds = cond (isNumeral ds) (cond (leb (value ds) limit) (Number (value ds)) Large) Broken
 
 -- "right-justified, blanks (byte 32) before it": what stands behind the blanks is the number
-unfoldable pub fieldUpTo : ℕ → List ℕ → Field
-fieldUpTo limit f = numeralUpTo limit (unblank f)
-
--- "13: a number above 65,535"
-unfoldable pub fieldOf : List ℕ → Field
-fieldOf f = fieldUpTo 65535 f
+unfoldable pub fieldOf : ℕ → List ℕ → Field
+fieldOf limit f = numeralOf limit (unblank f)
 
 -- "12: a broken field, an all-blank one included; 13: a number above 65,535"; 0 for none
 abbrev pub fieldNumber : Field → ℕ

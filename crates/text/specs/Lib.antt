@@ -1,3 +1,4 @@
+pub mod Layout
 pub mod Decimal
 pub mod Line
 pub mod Table

@@ -7,7 +7,8 @@
 --   lineNumber   01's refusal number of what a line holds
 --   oneRefuses   one of three fields has this refusal number
 --   judged       a line's answer from its three fields
---   lineAs       what a line holds, with three fields of given widths
+--   fieldAt      what the field from a byte on holds
+--   lineAs       what a line holds, with three fields as a layout has them
 --   stepAs       what the first of some lines holds, or that there is none
 --   rowOf        what a line of a table holds
 --   stepAt       what the line reader finds at a line
@@ -25,9 +26,12 @@ use mathlib.Core.Bool.{Bool, true, cond, _&&_, _||_}
 use mathlib.Core.List.{List, [], _∷_}
 use lib.Dec.{eqb}
 use lib.ListN.{length, getD, take, drop}
+use Rattle.text.specs.Layout.{bytesOf, tableLayout, queryLayout, lineBytes}
 use Rattle.text.specs.Decimal.{fieldOf, fieldNumber, refuses, fieldValue}
 use Rattle.text.specs.declared.decimal.Field.{Field}
 use Rattle.text.specs.declared.decimal.Field.the-variants.{Large, Broken}
+use Rattle.text.specs.declared.layout.Format.{Format}
+use Rattle.text.specs.declared.layout.Layout.{Layout}
 use Rattle.text.specs.declared.lines.Line.{Line}
 use Rattle.text.specs.declared.lines.Line.the-variants.{Row, End, BadLength, BadField, LargeNumber}
 use Rattle.text.specs.declared.lines.Step.{Step}
@@ -71,26 +75,29 @@ judged x y z =
     (cond (oneRefuses (lineNumber LargeNumber) x y z) LargeNumber
     (Row (fieldValue x) (fieldValue y) (fieldValue z)))
 
--- "11: not 18 bytes with its end" comes first; the three fields have a, b and c columns
-unfoldable pub lineAs : ℕ → ℕ → ℕ → List ℕ → Line
-lineAs a b c l =
-    cond (isWhole (a + b + c + 1) l)
-    (judged (fieldOf (take a l)) (fieldOf (take b (drop a l))) (fieldOf (take c (drop (a + b) l))))
-    BadLength
+unfoldable pub fieldAt : Format → ℕ → List ℕ → Field
+fieldAt f from l = fieldOf (f .limit) (take (f .width) (drop from l))
+
+-- "11: not 18 bytes with its end" comes first
+unfoldable pub lineAs : Layout → List ℕ → Line
+lineAs y l =
+    let a = y .first .width in
+    let b = y .second .width in
+    cond (isWhole (bytesOf y) l) (judged (fieldAt (y .first) 0 l) (fieldAt (y .second) a l) (fieldAt (y .third) (a + b) l)) BadLength
 
 -- what a reader finds where these lines are left; "Empty text gives 0 rows"
-unfoldable pub stepAs : ℕ → ℕ → ℕ → List (List ℕ) → Line
-stepAs a b c [] = End
-stepAs a b c (l ∷ ls) = lineAs a b c l
+unfoldable pub stepAs : Layout → List (List ℕ) → Line
+stepAs y [] = End
+stepAs y (l ∷ ls) = lineAs y l
 
 -- "day in 5 columns, accounts in 6 and 6, then byte 10"
 unfoldable pub rowOf : List ℕ → Line
-rowOf l = lineAs 5 6 6 l
+rowOf l = lineAs tableLayout l
 
 -- "The line reader keeps the text and the line reached": where each line before line n, counted from 0, is 18 bytes, line n starts at byte 18 n.
 -- 01 leaves free what is found behind a line that is not: here it is what stands from byte 18 n on
 unfoldable pub stepAt : List ℕ → ℕ → Line
-stepAt text n = stepAs 5 6 6 (linesOf (drop (18 * n) text))
+stepAt text n = stepAs tableLayout (linesOf (drop (lineBytes * n) text))
 
 -- "steps line by line": a row is passed; at the text's end and at a faulty line a reader stays
 abbrev pub passed : Line → ℕ
@@ -106,10 +113,10 @@ stepFrom text n = record { found = stepAt text n; line = n + passed (stepAt text
 -- a line of the text as it is split, counted from 0. Where line n is reached the line reader finds this (proofs/LineLaws.antt: found-line); line 0 is
 -- reached, and from a line that is reached a step goes to one that is (reached-first, reached-next): so a reader finds line after line
 unfoldable pub lineAt : List ℕ → ℕ → Line
-lineAt text n = stepAs 5 6 6 (drop n (linesOf text))
+lineAt text n = stepAs tableLayout (drop n (linesOf text))
 
 pub record Reached (text : List ℕ) (n : ℕ) : Type 0 where
-  pub each : (i : ℕ) → i < n → i < length (linesOf text) → isWhole 18 (getD (linesOf text) i []) ≡ true
+  pub each : (i : ℕ) → i < n → i < length (linesOf text) → isWhole lineBytes (getD (linesOf text) i []) ≡ true
 
 -- a query line is judged as a line is; "11 when input is empty"
 abbrev pub queryFrom : Line → QueryRead
@@ -121,7 +128,7 @@ queryFrom LargeNumber = query.LargeNumber
 
 -- 01, listing program: "a query line of 16 bytes (k, Ts, Te, 5 columns each, byte 10)"
 unfoldable pub queryOf : List ℕ → QueryRead
-queryOf text = queryFrom (stepAs 5 5 5 (linesOf text))
+queryOf text = queryFrom (stepAs queryLayout (linesOf text))
 
 -- "It reads the query line first (11, 12, 13 at line 1; 11 when input is empty)"
 abbrev pub queryNumber : QueryRead → ℕ

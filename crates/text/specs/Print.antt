@@ -22,6 +22,7 @@ use mathlib.Core.Bool.{Bool, cond, _&&_}
 use mathlib.Core.List.{List, [], _∷_, _++_}
 use lib.Dec.{leb, ltb}
 use lib.ListN.{length, take, drop}
+use Rattle.text.specs.Layout.{dayWidth, accountWidth, rowsWidth, numberWidth, placeWidth}
 use Rattle.text.specs.declared.print.Put.{Put}
 use Rattle.text.specs.declared.print.Put.the-variants.{Wrote, NoRoom}
 
@@ -73,7 +74,7 @@ header =
 
 -- "Columns: start 5, end 5, span 5, rows 6."
 unfoldable pub listingLine : ℕ → ℕ → ℕ → ℕ → List ℕ
-listingLine start end span rows = printed 5 start ++ printed 5 end ++ printed 5 span ++ printed 6 rows ++ 10 ∷ []
+listingLine start end span rows = printed dayWidth start ++ printed dayWidth end ++ printed dayWidth span ++ printed rowsWidth rows ++ 10 ∷ []
 
 -- a line's numbers; "Span: end minus start" is the caller's
 pub record Entry : Type 0 where
@@ -93,11 +94,11 @@ listingText es = header ++ entryLines es
 
 -- "A refusal prints only `refused`, its number in 5 columns and in 6 the input line"
 unfoldable pub refusedLine : ℕ → ℕ → List ℕ
-refusedLine number line = 114 ∷ 101 ∷ 102 ∷ 117 ∷ 115 ∷ 101 ∷ 100 ∷ [] ++ printed 5 number ++ printed 6 line ++ 10 ∷ []
+refusedLine number line = 114 ∷ 101 ∷ 102 ∷ 117 ∷ 115 ∷ 101 ∷ 100 ∷ [] ++ printed numberWidth number ++ printed placeWidth line ++ 10 ∷ []
 
 -- 01, Reader: "day in 5 columns, accounts in 6 and 6, then byte 10"
 unfoldable pub tableLine : ℕ → ℕ → ℕ → List ℕ
-tableLine day first second = printed 5 day ++ printed 6 first ++ printed 6 second ++ 10 ∷ []
+tableLine day first second = printed dayWidth day ++ printed accountWidth first ++ printed accountWidth second ++ 10 ∷ []
 
 -- "A row is one payment: a day .. and two accounts"
 pub record TableRow : Type 0 where

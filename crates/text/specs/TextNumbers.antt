@@ -11,8 +11,8 @@ use Prim.Native.Nat.{ℕ, _+_}
 use mathlib.Core.Path.{_≡_, refl}
 use mathlib.Core.List.{List, [], _∷_, _++_}
 use lib.ListN.{replicate}
-use Rattle.text.specs.Decimal.{fieldOf, fieldUpTo, numeralUpTo, unblank, isNumeral, leadsWell, allDigits, isDigit, value}
-use Rattle.text.specs.Line.{linesOf, prepend, isWhole, judged, lineAs, stepAs, rowOf, queryOf, queryNumber, queryPlace}
+use Rattle.text.specs.Decimal.{fieldOf, numeralOf, unblank, isNumeral, leadsWell, allDigits, isDigit, value}
+use Rattle.text.specs.Line.{linesOf, prepend, isWhole, judged, fieldAt, lineAs, stepAs, rowOf, queryOf, queryNumber, queryPlace}
 use Rattle.text.specs.Print.{putOf, header, putNumber, putLength}
 use Rattle.text.specs.Table.{judgedFrom, tableReadOf, number, place, count}
 use Rattle.text.specs.declared.lines.QueryRead.{QueryRead}
@@ -75,8 +75,8 @@ pub record TextNumbers : Type 0 where
 
 pub text-numbers-hold : TextNumbers
 unfolding
-    unblank isDigit allDigits leadsWell isNumeral value numeralUpTo fieldUpTo fieldOf
-    prepend linesOf isWhole judged lineAs stepAs rowOf queryOf judgedFrom tableReadOf putOf
+    unblank isDigit allDigits leadsWell isNumeral value numeralOf fieldOf
+    prepend linesOf isWhole judged fieldAt lineAs stepAs rowOf queryOf judgedFrom tableReadOf putOf
 text-numbers-hold = record {
   read-0 = refl;
   read-10 = refl;

@@ -3,10 +3,12 @@ ghost use mathlib.Core.Path.{_≡_};
 ghost use mathlib.Core.Bool.{true};
 ghost use Prim.Native.Nat.{_≤_, _<_, _^_};
 ghost use lib.ListN.{length, drop};
+ghost use Rattle.text.specs.Layout.{mostDigits};
 ghost use Rattle.text.specs.Decimal.{unblank, allDigits, isNumeral, value, fieldOf};
+use crate::layout::MOST_DIGITS;
 
-// Place values: entry k is 10 ^ k. A number of 16 bits has at most five digits.
-const PLACES: [u64; 5] = [1, 10, 100, 1000, 10000];
+// Place values: entry k is 10 ^ k.
+const PLACES: [u64; MOST_DIGITS] = [1, 10, 100, 1000, 10000];
 
 // What a field holds.
 pub enum Field {
@@ -17,7 +19,7 @@ pub enum Field {
 
 // The value of place k.
 pub(crate) fn place(k: usize) -> u64
-    requires { ⌜ k < 5 ⌝ }
+    requires { ⌜ k < mostDigits ⌝ }
     ensures { λ r. ⌜ r ≡ 10 ^ k ⌝ }
 {
     PLACES[k]
@@ -71,7 +73,7 @@ fn is_numeral(f: &[u8]) -> bool
 
 // The sum of the digits, each times its place value.
 fn value_of(f: &[u8]) -> u64
-    requires { ⌜ (length (now f) ≤ 5) × (allDigits (now f) ≡ true) ⌝ }
+    requires { ⌜ (length (now f) ≤ mostDigits) × (allDigits (now f) ≡ true) ⌝ }
     ensures { λ r. ⌜ r ≡ value (now (f .entry)) ⌝ }
 {
     let mut sum: u64 = 0;
@@ -84,20 +86,21 @@ fn value_of(f: &[u8]) -> u64
     sum
 }
 
-// More than five digits with no needless zero are above every number of 16 bits, so no sum overflows.
-pub fn read_field(f: &[u8]) -> Field
-    ensures { λ r. ⌜ r ≡ fieldOf (now (f .entry)) ⌝ }
+// What a field holds, where numbers end at a limit. More digits than any number of 16 bits has, with no needless zero, are above every limit, so no
+// sum overflows.
+pub fn read_field(f: &[u8], limit: u16) -> Field
+    ensures { λ r. ⌜ r ≡ fieldOf limit (now (f .entry)) ⌝ }
 {
     let from = blanks(f);
     let digits = &f[from..];
     if !is_numeral(digits) {
         return Field::Broken;
     }
-    if 5 < digits.len() {
+    if MOST_DIGITS < digits.len() {
         return Field::Large;
     }
     let n = value_of(digits);
-    if 65535 < n {
+    if (limit as u64) < n {
         return Field::Large;
     }
     Field::Number(n as u16)

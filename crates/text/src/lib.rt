@@ -1,5 +1,6 @@
 // Text of tables and listings: fixed decimal fields, lines, the table reader, and printing.
 mod decimal;
+mod layout;
 mod lines;
 mod print;
 pub mod reader;
@@ -7,6 +8,11 @@ mod table;
 
 pub use decimal::Field;
 pub use decimal::read_field;
+pub use layout::Format;
+pub use layout::Layout;
+pub use layout::MOST_INPUT;
+pub use layout::MOST_ROWS;
+pub use layout::QUERY_BYTES;
 pub use lines::Line;
 pub use lines::QueryRead;
 pub use lines::Step;

@@ -1,10 +1,17 @@
 // Lines: the judgement of one line, and the line reader, which keeps the text and the line reached.
 ghost use mathlib.Core.Path.{_≡_};
-ghost use Prim.Native.Nat.{_+_, _<_, _^_};
+ghost use Prim.Native.Nat.{_+_, _≤_, _<_, _^_};
+ghost use lib.ListN.{length};
+ghost use Rattle.text.specs.Layout.{bytesOf};
 ghost use Rattle.text.specs.Decimal.{fieldNumber, refuses, fieldValue};
-ghost use Rattle.text.specs.Line.{linesOf, firstLine, isWhole, judged, stepAs, stepAt, passed, stepFrom, queryOf};
+ghost use Rattle.text.specs.Line.{linesOf, firstLine, isWhole, judged, fieldAt, stepAs, stepAt, passed, stepFrom, queryOf};
 use crate::decimal::Field;
 use crate::decimal::read_field;
+use crate::layout::Format;
+use crate::layout::LINE_BYTES;
+use crate::layout::Layout;
+use crate::layout::QUERY;
+use crate::layout::TABLE;
 
 // What stands at a line: its row, the text's end, or the line's first fault.
 pub enum Line {
@@ -103,24 +110,33 @@ fn is_whole(s: &[u8], width: usize) -> bool
     s[last] == 10
 }
 
-// The first line of s, with three fields of a, b and c columns.
-fn first_as(s: &[u8], a: usize, b: usize, c: usize) -> Line
-    requires { ⌜ a + b + c < 2 ^ 16 ⌝ }
-    ensures { λ r. ⌜ r ≡ stepAs a b c (linesOf (now (s .entry))) ⌝ }
+// The field that starts at byte `from` of s.
+fn field_at(s: &[u8], from: usize, f: Format) -> Field
+    requires { ⌜ from + f .width ≤ length (now s) ⌝ }
+    ensures { λ r. ⌜ r ≡ fieldAt f from (now (s .entry)) ⌝ }
+{
+    let to = from + f.width;
+    read_field(&s[from..to], f.limit)
+}
+
+// The first line of s, with fields as the layout has them.
+fn first_as(s: &[u8], layout: Layout) -> Line
+    requires { ⌜ bytesOf layout ≤ 2 ^ 16 ⌝ }
+    ensures { λ r. ⌜ r ≡ stepAs layout (linesOf (now (s .entry))) ⌝ }
 {
     if s.len() == 0 {
         return Line::End;
     }
-    let y = a + b;
-    let z = y + c;
+    let a = layout.first;
+    let b = layout.second;
+    let c = layout.third;
+    let x = a.width;
+    let y = x + b.width;
+    let z = y + c.width;
     if !is_whole(s, z + 1) {
         return Line::BadLength;
     }
-    judge(
-        read_field(&s[0..a]),
-        read_field(&s[a..y]),
-        read_field(&s[y..z]),
-    )
+    judge(field_at(s, 0, a), field_at(s, x, b), field_at(s, y, c))
 }
 
 // How many lines a step passes: a row is passed, and a reader stays at the text's end and at a faulty line.
@@ -136,15 +152,15 @@ fn passed(l: Line) -> usize
     }
 }
 
-// Line `line` of a table's text, counted from 0, where each line before it is 18 bytes.
+// Line `line` of a table's text, counted from 0, where each line before it has the bytes of a row.
 fn step_at(text: &[u8], line: usize) -> Line
     ensures { λ r. ⌜ r ≡ stepAt (now (text .entry)) line ⌝ }
 {
-    if text.len() / 18 < line {
+    if text.len() / LINE_BYTES < line {
         return Line::End;
     }
-    let at = 18 * line;
-    first_as(&text[at..], 5, 6, 6)
+    let at = LINE_BYTES * line;
+    first_as(&text[at..], TABLE)
 }
 
 // A step from a line of a table's text: what stands there, judged once, and the line reached then.
@@ -162,7 +178,7 @@ pub(crate) fn step_from(text: &[u8], line: usize) -> Step
 pub fn read_query(text: &[u8]) -> QueryRead
     ensures { λ r. ⌜ r ≡ queryOf (now (text .entry)) ⌝ }
 {
-    match first_as(text, 5, 5, 5) {
+    match first_as(text, QUERY) {
         Line::Row(k, from, to) => QueryRead::Query(k, from, to),
         Line::End => QueryRead::BadLength,
         Line::BadLength => QueryRead::BadLength,

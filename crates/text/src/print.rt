@@ -3,8 +3,16 @@ ghost use mathlib.Core.Path.{_≡_};
 ghost use Prim.Native.Nat.{_+_, _≤_};
 ghost use lib.ListN.{length};
 ghost use lib.Dec.{leb};
+ghost use Rattle.text.specs.Layout.{entryBytes, refusedBytes};
 ghost use Rattle.text.specs.Print.{columnOf, printed, fits, pasted, putOf, fieldPut, written, header, listingLine, refusedLine};
 use crate::decimal::place;
+use crate::layout::DAY_WIDTH;
+use crate::layout::ENTRY_BYTES;
+use crate::layout::MOST_DIGITS;
+use crate::layout::NUMBER_WIDTH;
+use crate::layout::PLACE_WIDTH;
+use crate::layout::REFUSED_BYTES;
+use crate::layout::ROWS_WIDTH;
 
 // The position after what was written, or that nothing was.
 pub enum Put {
@@ -19,7 +27,7 @@ fn column(k: usize, n: u16) -> u8
     if k == 0 {
         return 48 + (n % 10) as u8;
     }
-    if 5 <= k {
+    if MOST_DIGITS <= k {
         return 32;
     }
     let value = place(k);
@@ -37,7 +45,7 @@ fn fits_in(width: usize, n: u16) -> bool
     if width == 0 {
         return false;
     }
-    if 5 <= width {
+    if MOST_DIGITS <= width {
         return true;
     }
     (n as u64) < place(width)
@@ -78,23 +86,23 @@ fn write_field(out: &mut [u8], at: usize, width: usize, n: u16) -> usize
 }
 
 fn write_line(out: &mut [u8], at: usize, start: u16, end: u16, span: u16, rows: u16) -> usize
-    requires { ⌜ at + 22 ≤ length (now out) ⌝ }
-    ensures { λ r. ⌜ (r ≡ at + 22) × (now (out .exit) ≡ pasted (now (out .entry)) at (listingLine start end span rows)) ⌝ }
+    requires { ⌜ at + entryBytes ≤ length (now out) ⌝ }
+    ensures { λ r. ⌜ (r ≡ at + entryBytes) × (now (out .exit) ≡ pasted (now (out .entry)) at (listingLine start end span rows)) ⌝ }
 {
-    let a = write_field(out, at, 5, start);
-    let b = write_field(out, a, 5, end);
-    let c = write_field(out, b, 5, span);
-    let d = write_field(out, c, 6, rows);
+    let a = write_field(out, at, DAY_WIDTH, start);
+    let b = write_field(out, a, DAY_WIDTH, end);
+    let c = write_field(out, b, DAY_WIDTH, span);
+    let d = write_field(out, c, ROWS_WIDTH, rows);
     write_bytes(out, d, b"\n")
 }
 
 fn write_refused(out: &mut [u8], number: u16, line: u16) -> usize
-    requires { ⌜ 19 ≤ length (now out) ⌝ }
-    ensures { λ r. ⌜ (r ≡ 19) × (now (out .exit) ≡ pasted (now (out .entry)) 0 (refusedLine number line)) ⌝ }
+    requires { ⌜ refusedBytes ≤ length (now out) ⌝ }
+    ensures { λ r. ⌜ (r ≡ refusedBytes) × (now (out .exit) ≡ pasted (now (out .entry)) 0 (refusedLine number line)) ⌝ }
 {
     let a = write_bytes(out, 0, b"refused");
-    let b = write_field(out, a, 5, number);
-    let c = write_field(out, b, 6, line);
+    let b = write_field(out, a, NUMBER_WIDTH, number);
+    let c = write_field(out, b, PLACE_WIDTH, line);
     write_bytes(out, c, b"\n")
 }
 
@@ -118,7 +126,7 @@ pub fn put_header(out: &mut [u8]) -> Put
     ensures { λ r. ⌜ r ≡ putOf (now (out .entry)) 0 header ⌝ }
     ensures { λ r. ⌜ now (out .exit) ≡ written r (now (out .entry)) 0 header ⌝ }
 {
-    if !has_room(out.len(), 0, 22) {
+    if !has_room(out.len(), 0, ENTRY_BYTES) {
         return Put::NoRoom;
     }
     let next = write_bytes(out, 0, b"start  end span  rows\n");
@@ -130,7 +138,7 @@ pub fn put_line(out: &mut [u8], at: usize, start: u16, end: u16, span: u16, rows
     ensures { λ r. ⌜ r ≡ putOf (now (out .entry)) at (listingLine start end span rows) ⌝ }
     ensures { λ r. ⌜ now (out .exit) ≡ written r (now (out .entry)) at (listingLine start end span rows) ⌝ }
 {
-    if !has_room(out.len(), at, 22) {
+    if !has_room(out.len(), at, ENTRY_BYTES) {
         return Put::NoRoom;
     }
     let next = write_line(out, at, start, end, span, rows);
@@ -142,7 +150,7 @@ pub fn put_refused(out: &mut [u8], number: u16, line: u16) -> Put
     ensures { λ r. ⌜ r ≡ putOf (now (out .entry)) 0 (refusedLine number line) ⌝ }
     ensures { λ r. ⌜ now (out .exit) ≡ written r (now (out .entry)) 0 (refusedLine number line) ⌝ }
 {
-    if !has_room(out.len(), 0, 19) {
+    if !has_room(out.len(), 0, REFUSED_BYTES) {
         return Put::NoRoom;
     }
     let next = write_refused(out, number, line);
