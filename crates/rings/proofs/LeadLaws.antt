@@ -4,7 +4,7 @@
 --     fresh-one                    a pair has one fresh row at most
 --     fresh-on                     as lo moves on, a fresh row stays one while its pair counts by it
 --     fresh-test, fresh-alone      what the test on the earlier row of the pair says
---     open-own, open-later         a row opens on its own day or later; and no sooner where the window begins later
+--     open-own                     a row opens on its own day or later
 --     open-day, day-opens          it opens on its own day, so each row of a window opens in it
 --     Opens, opens-e, opens-i, opens-not     what `opensBy` says
 --     ring-opens, opens-ring       a row of a ring opens by its end; one that does, between two accounts of the ring, is in it
@@ -12,7 +12,7 @@
 --     lead-opens                   a fresh row dated by day c opens by c
 --     LeadBy, open-lead            the pair of a row that opens by c has a fresh row dated by c
 -- Here one row is enough for a pair to count. Where h rows are asked for (02, S-7), the definitions change and these laws are proved anew, in the same words.
--- Three of them hold for one row alone, counts-here, open-day and day-opens: who cites these needs another argument then.
+-- Four of them hold for one row alone, counts-here, fresh-alone, open-day and day-opens: who cites these needs another argument then.
 -- Assumes nothing.
 use Prim.Native.Nat.{ℕ, zero, suc, _≤_, _<_, zero-le}
 use native.Mathlib.Nat.{le-refl, le-trans, eq-or-lt-of-le, not-suc-le-zero}
@@ -129,9 +129,6 @@ open-day t s j = refl
 
 pub open-own : (t : Table) (s j : ℕ) → dayOf t j ≤ openDay t s j
 open-own t s j = let e = open-day t s j in omega arith
-
-pub open-later : (t : Table) {s s′ : ℕ} → s ≤ s′ → (j : ℕ) → openDay t s j ≤ openDay t s′ j
-open-later t {s} {s′} up j = let a = open-day t s j in let b = open-day t s′ j in omega arith
 
 pub record Opens (t : Table) (s e j : ℕ) : Type 0 where
   pub from : s ≤ dayOf t j
