@@ -3,9 +3,8 @@
 --     same-time                two times that the same days reach are equal
 --     account-reach-i, -e      e reaches an account's core time exactly if the account is met in the ring of [s, e]
 --     row-reach-i, -e          e reaches a row's core time exactly if the row is in the ring of [s, e]
---     row-max                  a row's core time is the greatest of its accounts' and the day on which it opens (001, Lemma 1 and Algorithm 2)
---     row-shut                 a row that does not open in the range has never
---     row-before, row-after, row-past     so has a row before s, after hi or outside the table
+--     row-max                  a row's core time is the greatest of its accounts' and its own day (001, Lemma 1 and Algorithm 2)
+--     row-before, row-after, row-past     a row before s, after hi or outside the table has never
 --     ring-size                a ring has as many rows as have a core time of at most its end
 --     account-later, row-later            core times rise with the start
 --     account-never, row-never            so what has none has none later
@@ -26,12 +25,10 @@ use Rattle.rings.specs.Words.{marked, count, run}
 use Rattle.rings.specs.Table.{Table, size, dayOf, firstOf, secondOf}
 use Rattle.rings.specs.Ring.{names, met, ring, inRing, members}
 use Rattle.rings.specs.CoreTimes.{never, least, accountTime, rowTime}
-use Rattle.rings.specs.Inner.Links.{openDay}
 use Rattle.rings.specs.declared.Query.{Query}
 use Rattle.rings.proofs.WordLaws.{look, clash, same-truth, count-same}
-use Rattle.rings.proofs.RingLaws.{Inside, met-e, met-mono, in-window, met-first, met-second, ring-grows, in-grows, ring-sized, in-marked, marked-in}
+use Rattle.rings.proofs.RingLaws.{Inside, met-e, met-mono, in-window, two-met, met-first, met-second, ring-grows, in-grows, ring-sized, in-marked, marked-in}
 use Rattle.rings.proofs.OthersLaws.{touch-named}
-use Rattle.rings.proofs.LeadLaws.{Opens, open-own, ring-opens, opens-ring}
 
 -- ---- the least day that has a property
 
@@ -144,20 +141,14 @@ module _ (t : Table) (q : Query) (hi : ℕ) where
     row-reach-e fits j = reach-e (λ e. inRing t q s e j) s hi fits (λ a b l. in-grows t q j (le-refl s) l)
 
     -- 01: "it is the greatest of its two accounts' core times and its own day"
-    pub row-max : hi < never → (j : ℕ) → j < size t → Opens t s hi j → rowTime t q hi s j ≡ max (max (accountTime t q hi s (firstOf t j)) (accountTime t q hi s (secondOf t j))) (openDay t s j)
-    row-max fits j o i =
-        same-time {s = s} {hi = hi} fits (row-time j) (time-max {s = s} {hi = hi} fits (account-time (firstOf t j)) (account-time (secondOf t j)) (le-trans (i .from) (open-own t s j)) (i .to))
+    pub row-max : hi < never → (j : ℕ) → Inside t s hi j → rowTime t q hi s j ≡ max (max (accountTime t q hi s (firstOf t j)) (accountTime t q hi s (secondOf t j))) (dayOf t j)
+    row-max fits j i =
+        same-time {s = s} {hi = hi} fits (row-time j) (time-max {s = s} {hi = hi} fits (account-time (firstOf t j)) (account-time (secondOf t j)) (i .from) (i .to))
         (λ e l h r. let k = row-reach-e fits j e h r in
         let a : accountTime t q hi s (firstOf t j) ≤ e = account-reach-i (firstOf t j) e l h (met-first t q s e j k) in
         let b : accountTime t q hi s (secondOf t j) ≤ e = account-reach-i (secondOf t j) e l h (met-second t q s e j k) in
-        let d : openDay t s j ≤ e = ring-opens t q s e j k .to in omega arith)
-        (λ e l h r. row-reach-i j e l h (opens-ring t q s e j o (record { from = i .from; to = omega arith }) (account-reach-e fits (firstOf t j) e h (omega arith)) (account-reach-e fits (secondOf t j) e h (omega arith))))
-
-    pub row-shut : (j : ℕ) → (Opens t s hi j → ⊥) → rowTime t q hi s j ≡ never
-    unfolding rowTime
-    row-shut j f =
-        none-never (λ e. inRing t q s e j) s hi
-        (λ e l h. ⊎-elim (λ k. let w = ring-opens t q s e j k in absurd (f (record { from = w .from; to = le-trans (w .to) h }))) (λ k. k) (look (inRing t q s e j)))
+        let d : dayOf t j ≤ e = in-window t q s e j k .to in omega arith)
+        (λ e l h r. row-reach-i j e l h (two-met t q s e j (record { row = i .row; from = i .from; to = omega arith }) (account-reach-e fits (firstOf t j) e h (omega arith)) (account-reach-e fits (secondOf t j) e h (omega arith))))
 
     -- 01: "A row before s or after Te has never"
     pub row-outside : (j : ℕ) → (Inside t s hi j → ⊥) → rowTime t q hi s j ≡ never

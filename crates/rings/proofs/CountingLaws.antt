@@ -30,8 +30,8 @@ use Rattle.rings.specs.Inner.Counting.{timeBy, IsTime, Histogram, WhereC
 use Rattle.rings.proofs.WordLaws.{look, tally-yes, tally-no, count-le, count-mono, count-same, count-none, count-pos, same-or}
 use Rattle.rings.specs.declared.Query.{Query}
 use Rattle.rings.proofs.PairLaws.{count-drop}
-use Rattle.rings.proofs.LeadLaws.{Opens, open-own, open-day, day-opens, opens-e, opens-i, opens-not}
-use Rattle.rings.proofs.CoreTimeLaws.{row-time, row-max, row-shut}
+use Rattle.rings.proofs.LeadLaws.{Opens, open-own, open-day, day-opens, opens-e, opens-i, opens-not, row-opens, row-shut}
+use Rattle.rings.proofs.CoreTimeLaws.{row-time}
 use Rattle.rings.proofs.FallLaws.{guess-at}
 
 -- ---- the time of a row by those of its accounts
@@ -64,7 +64,7 @@ by-core d f g k s te lo S {xs} C j l =
     inside o =
         let x = S .accounts j l in let y = S .small j l in
         let m = at (firstOf t j) (omega arith) in let n = at (secondOf t j) y in
-        by-in t (guess xs) s te j o ∙ ((let e : max (max (guess xs (firstOf t j)) (guess xs (secondOf t j))) (openDay t s j) ≡ max (max (accountTime t (query k) te s (firstOf t j)) (accountTime t (query k) te s (secondOf t j))) (openDay t s j) = omega arith in e) ∙ sym (row-max t (query k) te s (S .fits) j l o))
+        by-in t (guess xs) s te j o ∙ ((let e : max (max (guess xs (firstOf t j)) (guess xs (secondOf t j))) (openDay t s j) ≡ max (max (accountTime t (query k) te s (firstOf t j)) (accountTime t (query k) te s (secondOf t j))) (openDay t s j) = omega arith in e) ∙ sym (row-opens t (query k) te s (S .fits) j l o))
 
 -- the day on which the window begins matters only to rows before it
 pub by-later : (t : Table) (x : ℕ → ℕ) (s hi j : ℕ) → s + 1 ≤ dayOf t j → timeBy t x (s + 1) hi j ≡ timeBy t x s hi j

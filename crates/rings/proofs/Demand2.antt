@@ -37,7 +37,6 @@ use Rattle.rings.proofs.WordLaws.{look, clash, length-run, getD-run}
 use Rattle.rings.proofs.CheckLaws.{accepted-left, accepted-right, when-accepted, passed, counted-e}
 use Rattle.rings.proofs.RingLaws.{ring-is, ring-only, marked-in, in-marked}
 use Rattle.rings.proofs.OthersLaws.{DistinctOthers, distinct-others, accounts-rise}
-use Rattle.rings.proofs.LeadLaws.{open-day, day-opens}
 use Rattle.rings.proofs.CoreTimeLaws.{account-time, account-reach-i, account-reach-e, row-time, row-reach-i, row-reach-e, row-max, row-before, row-after}
 use Rattle.rings.proofs.WindowLaws.{list-is, list-only, recalled-e, recalled-i, inside-ring, ring-inside}
 use Rattle.rings.proofs.AcceptedLaws.{range-e, start-e, lengths-e}
@@ -202,7 +201,7 @@ module _ (t : Table) (q : Query) where
           let r = accounts-rise t accepted j l in
           let c = r .0 in let d = r .1 in
           at-row j l
-          ∙ ((row-max t q hi s short j l (day-opens t s hi j a b) ∙ ap (max (max (accountTime t q hi s (firstOf t j)) (accountTime t q hi s (secondOf t j)))) (open-day t s j))
+          ∙ (row-max t q hi s short j (record { row = l; from = a; to = b })
           ∙ (ap (λ (x : ℕ). max (max x (accountTime t q hi s (secondOf t j))) (dayOf t j)) (sym (at-account (firstOf t j) (omega arith)))
           ∙ ap (λ (x : ℕ). max (max (at account-times (firstOf t j)) x) (dayOf t j)) (sym (at-account (secondOf t j) d))))
 

@@ -8,13 +8,14 @@
 --     open-day, day-opens          it opens on its own day, so each row of a window opens in it
 --     Opens, opens-e, opens-i, opens-not     what `opensBy` says
 --     ring-opens, opens-ring       a row of a ring opens by its end; one that does, between two accounts of the ring, is in it
+--     row-opens, row-shut          its core time is the greatest of its accounts' and the day on which it opens; never if it does not open in the range
 --     open-is                      a row by which its pair counts opens on its own day
 --     lead-opens                   a fresh row dated by day c opens by c
 --     LeadBy, open-lead            the pair of a row that opens by c has a fresh row dated by c
--- Here one row is enough for a pair to count. Where h rows are asked for (02, S-7), the definitions change and these laws are proved anew, in the same words.
+-- Here one row is enough for a pair to count. Where h rows are asked for (02, S-7), the definitions change and these laws are proved anew, in the same words; so are two-met (RingLaws) and row-max (CoreTimeLaws), on which opens-ring and row-opens rest.
 -- Four of them hold for one row alone, counts-here, fresh-alone, open-day and day-opens: who cites these needs another argument then.
 -- Assumes nothing.
-use Prim.Native.Nat.{ℕ, zero, suc, _≤_, _<_, zero-le}
+use Prim.Native.Nat.{ℕ, zero, suc, max, _≤_, _<_, zero-le}
 use native.Mathlib.Nat.{le-refl, le-trans, eq-or-lt-of-le, not-suc-le-zero}
 use native.Mathlib.Omega.{arith}
 use mathlib.Core.Path.{_≡_, refl, sym, _∙_, ap, subst}
@@ -25,12 +26,14 @@ use borrow.Author.Tests.{leb-true, leb-false, le-leb}
 use Rattle.rings.specs.Words.{_and_, some}
 use Rattle.rings.specs.Table.{Table, size, dayOf, firstOf, secondOf}
 use Rattle.rings.specs.Ring.{joins, met, ring, inRing}
+use Rattle.rings.specs.CoreTimes.{never, accountTime, rowTime}
 use Rattle.rings.specs.Inner.Links.{pairBefore, earlier, pairCounts, fresh, openDay, opensBy}
 use Rattle.rings.specs.Inner.Peeling.{Setting}
 use Rattle.rings.specs.declared.Query.{Query}
 use Rattle.rings.proofs.WordLaws.{look, clash, and-i, and-l, and-r, some-e, some-none}
 use Rattle.rings.proofs.RingLaws.{in-window, two-met}
 use Rattle.rings.proofs.PairLaws.{joins-pair, pair-joins, before-yes, before-no}
+use Rattle.rings.proofs.CoreTimeLaws.{row-max, row-outside}
 
 -- ---- the row by which a pair counts
 
@@ -154,6 +157,14 @@ module _ (t : Table) (q : Query) (s e j : ℕ) where
 
   pub opens-ring : j < size t → Opens t s e j → met t (ring t q s e) (firstOf t j) ≡ true → met t (ring t q s e) (secondOf t j) ≡ true → inRing t q s e j ≡ true
   opens-ring l o a b = two-met t q s e j (record { row = l; from = o .from; to = le-trans (open-own t s j) (o .to) }) a b
+
+-- a row's core time is the greatest of its accounts' and the day on which it opens
+module _ (t : Table) (q : Query) (hi s : ℕ) where
+  pub row-opens : hi < never → (j : ℕ) → j < size t → Opens t s hi j → rowTime t q hi s j ≡ max (max (accountTime t q hi s (firstOf t j)) (accountTime t q hi s (secondOf t j))) (openDay t s j)
+  row-opens fits j l o = let d = open-day t s j in let e = o .to in let m = row-max t q hi s fits j (record { row = l; from = o .from; to = omega arith }) in omega arith
+
+  pub row-shut : (j : ℕ) → (Opens t s hi j → ⊥) → rowTime t q hi s j ≡ never
+  row-shut j f = row-outside t q hi s j (λ i. f (day-opens t s hi j (i .from) (i .to)))
 
 -- ---- both, in a window from day s on, whose first row is lo
 

@@ -19,8 +19,8 @@ use Rattle.rings.specs.Inner.Links.{openDay}
 use Rattle.rings.specs.Inner.Peeling.{Framed, Span, CoreTimesAre}
 use Rattle.rings.specs.declared.frame.Frame.{Frame}
 use Rattle.rings.proofs.WordLaws.{length-run, getD-run}
-use Rattle.rings.proofs.LeadLaws.{counts-here, open-is, day-opens}
-use Rattle.rings.proofs.CoreTimeLaws.{row-max, row-before, row-after}
+use Rattle.rings.proofs.LeadLaws.{counts-here, open-is, day-opens, row-opens}
+use Rattle.rings.proofs.CoreTimeLaws.{row-before, row-after}
 
 module _ (d f s : List ℕ) (q : Frame) (R : Framed d f s q) {end : ℕ} (Sp : Span d (q .stop) (q .lo) end) {x : List ℕ} (C : CoreTimesAre d f s q x) {j : ℕ} (b : j < length d) where
   a-small : getD f j 0 < 4096
@@ -44,7 +44,7 @@ module _ (d f s : List ℕ) (q : Frame) (R : Framed d f s q) {end : ℕ} (Sp : S
   row-mid h k {a} {c} {g} {g′} ea ec eg eg′ =
       eg′ ∙ (ap (λ (y : ℕ). max y (getD d j 0)) (eg ∙ (ap (λ (y : ℕ). max y (getD x c 0)) one ∙ ap (max (accountTime (tableOf d f s) (q .query) (q .stop) (q .start) (getD f j 0))) two))
       ∙ (ap (max (max (accountTime (tableOf d f s) (q .query) (q .stop) (q .start) (getD f j 0)) (accountTime (tableOf d f s) (q .query) (q .stop) (q .start) (getD s j 0)))) (sym own-day)
-      ∙ sym (row-max (tableOf d f s) (q .query) (q .stop) (q .start) (R .setting .fits) j b (day-opens (tableOf d f s) (q .start) (q .stop) j (R .setting .from-lo j b h) (Sp .inside j k)))))
+      ∙ sym (row-opens (tableOf d f s) (q .query) (q .stop) (q .start) (R .setting .fits) j b (day-opens (tableOf d f s) (q .start) (q .stop) j (R .setting .from-lo j b h) (Sp .inside j k)))))
     where
       own-day : openDay (tableOf d f s) (q .start) j ≡ dayOf (tableOf d f s) j
       own-day = open-is (tableOf d f s) (q .query) (q .start) (q .stop) (q .lo) (R .setting) j b (counts-here (tableOf d f s) (q .lo) j h)
