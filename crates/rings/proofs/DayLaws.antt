@@ -16,7 +16,7 @@ use lib.Dec.{leb}
 use borrow.Author.Tests.{leb-true, leb-false}
 use Rattle.rings.specs.Words.{at}
 use Rattle.rings.specs.Table.{Table, tableOf, dayOf, firstOf, secondOf, Split}
-use Rattle.rings.specs.Sound.{Sound}
+use Rattle.rings.specs.Sound.{NeverFall, Sound}
 use Rattle.rings.specs.Inner.Links.{Linked, Paired, Shelves}
 use Rattle.rings.specs.Ring.{query}
 use Rattle.rings.specs.Inner.Peeling.{Setting, Ready, Framed, Placed, Open, season, Span}
@@ -34,9 +34,9 @@ pub scan-next : {d : List ℕ} {day r : ℕ} → Scan d day r → r < length d �
 scan-next {d} {day} {r} S l h = record { within = omega arith; before = λ j k. ⊎-elim (λ e. subst (λ (c : ℕ). getD d c 0 < day) (sym e) h) (λ o. S .before j o) (eq-or-lt-of-le (omega arith)) }
 
 -- days never fall, over any distance
-pub rising-all : (d : List ℕ) → ((j : ℕ) → suc j < length d → getD d j 0 ≤ getD d (suc j) 0) → (i j : ℕ) → i ≤ j → j < length d → getD d i 0 ≤ getD d j 0
+pub rising-all : (d : List ℕ) → NeverFall d → (i j : ℕ) → i ≤ j → j < length d → getD d i 0 ≤ getD d j 0
 rising-all d up i zero h l = let e : i ≡ 0 = omega arith in rw e (le-refl (getD d 0 0))
-rising-all d up i (suc j) h l = ⊎-elim (λ e. rw e (le-refl (getD d (suc j) 0))) (λ o. le-trans (rising-all d up i j (le-of-suc-le-suc o) (omega arith)) (up j l)) (eq-or-lt-of-le h)
+rising-all d up i (suc j) h l = ⊎-elim (λ e. rw e (le-refl (getD d (suc j) 0))) (λ o. le-trans (rising-all d up i j (le-of-suc-le-suc o) (omega arith)) (up .next j l)) (eq-or-lt-of-le h)
 
 -- the rows below low are dated before the day, those from high on are not
 pub record Half (d : List ℕ) (day low high : ℕ) : Type 0 where
@@ -48,7 +48,7 @@ pub record Half (d : List ℕ) (day low high : ℕ) : Type 0 where
 pub half-start : (d : List ℕ) (day : ℕ) → Half d day 0 (length d)
 half-start d day = record { ordered = omega arith; within = le-refl (length d); before = λ j h. absurd (not-suc-le-zero h); after = λ j a b. absurd (omega arith) }
 
-module _ {d : List ℕ} (up : (j : ℕ) → suc j < length d → getD d j 0 ≤ getD d (suc j) 0) {day low high middle : ℕ} (H : Half d day low high) (a : low ≤ middle) (b : middle < high) where
+module _ {d : List ℕ} (up : NeverFall d) {day low high middle : ℕ} (H : Half d day low high) (a : low ≤ middle) (b : middle < high) where
   pub half-up : getD d middle 0 < day → Half d day (middle + 1) high
   half-up h = let w = H .within in record { ordered = omega arith; within = w; before = λ j k. let r = rising-all d up j middle (omega arith) (omega arith) in omega arith; after = H .after }
 
@@ -58,7 +58,7 @@ module _ {d : List ℕ} (up : (j : ℕ) → suc j < length d → getD d j 0 ≤ 
 pub half-end : {d : List ℕ} {day low high : ℕ} → Half d day low high → high ≤ low → Split d day low
 half-end {d} {day} {low} {high} H h = let w = H .within in let o = H .ordered in record { within = omega arith; before = H .before; after = λ j a b. H .after j (omega arith) b }
 
-pub scan-found : {d : List ℕ} {day r : ℕ} → ((j : ℕ) → suc j < length d → getD d j 0 ≤ getD d (suc j) 0) → Scan d day r → day ≤ getD d r 0 → Split d day r
+pub scan-found : {d : List ℕ} {day r : ℕ} → NeverFall d → Scan d day r → day ≤ getD d r 0 → Split d day r
 scan-found {d} {day} {r} up S h = record { within = S .within; before = S .before; after = λ j a b. le-trans h (rising-all d up r j a b) }
 
 pub scan-end : {d : List ℕ} {day r : ℕ} → Scan d day r → length d ≤ r → Split d day r

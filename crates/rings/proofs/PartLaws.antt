@@ -119,14 +119,17 @@ module _ (d f g : List ℕ) (lo end : ℕ) (order : lo ≤ end) (inside : end �
         seconds = part-long g (S .seconds) ∙ sym long;
         most = let n = long in let m = S .most in omega arith;
         rows = row;
-        rising = λ j l.
-            let n = long in
-            let a : getD (part lo end d) j 0 ≡ getD d (lo + j) 0 = part-at d j (omega arith) in
-            let b : getD (part lo end d) (suc j) 0 ≡ getD d (suc (lo + j)) 0 = part-at d (suc j) (omega arith) ∙ ap (λ (i : ℕ). getD d i 0) (omega arith) in
-            let c : getD d (lo + j) 0 ≤ getD d (suc (lo + j)) 0 = S .rising (lo + j) (omega arith) in
-            omega arith;
+        rising = record { next = rises };
       }
     where
+      rises : (j : ℕ) → suc j < length (part lo end d) → getD (part lo end d) j 0 ≤ getD (part lo end d) (suc j) 0
+      rises j l =
+          let n = long in
+          let a : getD (part lo end d) j 0 ≡ getD d (lo + j) 0 = part-at d j (omega arith) in
+          let b : getD (part lo end d) (suc j) 0 ≡ getD d (suc (lo + j)) 0 = part-at d (suc j) (omega arith) ∙ ap (λ (i : ℕ). getD d i 0) (omega arith) in
+          let c : getD d (lo + j) 0 ≤ getD d (suc (lo + j)) 0 = S .rising .next (lo + j) (omega arith) in
+          omega arith
+
       row : (j : ℕ) → j < length (part lo end d) → RowSound (part lo end d) (part lo end f) (part lo end g) j
       row j l =
           let n = long in

@@ -26,7 +26,7 @@ use Rattle.rings.specs.Checks.{_when_, _then_, inOrder, rangeCheck}
 use Rattle.rings.specs.Buffers.{mark, marks}
 use Rattle.rings.specs.TableCheck.{tableCheck}
 use Rattle.rings.specs.RecallCall.{Columns, columnsOf, entryAt, comesAfter, inPlace, fits, entryCheck, recallAnswer}
-use Rattle.rings.specs.Inner.Recalling.{entryOf, dated, judged, hits, InTable, marksOf}
+use Rattle.rings.specs.Inner.Recalling.{entryOf, dated, judged, hits, InTable, marksOf, Markable}
 use Rattle.rings.specs.declared.refusal.Refusal.{Refusal}
 use Rattle.rings.specs.declared.refusal.Refusal.the-variants.{BadLengths, BadEntry}
 use Rattle.rings.specs.declared.refusal.Verdict.{Verdict}
@@ -181,11 +181,15 @@ module _ (d f g r b e : List ℕ) (lo hi : ℕ) (m₀ : List ℕ) where
   cleared-long : {m : List ℕ} → m ≡ replicate (length m₀) 0 → length m ≡ length m₀
   cleared-long h = ap length h ∙ length-replicate (length m₀) 0
 
-  pub marks-ready : {m : List ℕ} → Accepted ≡ recallAnswer (tableOf d f g) (columnsOf r b e) lo hi (length m₀) → m ≡ replicate (length m₀) 0 → ((length b ≡ length r) × (length e ≡ length r)) × (InTable (length m) r × (m ≡ replicate (length m) 0))
+  pub marks-ready : {m : List ℕ} → Accepted ≡ recallAnswer (tableOf d f g) (columnsOf r b e) lo hi (length m₀) → m ≡ replicate (length m₀) 0 → Markable (columnsOf r b e) m
   marks-ready h z =
       let x = list-fits d f g r b e lo hi (length m₀) h in
       let n = cleared-long z in
-      ((x .0, x .1), (record { in-table = λ i l. subst (λ (k : ℕ). getD r i 0 < k) (sym (n ∙ x .2)) (x .3 i l) }, z ∙ ap (λ (k : ℕ). replicate k 0) (sym n)))
+      record {
+        lists = record { starts = x .0; ends = x .1 };
+        rows = record { in-table = λ i l. subst (λ (k : ℕ). getD r i 0 < k) (sym (n ∙ x .2)) (x .3 i l) };
+        clear = z ∙ ap (λ (k : ℕ). replicate k 0) (sym n);
+      }
 
   pub marks-right : {m m′ : List ℕ} → Accepted ≡ recallAnswer (tableOf d f g) (columnsOf r b e) lo hi (length m₀) → m ≡ replicate (length m₀) 0 → m′ ≡ marksOf (columnsOf r b e) lo hi (length m) → m′ ≡ marksOf (columnsOf r b e) lo hi (length d)
   marks-right h z w = w ∙ ap (marksOf (columnsOf r b e) lo hi) (cleared-long z ∙ list-fits d f g r b e lo hi (length m₀) h .2)

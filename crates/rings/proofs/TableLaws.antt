@@ -97,7 +97,7 @@ table-sound d f s e =
       seconds = eqb-true (length s) (length d) (and-r (eqb (length f) (length d)) (eqb (length s) (length d)) both);
       most = ltb-false 16384 (length d) e₂;
       rows = λ j l. let x = row e₃ j l in record { day-from = x .0; day-to = x .1; accounts = x .2; account-to = x .3 };
-      rising = λ j l. row e₃ (suc j) l .4;
+      rising = record { next = λ j l. row e₃ (suc j) l .4 };
     }
   where
     row : inOrder (run (rowCheck (tableOf d f s)) 0 (length d)) ≡ Accepted → (j : ℕ) → j < length d → (1 ≤ getD d j 0) × (getD d j 0 ≤ 1024) × (getD f j 0 < getD s j 0) × (getD s j 0 ≤ 4095) × (dayBefore (tableOf d f s) j ≤ getD d j 0)

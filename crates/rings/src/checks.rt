@@ -1,14 +1,14 @@
 // The checks that the calls on a query share, in the order of document 01. Lent buffers come in by their lengths.
 ghost use mathlib.Core.Path.{_≡_};
 ghost use Prim.Native.Nat.{_≤_};
-ghost use lib.ListN.{length};
 ghost use lib.Dec.{leb, eqb};
 ghost use Rattle.rings.specs.Words.{_and_, no};
-ghost use Rattle.rings.specs.Table.{tableOf};
+ghost use Rattle.rings.specs.Table.{tableOf, size};
 ghost use Rattle.rings.specs.TableCheck.{tableCheck};
 ghost use Rattle.rings.specs.Checks.{_when_, _then_, queryCheck, scratchCheck};
 ghost use Rattle.rings.specs.declared.refusal.Refusal.the-variants.{BadLengths, BadWindow};
 use crate::Query;
+use crate::limits::ADJACENCY;
 use crate::refusal::Refusal;
 use crate::refusal::Verdict;
 use crate::table::check_table;
@@ -55,7 +55,8 @@ pub fn are_equal(a: usize, b: usize, c: usize, d: usize) -> bool
 // 6, 7, 8, 9 on numbers alone.
 fn check_numbers(rows: usize, query: Query, window: bool, lengths: bool, scratch: usize) -> Verdict
     requires { ⌜ rows ≤ 16384 ⌝ }
-    ensures { λ r. ⌜ r ≡ (queryCheck query then BadWindow when no window then BadLengths when no lengths then scratchCheck rows scratch) ⌝ }
+    ensures { λ r. ⌜ r ≡ (
+        queryCheck query then BadWindow when no window then BadLengths when no lengths then scratchCheck rows scratch) ⌝ }
 {
     let k = query.k;
     if k < 1 {
@@ -70,7 +71,7 @@ fn check_numbers(rows: usize, query: Query, window: bool, lengths: bool, scratch
     if !lengths {
         return Verdict::Refused(Refusal::BadLengths);
     }
-    if scratch < 8192 + 4 * rows {
+    if scratch < ADJACENCY + 4 * rows {
         return Verdict::Refused(Refusal::SmallScratch);
     }
     Verdict::Accepted
@@ -86,7 +87,10 @@ pub fn check_call(
     lengths: bool,
     scratch: usize,
 ) -> Verdict
-    ensures { λ r. ⌜ r ≡ (tableCheck (tableOf (now (days .entry)) (now (first .entry)) (now (second .entry))) then queryCheck query then BadWindow when no window then BadLengths when no lengths then scratchCheck (length (now (days .entry))) scratch) ⌝ }
+    ensures { λ r. ⌜ (
+        let t = tableOf (now (days .entry)) (now (first .entry)) (now (second .entry)) in
+        r ≡ (tableCheck t then queryCheck query then BadWindow when no window then BadLengths when no lengths
+        then scratchCheck (size t) scratch)) ⌝ }
 {
     let found = check_table(days, first, second);
     match found {

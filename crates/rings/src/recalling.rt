@@ -9,7 +9,7 @@ ghost use Rattle.rings.specs.Words.{_and_, no, at, run};
 ghost use Rattle.rings.specs.Table.{tableOf};
 ghost use Rattle.rings.specs.Checks.{_when_, inOrder, rangeCheck};
 ghost use Rattle.rings.specs.RecallCall.{columnsOf, entryCheck, recallAnswer, recallMarks};
-ghost use Rattle.rings.specs.Inner.Recalling.{entryOf, dated, judged, InTable, marksOf};
+ghost use Rattle.rings.specs.Inner.Recalling.{entryOf, dated, judged, EqualLists, Markable, marksOf};
 ghost use Rattle.rings.specs.declared.refusal.Refusal.the-variants.{BadLengths};
 use crate::links::entry;
 use crate::refusal::Refusal;
@@ -107,8 +107,10 @@ fn check_entry(
 
 // The first bad entry decides.
 fn check_entries(days: &[u16], rows: &[u16], starts: &[u16], ends: &[u16]) -> Verdict
-    requires { ⌜ (length (now starts) ≡ length (now rows)) × (length (now ends) ≡ length (now rows)) ⌝ }
-    ensures { λ r. ⌜ r ≡ inOrder (run (entryCheck (dated (now (days .entry))) (columnsOf (now (rows .entry)) (now (starts .entry)) (now (ends .entry)))) 0 (length (now (rows .entry)))) ⌝ }
+    requires { ⌜ EqualLists (columnsOf (now rows) (now starts) (now ends)) ⌝ }
+    ensures { λ r. ⌜ (
+        let c = columnsOf (now (rows .entry)) (now (starts .entry)) (now (ends .entry)) in
+        r ≡ inOrder (run (entryCheck (dated (now (days .entry))) c) 0 (length (c .rows)))) ⌝ }
 {
     let mut lastrow = 0;
     let mut laststart = 0;
@@ -157,7 +159,10 @@ fn check_recall(
     e: u16,
     places: usize,
 ) -> Verdict
-    ensures { λ r. ⌜ r ≡ recallAnswer (tableOf (now (days .entry)) (now (first .entry)) (now (second .entry))) (columnsOf (now (rows .entry)) (now (starts .entry)) (now (ends .entry))) s e places ⌝ }
+    ensures { λ r. ⌜ (
+        let t = tableOf (now (days .entry)) (now (first .entry)) (now (second .entry)) in
+        let c = columnsOf (now (rows .entry)) (now (starts .entry)) (now (ends .entry)) in
+        r ≡ recallAnswer t c s e places) ⌝ }
 {
     match check_table(days, first, second) {
         Verdict::Refused(r) => {
@@ -193,10 +198,10 @@ pub(crate) fn clear_marks(marks: &mut [u8])
 
 // Each entry with a window inside [s, e] marks its row.
 fn mark_entries(rows: &[u16], starts: &[u16], ends: &[u16], s: usize, e: usize, marks: &mut [u8])
-    requires { ⌜ (length (now starts) ≡ length (now rows)) × (length (now ends) ≡ length (now rows)) ⌝ }
-    requires { ⌜ InTable (length (now marks)) (now rows) ⌝ }
-    requires { ⌜ now marks ≡ replicate (length (now marks)) 0 ⌝ }
-    ensures { λ _. ⌜ now (marks .exit) ≡ marksOf (columnsOf (now (rows .entry)) (now (starts .entry)) (now (ends .entry))) s e (length (now (marks .entry))) ⌝ }
+    requires { ⌜ Markable (columnsOf (now rows) (now starts) (now ends)) (now marks) ⌝ }
+    ensures { λ _. ⌜ (
+        let c = columnsOf (now (rows .entry)) (now (starts .entry)) (now (ends .entry)) in
+        now (marks .exit) ≡ marksOf c s e (length (now (marks .entry)))) ⌝ }
 {
     let mut next = 0;
     while next < rows.len() {
@@ -227,8 +232,14 @@ pub fn recall(
     e: u16,
     marks: &mut [u8],
 ) -> Verdict
-    ensures { λ r. ⌜ r ≡ recallAnswer (tableOf (now (days .entry)) (now (first .entry)) (now (second .entry))) (columnsOf (now (rows .entry)) (now (starts .entry)) (now (ends .entry))) s e (length (now (marks .entry))) ⌝ }
-    ensures { λ r. ⌜ now (marks .exit) ≡ recallMarks r (tableOf (now (days .entry)) (now (first .entry)) (now (second .entry))) (columnsOf (now (rows .entry)) (now (starts .entry)) (now (ends .entry))) s e (now (marks .entry)) ⌝ }
+    ensures { λ r. ⌜ (
+        let t = tableOf (now (days .entry)) (now (first .entry)) (now (second .entry)) in
+        let c = columnsOf (now (rows .entry)) (now (starts .entry)) (now (ends .entry)) in
+        r ≡ recallAnswer t c s e (length (now (marks .entry)))) ⌝ }
+    ensures { λ r. ⌜ (
+        let t = tableOf (now (days .entry)) (now (first .entry)) (now (second .entry)) in
+        let c = columnsOf (now (rows .entry)) (now (starts .entry)) (now (ends .entry)) in
+        now (marks .exit) ≡ recallMarks r t c s e (now (marks .entry))) ⌝ }
 {
     let found = check_recall(days, first, second, rows, starts, ends, s, e, marks.len());
     match found {

@@ -1,11 +1,12 @@
 // Table check: the first check of every call that takes a table.
 ghost use mathlib.Core.Path.{_≡_};
-ghost use Prim.Native.Nat.{ℕ, suc, _+_, _<_, _≤_};
-ghost use lib.ListN.{length, getD};
+ghost use Prim.Native.Nat.{_+_};
 ghost use Rattle.rings.specs.Words.{run};
-ghost use Rattle.rings.specs.Table.{tableOf, Split};
+ghost use Rattle.rings.specs.Table.{tableOf, size, Split};
+ghost use Rattle.rings.specs.Sound.{EqualColumns, NeverFall};
 ghost use Rattle.rings.specs.Checks.{inOrder};
 ghost use Rattle.rings.specs.TableCheck.{rowFaults, rowCheck, tableCheck};
+use crate::limits::ROWS;
 use crate::refusal::Refusal;
 use crate::refusal::Verdict;
 
@@ -33,8 +34,10 @@ fn check_row(j: usize, before: u16, day: u16, a: u16, b: u16) -> Verdict
 
 // The lowest faulty row decides.
 fn check_rows(days: &[u16], first: &[u16], second: &[u16]) -> Verdict
-    requires { ⌜ (length (now first) ≡ length (now days)) × (length (now second) ≡ length (now days)) ⌝ }
-    ensures { λ r. ⌜ r ≡ inOrder (run (rowCheck (tableOf (now (days .entry)) (now (first .entry)) (now (second .entry)))) 0 (length (now (days .entry)))) ⌝ }
+    requires { ⌜ EqualColumns (now days) (now first) (now second) ⌝ }
+    ensures { λ r. ⌜ (
+        let t = tableOf (now (days .entry)) (now (first .entry)) (now (second .entry)) in
+        r ≡ inOrder (run (rowCheck t) 0 (size t))) ⌝ }
 {
     let mut before: u16 = 0;
     let mut j = 0;
@@ -63,7 +66,7 @@ pub fn check_table(days: &[u16], first: &[u16], second: &[u16]) -> Verdict
     if second.len() != days.len() {
         return Verdict::Refused(Refusal::UnequalColumns);
     }
-    if 16384 < days.len() {
+    if ROWS < days.len() {
         return Verdict::Refused(Refusal::TooManyRows);
     }
     check_rows(days, first, second)
@@ -71,7 +74,7 @@ pub fn check_table(days: &[u16], first: &[u16], second: &[u16]) -> Verdict
 
 // How many rows are dated before a day, in a table whose days never fall.
 pub fn rows_before(days: &[u16], day: u16) -> usize
-    requires { ⌜ ((j : ℕ) → suc j < length (now days) → getD (now days) j 0 ≤ getD (now days) (suc j) 0) ⌝ }
+    requires { ⌜ NeverFall (now days) ⌝ }
     ensures { λ r. ⌜ Split (now (days .entry)) day r ⌝ }
 {
     let mut low = 0;
@@ -89,7 +92,7 @@ pub fn rows_before(days: &[u16], day: u16) -> usize
 
 // The rows before the day after s, from the rows before s on.
 pub fn rows_through(days: &[u16], s: u16, lo: usize) -> usize
-    requires { ⌜ ((j : ℕ) → suc j < length (now days) → getD (now days) j 0 ≤ getD (now days) (suc j) 0) ⌝ }
+    requires { ⌜ NeverFall (now days) ⌝ }
     requires { ⌜ Split (now days) s lo ⌝ }
     ensures { λ r. ⌜ Split (now (days .entry)) (s + 1) r ⌝ }
 {

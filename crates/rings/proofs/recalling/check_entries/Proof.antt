@@ -33,14 +33,14 @@ entry-requires-2 : tie.Need-entry-requires-2 Inv-loop μ-loop
 entry-requires-2 c κs =
     let loop-test = c .before .loop-test in
     let pre = c .before .before .before .before .before .before .before .pre in
-    omega (arith, loop-test .taken, pre .0)
+    omega (arith, loop-test .taken, pre .starts)
 
 -- src/recalling.rt:110:13
 entry-requires-3 : tie.Need-entry-requires-3 Inv-loop μ-loop
 entry-requires-3 c κs =
     let loop-test = c .before .before .loop-test in
     let pre = c .before .before .before .before .before .before .before .before .pre in
-    omega (arith, loop-test .taken, pre .1)
+    omega (arith, loop-test .taken, pre .ends)
 
 -- src/recalling.rt:111:13
 day-at-requires : tie.Need-day-at-requires Inv-loop μ-loop

@@ -57,7 +57,7 @@ check-entries-requires c κs =
     let check-lengths = c .before .before .check-lengths in
     let args = c .before .before .before .before .before .before .before .before .before .before .before .before .args in
     let x = lengths-same (args .days .now) (args .rows .now) (args .starts .now) (args .ends .now) (args .places)
-    (sym (c .enum-told2 .given .1) ∙ check-lengths .ensures) in (x .0, x .1)
+    (sym (c .enum-told2 .given .1) ∙ check-lengths .ensures) in record { starts = x .0; ends = x .1 }
 
 -- src/recalling.rt:145:26
 enum-known-r-3 : tie.Need-enum-known-r-3

@@ -21,7 +21,7 @@ abbrev μ-loop : tie.MeasureT-loop
 loop-holds : tie.Need-loop-holds Inv-loop μ-loop
 loop-holds c =
     let pre = c .before .before .before .before .pre in
-    mark-start _ _ _ _ _ _ (pre .1 .1)
+    mark-start _ _ _ _ _ _ (pre .clear)
 
 -- src/recalling.rt:174:16
 add-next : tie.Need-add-next Inv-loop μ-loop
@@ -36,14 +36,14 @@ entry-requires-2 : tie.Need-entry-requires-2 Inv-loop μ-loop
 entry-requires-2 c κs =
     let loop-test = c .before .loop-test in
     let pre = c .before .before .before .before .before .before .before .pre in
-    omega (arith, loop-test .taken, pre .0 .0)
+    omega (arith, loop-test .taken, pre .lists .starts)
 
 -- src/recalling.rt:177:13
 entry-requires-3 : tie.Need-entry-requires-3 Inv-loop μ-loop
 entry-requires-3 c κs =
     let loop-test = c .before .before .loop-test in
     let pre = c .before .before .before .before .before .before .before .before .pre in
-    omega (arith, loop-test .taken, pre .0 .1)
+    omega (arith, loop-test .taken, pre .lists .ends)
 
 -- src/recalling.rt:172:5
 loop-less : tie.Need-loop-less Inv-loop μ-loop
@@ -80,7 +80,7 @@ slice-write-marks c =
     let loop-test = c .before .before .before .before .before .loop-test in
     let loop = c .before .before .before .before .before .before .loop in
     let pre = c .before .before .before .before .before .before .before .before .before .before .before .pre in
-    omega (arith, entry .ensures, pre .1 .0 .in-table _ (loop-test .taken), loop .inv .long)
+    omega (arith, entry .ensures, pre .rows .in-table _ (loop-test .taken), loop .inv .long)
 
 -- src/recalling.rt:172:5
 loop-less-3 : tie.Need-loop-less-3 Inv-loop μ-loop
@@ -98,7 +98,7 @@ loop-again-3 c =
     let loop-test = c .before .before .before .before .before .loop-test in
     let loop = c .before .before .before .before .before .before .loop in
     let pre = c .before .before .before .before .before .before .before .before .before .before .before .pre in
-    mark-hit _ _ _ _ _ (loop .inv) (pre .1 .0) (loop-test .taken) (entry .ensures) (entry2 .ensures) (entry3 .ensures)
+    mark-hit _ _ _ _ _ (loop .inv) (pre .rows) (loop-test .taken) (entry .ensures) (entry2 .ensures) (entry3 .ensures)
     (if1 .left) (c .if2 .left)
 
 -- src/recalling.rt:165:1
