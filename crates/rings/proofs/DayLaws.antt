@@ -2,6 +2,7 @@
 --     Half, half-start, half-up, half-down, half-end     the loop of `rows_before`
 --     Scan, scan-on, scan-next, scan-found, scan-end     the loop of `rows_through`
 --     span-after, span-of      the rows of a window
+--     heads-on       the heads can go on to a day, from the first rows
 --     setting-of     what peeling works on
 --     ready-of, framed-of, placed-of, open-of, ready-framed, open-framed, shelves-paired    with a book, with a part of it, with none
 -- Assumes nothing.
@@ -17,7 +18,7 @@ use borrow.Author.Tests.{leb-true, leb-false}
 use Rattle.rings.specs.Words.{at}
 use Rattle.rings.specs.Table.{Table, tableOf, dayOf, firstOf, secondOf, Split}
 use Rattle.rings.specs.Sound.{NeverFall, Sound}
-use Rattle.rings.specs.Inner.Links.{Linked, Paired, Shelves}
+use Rattle.rings.specs.Inner.Links.{Linked, Paired, Shelves, HeadsAt}
 use Rattle.rings.specs.Ring.{query}
 use Rattle.rings.specs.Inner.Peeling.{Setting, Ready, Framed, Placed, Open, season, Span}
 use Rattle.rings.specs.declared.frame.Frame.{Frame}
@@ -75,8 +76,12 @@ span-after {d} {s} {e} {lo} {end} h a b =
     }
 
 -- no row is dated before day 0
-pub split-none : (d : List ℕ) → Split d 0 0
+split-none : (d : List ℕ) → Split d 0 0
 split-none d = record { within = omega arith; before = λ j h. absurd (not-suc-le-zero h); after = λ j a b. omega arith }
+
+-- the heads of a book that was just made, or of one whose heads went back, go on to a day
+pub heads-on : {d f s sc : List ℕ} {day next : ℕ} → Sound d f s → Linked (tableOf d f s) 0 sc → Split d day next → HeadsAt d f s sc 0 day 0 next
+heads-on {d} S L N = record { sound = S; linked = L; ordered = omega arith; first = split-none d; last = N }
 
 pub span-of : {d : List ℕ} {s e lo end : ℕ} → s ≤ e → Split d s lo → Split d (e + 1) end → Span d e lo end
 span-of h a b = span-after (omega arith) a b

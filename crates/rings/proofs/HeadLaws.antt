@@ -3,7 +3,7 @@
 --     linked-first   a book that was just made has each head at the account's first row
 --     linked-later   heads that stand at a day stand at every later one
 --     Resetting, resetting-start, resetting-next, resetting-end    the heads go back to the first rows
---     Moving, moving-start, moving-few, moving-mid, moving-next, moving-end    they pass the rows up to a day, row by row
+--     Moving, moving-start, moving-asks, moving-mid, moving-next, moving-end    they pass the rows up to a day, row by row
 -- Assumes nothing.
 use Prim.Native.Nat.{ℕ, suc, _+_, _*_, _≤_, _<_}
 use native.Mathlib.Nat.{eq-or-lt-of-le, not-suc-le-zero}
@@ -21,7 +21,7 @@ use Rattle.rings.specs.Words.{at}
 use Rattle.rings.specs.Table.{Table, tableOf, size, dayOf, firstOf, secondOf, Split}
 use Rattle.rings.specs.Ring.{touches}
 use Rattle.rings.specs.Sound.{Sound}
-use Rattle.rings.specs.Inner.Links.{rank, placeOf, Book, Head, Linked, Ahead}
+use Rattle.rings.specs.Inner.Links.{rank, placeOf, Book, Head, Linked, HeadInside, headPassed, HeadsMoved, Ahead}
 use Rattle.rings.proofs.WordLaws.{look, same-or}
 use Rattle.rings.proofs.RingLaws.{touch-first, touch-second}
 use Rattle.rings.proofs.LinkLaws.{rank-less, places-most, place-step, entry-below}
@@ -124,17 +124,17 @@ module _ (d f g : List ℕ) (S : Sound d f g) where
   moving-start {sc = sc} L N = record { else = else-none sc; heads = λ u l. ahead-of d f g sc S L l (λ j k h. N .after j h k) refl }
 
   module _ {sc₀ sc : List ℕ} {j : ℕ} (M : Moving t sc₀ j sc) (l : j < length d) where
-    pub moving-few : (u : ℕ) → u < 4096 → getD sc (4096 + u) 0 < 65535
+    moving-few : (u : ℕ) → u < 4096 → getD sc (4096 + u) 0 < 65535
     moving-few u k = let a = M .heads u k .to in let b = places-most t (suc u) in let c = S .most in omega arith
 
     module _ {a b : ℕ} (ea : a ≡ getD f j 0) (eb : b ≡ getD g j 0) where
       apart : a < b
       apart = let x = S .rows j l .accounts in omega arith
 
-      pub moving-second : b < 4096
+      moving-second : b < 4096
       moving-second = let y = S .rows j l .account-to in omega arith
 
-      pub moving-first : a < 4096
+      moving-first : a < 4096
       moving-first = let x = apart in let y = moving-second in omega arith
 
       has-a : touches t j a ≡ true
@@ -145,14 +145,23 @@ module _ (d f g : List ℕ) (S : Sound d f g) where
       unfolding secondOf at
       has-b = subst (λ (c : ℕ). touches t j c ≡ true) (sym eb) (touch-second t j)
 
-      module _ {sc₁ : List ℕ} (e₁ : sc₁ ≡ set sc (4096 + a) (getD sc (4096 + a) 0 + 1)) where
+      -- what `pass_row` asks for the first account
+      pub moving-asks : 8192 ≤ length sc₀ → HeadInside sc a
+      moving-asks long = record { account = moving-first; long = let x = M .else .long in omega arith; few = moving-few a moving-first }
+
+      module _ {sc₁ : List ℕ} (e₁ : sc₁ ≡ headPassed sc a) where
         same₁ : (u : ℕ) → (u ≡ a → ⊥) → getD sc₁ (4096 + u) 0 ≡ getD sc (4096 + u) 0
         same₁ u n = ap (λ (ys : List ℕ). getD ys (4096 + u) 0) e₁ ∙ getD-set-other sc (4096 + a) (4096 + u) (getD sc (4096 + a) 0 + 1) 0 (λ y. n (omega arith))
 
-        pub moving-mid : getD sc₁ (4096 + b) 0 < 65535
-        moving-mid = let x = same₁ b (λ y. let z = apart in omega arith) in let y = moving-few b moving-second in omega arith
+        -- and for the second
+        pub moving-mid : 8192 ≤ length sc₀ → HeadInside sc₁ b
+        moving-mid long =
+            let x = same₁ b (λ y. let z = apart in omega arith) in
+            let y = moving-few b moving-second in
+            let z = else-set (getD sc (4096 + a) 0 + 1) moving-first (M .else) e₁ .long in
+            record { account = moving-second; long = omega arith; few = omega arith }
 
-        pub moving-next : {sc₂ : List ℕ} → 8192 ≤ length sc₀ → sc₂ ≡ set sc₁ (4096 + b) (getD sc₁ (4096 + b) 0 + 1) → Moving t sc₀ (j + 1) sc₂
+        pub moving-next : {sc₂ : List ℕ} → 8192 ≤ length sc₀ → sc₂ ≡ headPassed sc₁ b → Moving t sc₀ (j + 1) sc₂
         moving-next {sc₂} long e₂ =
             record {
               else = else-set (getD sc₁ (4096 + b) 0 + 1) moving-second E₁ e₂;
@@ -179,6 +188,10 @@ module _ (d f g : List ℕ) (S : Sound d f g) where
             at-b : (u : ℕ) → u ≡ b → Ahead t u (j + 1) (getD sc₂ (4096 + u) 0)
             at-b u y = subst (λ (c : ℕ). Ahead t c (j + 1) (getD sc₂ (4096 + c) 0)) (sym y) (subst (Ahead t b (j + 1)) (sym set₂) (ahead-pass t b j (getD sc (4096 + b) 0) l has-b (M .heads b moving-second)))
 
-  pub moving-end : {s day next j : ℕ} {sc₀ sc : List ℕ} → Linked t s sc₀ → Moving t sc₀ j sc → j ≤ next → Split d day next → Linked t day sc × ((p : ℕ) → 8192 ≤ p → getD sc p 0 ≡ getD sc₀ p 0)
+  pub moving-end : {s day next j : ℕ} {sc₀ sc : List ℕ} → Linked t s sc₀ → Moving t sc₀ j sc → j ≤ next → Split d day next → HeadsMoved t day sc₀ sc
   unfolding dayOf at
-  moving-end L M h N = (linked-by L (M .else) (λ u k. let A = M .heads u k in record { from = A .from; to = A .to; before = λ i l y o. N .before i (let m = A .before i l y o in omega arith) }), M .else .high)
+  moving-end L M h N =
+      record {
+        linked = linked-by L (M .else) (λ u k. let A = M .heads u k in record { from = A .from; to = A .to; before = λ i l y o. N .before i (let m = A .before i l y o in omega arith) });
+        behind = M .else .high;
+      }

@@ -21,7 +21,7 @@ use Rattle.rings.specs.Words.{at}
 use Rattle.rings.specs.Table.{Table, tableOf, firstOf, secondOf}
 use Rattle.rings.specs.Ring.{joins}
 use Rattle.rings.specs.Sound.{Sound}
-use Rattle.rings.specs.Inner.Links.{pairBefore, earlier, slot, slotOf, slotBefore, Emptied, Chained, Pairing}
+use Rattle.rings.specs.Inner.Links.{pairBefore, earlier, slot, slotOf, slotBefore, Emptied, Chained, Pairing, SlotFound}
 use Rattle.rings.proofs.WordLaws.{look, clash, same-or}
 use Rattle.rings.proofs.RingLaws.{joins-cases}
 use Rattle.rings.proofs.PairLaws.{joins-ends, before-yes, before-no}
@@ -82,9 +82,9 @@ pub record Seeking (d f s : List ℕ) (j p : ℕ) (sc : List ℕ) : Type 0 where
   pub hit : (i : ℕ) → p ≡ suc i → slotOf (tableOf d f s) i ≡ slotOf (tableOf d f s) j
   pub none : (i : ℕ) → p ≤ i → i < j → joins (tableOf d f s) i (firstOf (tableOf d f s) j) (secondOf (tableOf d f s) j) ≡ false
 
-pub slot-is : (a b : ℕ) → ((a * 1301 + b) % 8192 ≡ slot a b) × ((a * 1301 + b) % 8192 < 8192)
+pub slot-is : (a b : ℕ) → SlotFound a b ((a * 1301 + b) % 8192)
 unfolding slot
-slot-is a b = (refl, mod-lt (a * 1301 + b) (omega arith))
+slot-is a b = record { is = refl; below = mod-lt (a * 1301 + b) (omega arith) }
 
 -- ---- chain_rows
 

@@ -1,6 +1,6 @@
 -- Heads that pass rows, and rows that go from the book (src/shelf.rt).
 --     passing-long, passing-move     what `pass_head` does
---     Heads, heads-start, heads-asks, heads-mid, heads-next, heads-end     the loop of `pass_heads`
+--     heads-start, heads-asks, heads-mid, heads-next, heads-end     the loop of `pass_heads`
 --     Found, Sift, sift-start, sift-place, sift-stands, sift-timed, sift-few, sift-next, sift-end     the loop of `trim_account`
 --     Trimming, trimming-start, trimming-next     the loop of `trim`
 -- Assumes nothing.
@@ -20,7 +20,7 @@ use Rattle.rings.specs.Sound.{Sound}
 use Rattle.rings.specs.Ring.{touches}
 use Rattle.rings.specs.CoreTimes.{never}
 use Rattle.rings.specs.Inner.Peeling.{guess}
-use Rattle.rings.specs.Inner.Links.{otherOf, Linked, Shelf, Shelves, Stands, Every, Covered, Passing, Trimmed}
+use Rattle.rings.specs.Inner.Links.{otherOf, Linked, Shelf, Shelves, Stands, Every, Covered, ShelfInside, Passing, HeadsPassed, Trimmed}
 use Rattle.rings.specs.Inner.Incident.{RowStands}
 use Rattle.rings.proofs.WordLaws.{look, same-or}
 use Rattle.rings.proofs.FallLaws.{guess-at}
@@ -114,22 +114,17 @@ passing-covered {t} {u} {sc = sc} {sc′ = sc′} x {lo} small long h M C =
     mine : Every t x lo u sc → Every t x lo u sc′
     mine E = record { row = λ i a l y. ⊎-elim _⊎_.inl (λ P. _⊎_.inr (passing-stands small long M (λ e. omega arith) P)) (E .row i a l y) }
 
--- the heads have passed the rows from lo to j
-pub record Heads (t : Table) (lo : ℕ) (sc₀ : List ℕ) (j : ℕ) (sc : List ℕ) : Type 0 where
-  pub shelves : Shelves t sc
-  pub covered : (x : ℕ → ℕ) → Covered t x lo sc₀ → Covered t x j sc
-
-pub heads-start : {t : Table} (lo : ℕ) {sc : List ℕ} → Shelves t sc → Heads t lo sc lo sc
+pub heads-start : {t : Table} (lo : ℕ) {sc : List ℕ} → Shelves t sc → HeadsPassed t lo sc lo sc
 heads-start lo L = record { shelves = L; covered = λ x C. C }
 
 -- what `pass_head` reads
-pub heads-asks : {t : Table} {sc : List ℕ} {u : ℕ} → size t ≤ 16384 → Shelves t sc → u < 4096 → (u < 4096) × (8192 ≤ length sc) × (8192 + getD sc u 0 ≤ length sc) × (getD sc u 0 ≤ 32768)
-heads-asks {u = u} most L small = let a = L .long in let b = L .shelf u small .to in (small, omega arith, omega arith, omega arith)
+pub heads-asks : {t : Table} {sc : List ℕ} {u : ℕ} → size t ≤ 16384 → Shelves t sc → u < 4096 → ShelfInside sc u
+heads-asks {u = u} most L small = let a = L .long in let b = L .shelf u small .to in record { account = small; long = omega arith; end = omega arith; few = omega arith }
 
-pub heads-mid : {t : Table} {lo j a : ℕ} {sc₀ sc sc₁ : List ℕ} → Heads t lo sc₀ j sc → a < 4096 → Passing a j sc sc₁ → Shelves t sc₁
+pub heads-mid : {t : Table} {lo j a : ℕ} {sc₀ sc sc₁ : List ℕ} → HeadsPassed t lo sc₀ j sc → a < 4096 → Passing a j sc sc₁ → Shelves t sc₁
 heads-mid H small M = passing-shelves small M (H .shelves)
 
-pub heads-next : {t : Table} {lo j a b : ℕ} {sc₀ sc sc₁ sc₂ : List ℕ} → Heads t lo sc₀ j sc → a < 4096 → b < 4096 → Passing a j sc sc₁ → Passing b j sc₁ sc₂ → Heads t lo sc₀ (j + 1) sc₂
+pub heads-next : {t : Table} {lo j a b : ℕ} {sc₀ sc sc₁ sc₂ : List ℕ} → HeadsPassed t lo sc₀ j sc → a < 4096 → b < 4096 → Passing a j sc sc₁ → Passing b j sc₁ sc₂ → HeadsPassed t lo sc₀ (j + 1) sc₂
 heads-next H la lb M N =
     let L = heads-mid H la M in
     record {
@@ -137,8 +132,8 @@ heads-next H la lb M N =
       covered = λ x C. passing-covered x lb (let g = L .long in omega arith) (omega arith) N (passing-covered x la (let g = H .shelves .long in omega arith) (omega arith) M (covered-rise (λ v e. e) (omega arith) (H .covered x C)));
     }
 
-pub heads-end : {t : Table} {lo j next : ℕ} {sc₀ sc : List ℕ} → Heads t lo sc₀ j sc → j ≤ next → Shelves t sc × ((x : ℕ → ℕ) → Covered t x lo sc₀ → Covered t x next sc)
-heads-end H h = (H .shelves, λ x C. covered-rise (λ v e. e) h (H .covered x C))
+pub heads-end : {t : Table} {lo j next : ℕ} {sc₀ sc : List ℕ} → HeadsPassed t lo sc₀ j sc → j ≤ next → HeadsPassed t lo sc₀ next sc
+heads-end H h = record { shelves = H .shelves; covered = λ x C. covered-rise (λ v e. e) h (H .covered x C) }
 
 -- ---- rows go from what stands under u
 

@@ -1,11 +1,9 @@
-// A book that lacks rows: from an account without a core time no ring is ever met again, as core times never fall, so the rows that lead to it need no walk. trim takes them out of the book, each account's own places for itself, and the rest stays in rising order.
-ghost use mathlib.Core.Path.{_≡_};
-ghost use Prim.Native.Nat.{ℕ, _+_, _≤_, _<_};
-ghost use lib.ListN.{length, getD};
+// A book that lacks rows: from an account without a core time no ring is ever met again, as core times never fall,
+// so the rows that lead to it need no walk. trim takes them out of the book, each account's own places for itself,
+// and the rest stays in rising order.
 ghost use Rattle.rings.specs.Table.{tableOf};
-ghost use Rattle.rings.specs.Sound.{Sound};
 ghost use Rattle.rings.specs.Inner.Peeling.{guess};
-ghost use Rattle.rings.specs.Inner.Links.{Linked, Shelves, Covered, Passing, Trimmable, Trimmed};
+ghost use Rattle.rings.specs.Inner.Links.{ShelfInside, Passing, Leaving, HeadsPassed, Trimmable, Trimmed, Whole, AllTrimmed};
 use crate::choice::one;
 use crate::incident::row_at;
 use crate::limits::ACCOUNTS;
@@ -17,16 +15,16 @@ use crate::links::wide;
 
 // The head of u passes row j if it stands there.
 fn pass_head(scratch: &mut [u16], u: usize, j: usize)
-    requires { ⌜ (u < 4096) × (8192 ≤ length (now scratch)) × (8192 + getD (now scratch) u 0 ≤ length (now scratch)) × (getD (now scratch) u 0 ≤ 32768) ⌝ }
+    requires { ⌜ ShelfInside (now scratch) u ⌝ }
     ensures { λ _. ⌜ Passing u j (now (scratch .entry)) (now (scratch .exit)) ⌝ }
 {
     let last = entry(scratch, u);
-    let place = entry(scratch, 4096 + u);
+    let place = entry(scratch, ACCOUNTS + u);
     if last <= place {
         return;
     }
-    if entry(scratch, 8192 + place) == j {
-        put(scratch, 4096 + u, place + 1);
+    if entry(scratch, ADJACENCY + place) == j {
+        put(scratch, ACCOUNTS + u, place + 1);
     }
 }
 
@@ -39,9 +37,10 @@ pub(crate) fn pass_heads(
     lo: usize,
     next: usize,
 )
-    requires { ⌜ Sound (now days) (now first) (now second) ⌝ }
-    requires { ⌜ Shelves (tableOf (now days) (now first) (now second)) (now scratch) × (lo ≤ next) × (next ≤ length (now days)) ⌝ }
-    ensures { λ _. ⌜ Shelves (tableOf (now (days .entry)) (now (first .entry)) (now (second .entry))) (now (scratch .exit)) × ((x : ℕ → ℕ) → Covered (tableOf (now (days .entry)) (now (first .entry)) (now (second .entry))) x lo (now (scratch .entry)) → Covered (tableOf (now (days .entry)) (now (first .entry)) (now (second .entry))) x next (now (scratch .exit))) ⌝ }
+    requires { ⌜ Leaving (now days) (now first) (now second) (now scratch) lo next ⌝ }
+    ensures { λ _. ⌜ (
+        let t = tableOf (now (days .entry)) (now (first .entry)) (now (second .entry)) in
+        HeadsPassed t lo (now (scratch .entry)) next (now (scratch .exit))) ⌝ }
 {
     let mut j = lo;
     while j < next {
@@ -53,7 +52,8 @@ pub(crate) fn pass_heads(
     }
 }
 
-// What stands under u, without the rows whose other account has no time. Each row is written, and the place moves on behind those that stay: no branch, as in a look.
+// What stands under u, without the rows whose other account has no time.
+// Each row is written, and the place moves on behind those that stay: no branch, as in a look.
 fn trim_account(
     days: &[u16],
     first: &[u16],
@@ -90,13 +90,14 @@ pub(crate) fn trim(
     day: u16,
     times: &[u16],
 )
-    requires { ⌜ Sound (now days) (now first) (now second) ⌝ }
-    requires { ⌜ Linked (tableOf (now days) (now first) (now second)) day (now scratch) × (length (now times) ≡ 4096) ⌝ }
-    ensures { λ _. ⌜ Shelves (tableOf (now (days .entry)) (now (first .entry)) (now (second .entry))) (now (scratch .exit)) × ((lo : ℕ) → Covered (tableOf (now (days .entry)) (now (first .entry)) (now (second .entry))) (guess (now (times .entry))) lo (now (scratch .entry)) → Covered (tableOf (now (days .entry)) (now (first .entry)) (now (second .entry))) (guess (now (times .entry))) lo (now (scratch .exit))) ⌝ }
+    requires { ⌜ Whole (now days) (now first) (now second) (now scratch) day (now times) ⌝ }
+    ensures { λ _. ⌜ (
+        let t = tableOf (now (days .entry)) (now (first .entry)) (now (second .entry)) in
+        AllTrimmed t (guess (now (times .entry))) (now (scratch .entry)) (now (scratch .exit))) ⌝ }
 {
     let mut u = 0;
-    while u < 4096 {
-        if times[u] == 65535 {
+    while u < ACCOUNTS {
+        if times[u] == NEVER {
             u += 1;
             continue;
         }

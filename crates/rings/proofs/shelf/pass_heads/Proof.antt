@@ -3,8 +3,9 @@ use native.Mathlib.Omega.{arith}
 use mathlib.Core.Path.{_≡_, refl, sym, _∙_, subst}
 use lib.ListN.{length}
 use Rattle.rings.specs.Table.{tableOf}
+use Rattle.rings.specs.Inner.Links.{HeadsPassed}
 use Rattle.rings.proofs.BookLaws.{first-small, second-small}
-use Rattle.rings.proofs.TrimLaws.{Heads, heads-start, heads-asks, heads-mid, heads-next, heads-end, passing-long}
+use Rattle.rings.proofs.TrimLaws.{heads-start, heads-asks, heads-mid, heads-next, heads-end, passing-long}
 use Rattle.rings.proofs.shelf.pass_heads.Statement.{statement}
 use Rattle.rings.proofs.shelf.pass_heads.Tie as tie
 use Rattle.rings.proofs.shelf.pass_heads.Reads as reads
@@ -13,7 +14,7 @@ use Rattle.rings.proofs.links.entry.Reads as entry-reads
 use Rattle.rings.proofs.shelf.pass_head.Reads as pass-head-reads
 
 abbrev Inv-loop : tie.InvT-loop
-Inv-loop days first second scratch₀ lo next j₀ scratch j = (length scratch ≡ length scratch₀) × Heads (tableOf days first second) lo scratch₀ j scratch × (j ≤ next)
+Inv-loop days first second scratch₀ lo next j₀ scratch j = (length scratch ≡ length scratch₀) × HeadsPassed (tableOf days first second) lo scratch₀ j scratch × (j ≤ next)
 
 abbrev μ-loop : tie.MeasureT-loop
 μ-loop days first second scratch₀ lo next j₀ scratch j = next - j
@@ -22,20 +23,20 @@ abbrev μ-loop : tie.MeasureT-loop
 loop-holds : tie.Need-loop-holds Inv-loop μ-loop
 loop-holds c =
     let pre = c .before .before .before .before .pre in
-    (refl, heads-start _ (pre .1 .0), pre .1 .1)
+    (refl, heads-start _ (pre .shelves), pre .ordered)
 
 -- src/shelf.rt:45:13
 entry-requires : tie.Need-entry-requires Inv-loop μ-loop
 entry-requires c κs =
     let pre = c .before .before .before .before .before .before .pre in
-    omega (arith, c .loop-test .taken, pre .1 .2, pre .0 .firsts)
+    omega (arith, c .loop-test .taken, pre .within, pre .sound .firsts)
 
 -- src/shelf.rt:46:13
 entry-requires-2 : tie.Need-entry-requires-2 Inv-loop μ-loop
 entry-requires-2 c κs =
     let loop-test = c .before .loop-test in
     let pre = c .before .before .before .before .before .before .before .pre in
-    omega (arith, loop-test .taken, pre .1 .2, pre .0 .seconds)
+    omega (arith, loop-test .taken, pre .within, pre .sound .seconds)
 
 -- src/shelf.rt:47:9
 pass-head-requires : tie.Need-pass-head-requires Inv-loop μ-loop
@@ -44,10 +45,10 @@ pass-head-requires c κs =
     let loop-test = c .before .before .before .loop-test in
     let loop = c .before .before .before .before .loop in
     let pre = c .before .before .before .before .before .before .before .before .before .pre in
-    heads-asks (pre .0 .most) (loop .inv .1 .shelves)
+    heads-asks (pre .sound .most) (loop .inv .1 .shelves)
     (
     subst (λ u. u < 4096) (sym (entry .ensures))
-    (first-small _ _ _ (pre .0) _ (omega (arith, loop-test .taken, pre .1 .2)))
+    (first-small _ _ _ (pre .sound) _ (omega (arith, loop-test .taken, pre .within)))
     )
 
 -- src/shelf.rt:48:9
@@ -59,17 +60,17 @@ pass-head-requires-2 c κs =
     let loop-test = c .before .before .before .before .before .before .before .loop-test in
     let loop = c .before .before .before .before .before .before .before .before .loop in
     let pre = c .before .before .before .before .before .before .before .before .before .before .before .before .before .pre in
-    heads-asks (pre .0 .most)
+    heads-asks (pre .sound .most)
     (
     heads-mid (loop .inv .1)
     (
     subst (λ u. u < 4096) (sym (entry .ensures))
-    (first-small _ _ _ (pre .0) _ (omega (arith, loop-test .taken, pre .1 .2)))
+    (first-small _ _ _ (pre .sound) _ (omega (arith, loop-test .taken, pre .within)))
     ) (pass-head .ensures)
     )
     (
     subst (λ u. u < 4096) (sym (entry2 .ensures))
-    (second-small _ _ _ (pre .0) _ (omega (arith, loop-test .taken, pre .1 .2)))
+    (second-small _ _ _ (pre .sound) _ (omega (arith, loop-test .taken, pre .within)))
     )
 
 -- src/shelf.rt:49:9
@@ -77,7 +78,7 @@ add-j : tie.Need-add-j Inv-loop μ-loop
 add-j c =
     let loop-test = c .before .before .before .before .before .before .before .before .before .before .loop-test in
     let pre = c .before .before .before .before .before .before .before .before .before .before .before .before .before .before .before .before .pre in
-    omega (arith, loop-test .taken, pre .1 .2, pre .0 .most)
+    omega (arith, loop-test .taken, pre .within, pre .sound .most)
 
 -- src/shelf.rt:44:5
 loop-less : tie.Need-loop-less Inv-loop μ-loop
@@ -99,11 +100,11 @@ loop-again c =
       heads-next (loop .inv .1)
           (
           subst (λ u. u < 4096) (sym (entry .ensures))
-          (first-small _ _ _ (pre .0) _ (omega (arith, loop-test .taken, pre .1 .2)))
+          (first-small _ _ _ (pre .sound) _ (omega (arith, loop-test .taken, pre .within)))
           )
           (
           subst (λ u. u < 4096) (sym (entry2 .ensures))
-          (second-small _ _ _ (pre .0) _ (omega (arith, loop-test .taken, pre .1 .2)))
+          (second-small _ _ _ (pre .sound) _ (omega (arith, loop-test .taken, pre .within)))
           ) (pass-head .ensures) (pass-head2 .ensures),
       omega (arith, loop-test .taken),
     )

@@ -21,7 +21,7 @@ abbrev μ-loop : tie.MeasureT-loop
 loop-holds : tie.Need-loop-holds Inv-loop μ-loop
 loop-holds c =
     let pre = c .before .before .before .before .before .pre in
-    (refl, trimming-start _ (pre .1 .0))
+    (refl, trimming-start _ (pre .linked))
 
 -- src/shelf.rt:90:12
 mul-if1 : tie.Need-mul-if1 Inv-loop μ-loop
@@ -32,7 +32,7 @@ shared-slice-read-if1 : tie.Need-shared-slice-read-if1 Inv-loop μ-loop
 shared-slice-read-if1 c =
     let loop-test = c .before .loop-test in
     let pre = c .before .before .before .before .before .before .before .before .pre in
-    omega (arith, loop-test .taken, pre .1 .1)
+    omega (arith, loop-test .taken, pre .times)
 
 -- src/shelf.rt:91:13
 add-u : tie.Need-add-u Inv-loop μ-loop
@@ -58,7 +58,7 @@ trim-account-requires c κs =
     let loop-test = c .before .before .before .loop-test in
     let loop = c .before .before .before .before .loop in
     let pre = c .before .before .before .before .before .before .before .before .before .before .pre in
-    record { sound = pre .0; shelves = loop .inv .1 .shelves; times = pre .1 .1; account = loop-test .taken }
+    record { sound = pre .sound; shelves = loop .inv .1 .shelves; times = pre .times; account = loop-test .taken }
 
 -- src/shelf.rt:95:9
 add-u-2 : tie.Need-add-u-2 Inv-loop μ-loop
@@ -92,7 +92,7 @@ same-length c =
 returns : tie.Need-returns Inv-loop μ-loop
 returns c =
     let loop = c .before .loop in
-    (loop .inv .1 .shelves, loop .inv .1 .covered)
+    record { shelves = loop .inv .1 .shelves; covered = loop .inv .1 .covered }
 
 pub trim-spec : {M : Type 1} → statement M
 trim-spec =

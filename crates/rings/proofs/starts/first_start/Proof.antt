@@ -1,5 +1,5 @@
 use Rattle.rings.proofs.ShelfLaws.{linked-covered}
-use Rattle.rings.proofs.DayLaws.{ready-of, framed-of, open-of, split-none, span-after}
+use Rattle.rings.proofs.DayLaws.{ready-of, framed-of, open-of, heads-on, span-after}
 use mathlib.Core.Path.{_∙_}
 use native.Mathlib.Omega.{arith}
 use borrow.Author.Needs.{needs}
@@ -22,14 +22,14 @@ move-heads-requires : tie.Need-move-heads-requires
 move-heads-requires c κs =
     let bind = c .before .before .before .bind in
     let pre = c .before .before .before .before .before .before .before .before .before .before .before .before .before .pre in
-    (pre .0, (bind .ensures, (omega arith, split-none _, pre .1 .1 .0 .3)))
+    heads-on (pre .0) (bind .ensures) (pre .1 .1 .0 .3)
 
 -- src/starts.rt:72:5
 begin-requires : tie.Need-begin-requires
 begin-requires c κs =
     let move-heads = c .before .before .before .before .before .before .move-heads in
     let pre = c .before .before .before .before .before .before .before .before .before .before .before .before .before .before .before .before .before .before .before .before .pre in (
-      ready-of (pre .0) (move-heads .ensures .0) (pre .1 .1 .0 .0) (pre .1 .1 .0 .2) (pre .1 .1 .0 .3),
+      ready-of (pre .0) (move-heads .ensures .linked) (pre .1 .1 .0 .0) (pre .1 .1 .0 .2) (pre .1 .1 .0 .3),
       (
         (span-after (pre .1 .1 .0 .1) (pre .1 .1 .0 .3) (pre .1 .1 .0 .4)),
         (pre .1 .1 .1 .0, pre .1 .1 .1 .1, pre .1 .1 .1 .2),
@@ -54,7 +54,7 @@ trim-requires c κs =
     let begin = c .before .before .before .before .before .before .before .before .before .before .before .before .before .begin in
     let move-heads = c .before .before .before .before .before .before .before .before .before .before .before .before .before .before .before .before .before .before .before .before .move-heads in
     let pre = c .before .before .before .before .before .before .before .before .before .before .before .before .before .before .before .before .before .before .before .before .before .before .before .before .before .before .before .before .before .before .before .before .before .before .pre in
-    (pre .0, (move-heads .ensures .0, begin .ensures .0 .long))
+    record { sound = pre .0; linked = move-heads .ensures .linked; times = begin .ensures .0 .long }
 
 -- src/starts.rt:49:1
 same-length : tie.Need-same-length
@@ -90,9 +90,9 @@ returns c =
     let pre = c .before .before .before .before .before .before .before .before .before .before .before .before .before .before .before .before .before .before .before .before .before .before .before .before .before .before .before .before .before .before .before .before .before .before .before .before .before .pre in
     record {
       inside = record {
-        opened = open-of (pre .0) (trim .ensures .0) (pre .1 .1 .0 .0) (pre .1 .1 .0 .2) (pre .1 .1 .0 .3);
-        covered = trim .ensures .1 _
-            (linked-covered (move-heads .ensures .0) _ ((framed-of (pre .0) (pre .1 .1 .0 .0) (pre .1 .1 .0 .2) (pre .1 .1 .0 .3)) .setting .from-lo));
+        opened = open-of (pre .0) (trim .ensures .shelves) (pre .1 .1 .0 .0) (pre .1 .1 .0 .2) (pre .1 .1 .0 .3);
+        covered = trim .ensures .covered _
+            (linked-covered (move-heads .ensures .linked) _ ((framed-of (pre .0) (pre .1 .1 .0 .0) (pre .1 .1 .0 .2) (pre .1 .1 .0 .3)) .setting .from-lo));
         times-are = begin .ensures .0;
         spares = begin .ensures .1;
         timed = count-times .ensures;

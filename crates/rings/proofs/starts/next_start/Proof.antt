@@ -28,10 +28,13 @@ drop-rows-requires c κs =
 -- src/starts.rt:113:5
 pass-heads-requires : tie.Need-pass-heads-requires
 pass-heads-requires c κs =
-    let pre = c .before .before .before .before .before .before .before .before .before .before .before .before .before .before .pre in (
-      pre .0 .inside .opened .sound,
-      (pre .0 .inside .opened .shelves, (split-rises (pre .1 .0 .2) (pre .1 .0 .3)), pre .1 .0 .3 .within),
-    )
+    let pre = c .before .before .before .before .before .before .before .before .before .before .before .before .before .before .pre in
+    record {
+      sound = pre .0 .inside .opened .sound;
+      shelves = pre .0 .inside .opened .shelves;
+      ordered = split-rises (pre .1 .0 .2) (pre .1 .0 .3);
+      within = pre .1 .0 .3 .within;
+    }
 
 -- src/starts.rt:114:9
 step-requires : tie.Need-step-requires
@@ -39,11 +42,11 @@ step-requires c κs =
     let pass-heads = c .before .before .before .before .before .before .before .pass-heads in
     let drop-rows = c .before .before .before .before .before .before .before .before .before .before .before .drop-rows in
     let pre = c .before .before .before .before .before .before .before .before .before .before .before .before .before .before .before .before .before .before .before .before .before .before .pre in (
-      (open-of (pre .0 .inside .opened .sound) (pass-heads .ensures .0) (pre .0 .inside .opened .setting .some-k) (pre .1 .0 .1) (pre .1 .0 .3)),
+      (open-of (pre .0 .inside .opened .sound) (pass-heads .ensures .shelves) (pre .0 .inside .opened .setting .some-k) (pre .1 .0 .1) (pre .1 .0 .3)),
       (
         pre .1 .0,
         (
-          (pre .0 .inside .times-are, pre .0 .inside .spares, pre .1 .1, pass-heads .ensures .1 _ (pre .0 .inside .covered)),
+          (pre .0 .inside .times-are, pre .0 .inside .spares, pre .1 .1, pass-heads .ensures .covered _ (pre .0 .inside .covered)),
           λ y. drop-rows .ensures,
         ),
       ),
@@ -78,12 +81,12 @@ returns c =
     record {
       inside = record {
         opened =
-            (open-of (pre .0 .inside .opened .sound) (pass-heads .ensures .0) (pre .0 .inside .opened .setting .some-k) (pre .1 .0 .1) (pre .1 .0 .3));
+            (open-of (pre .0 .inside .opened .sound) (pass-heads .ensures .shelves) (pre .0 .inside .opened .setting .some-k) (pre .1 .0 .1) (pre .1 .0 .3));
         covered = covered-rise
             (
             core-never (pre .0 .inside .opened .setting .fits) (pre .0 .inside .times-are)
             (step .ensures .0 (c .if1 .taken) .0)
-            ) (le-refl _) (pass-heads .ensures .1 _ (pre .0 .inside .covered));
+            ) (le-refl _) (pass-heads .ensures .covered _ (pre .0 .inside .covered));
         times-are = step .ensures .0 (c .if1 .taken) .0;
         spares = step .ensures .0 (c .if1 .taken) .1;
         timed = step .ensures .1 .counted refl (c .if1 .taken);
@@ -107,7 +110,7 @@ first-start-requires c κs =
     rw (next .ensures) (
       pre .0 .inside .opened .sound,
       (
-        record { inside = shelves-paired (pass-heads .ensures .0) },
+        record { inside = shelves-paired (pass-heads .ensures .shelves) },
         (
           (pre .0 .inside .opened .setting .some-k, omega (arith, pre .1 .0 .0), pre .1 .0 .1, pre .1 .0 .3, pre .1 .0 .4),
           (

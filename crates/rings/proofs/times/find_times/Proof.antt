@@ -1,6 +1,6 @@
 use native.Mathlib.Omega.{arith}
 use Rattle.rings.proofs.TimeLaws.{accounts-are}
-use Rattle.rings.proofs.DayLaws.{ready-of, framed-of, split-none, span-of}
+use Rattle.rings.proofs.DayLaws.{ready-of, framed-of, heads-on, span-of}
 use lib.ListN.{replicate}
 use Prim.Native.Nat.{ℕ}
 use mathlib.Core.Path.{_∙_, ap, refl}
@@ -38,7 +38,7 @@ move-heads-requires c κs =
     let link = c .before .before .before .link in
     let rows-before = c .before .before .before .before .before .before .rows-before in
     let pre = c .before .before .before .before .before .before .before .before .before .before .before .before .before .pre in
-    (pre .0, (link .ensures, (omega arith, split-none _, rows-before .ensures)))
+    heads-on (pre .0) (link .ensures) (rows-before .ensures)
 
 -- src/times.rt:131:9
 slice-aggregate-peel : tie.Need-slice-aggregate-peel
@@ -55,7 +55,7 @@ peel-requires c κs =
     let rows-before2 = c .before .before .before .before .before .before .before .before .before .before .before .before .rows-before2 in
     let rows-before = c .before .before .before .before .before .before .before .before .before .before .before .before .before .rows-before in
     let pre = c .before .before .before .before .before .before .before .before .before .before .before .before .before .before .before .before .before .before .before .before .pre in (
-      ready-of (pre .0) (move-heads .ensures .0) (pre .1 .0) (pre .1 .2) (rows-before .ensures),
+      ready-of (pre .0) (move-heads .ensures .linked) (pre .1 .0) (pre .1 .2) (rows-before .ensures),
       (span-of (pre .1 .1) (rows-before .ensures) (rows-before2 .ensures), (pre .1 .3, refl, omega arith)),
     )
 
