@@ -37,7 +37,8 @@ use Rattle.rings.proofs.LinkLaws.{rank-yes, rank-mono, rank-less, none-
 
 -- row j, as the code reads it
 module _ (d f s : List ℕ) (S : Sound d f s) {j : ℕ} (l : j < length d) where
-  pub fresh-reads : (lo : ℕ) (links : List ℕ) {y : Bool} → Pairs (tableOf d f s) links → y ≡ (leb lo j and leb (getD links (8192 + 2 * length d + j) 0) lo) → y ≡ fresh (tableOf d f s) lo j
+  pub fresh-reads : (lo : ℕ) (links : List ℕ) {y : Bool} → Pairs (tableOf d f s) links
+      → y ≡ (leb lo j and leb (getD links (8192 + 2 * length d + j) 0) lo) → y ≡ fresh (tableOf d f s) lo j
   fresh-reads lo links P h = fresh-test (tableOf d f s) lo j (P j l) h
 
   pub fresh-place : (links : List ℕ) → 8192 + 4 * length d ≤ length links → (length d ≤ 16384) × (j < length d) × (8192 + 2 * length d + j < length links)
@@ -47,12 +48,16 @@ module _ (d f s : List ℕ) (S : Sound d f s) {j : ℕ} (l : j < length d) where
     -- u is one of its accounts
     pub row-ends : (a < 4096) × (c < 4096) × ((a ≡ u) ⊎ (c ≡ u))
     unfolding firstOf secondOf at
-    row-ends = let x = S .rows j l .accounts in let y = S .rows j l .account-to in (omega arith, omega arith, ⊎-elim (λ e. _⊎_.inl (ea ∙ e)) (λ e. _⊎_.inr (ec ∙ e)) (touch-cases (tableOf d f s) j u h))
+    row-ends =
+        let x = S .rows j l .accounts in
+        let y = S .rows j l .account-to in
+        (omega arith, omega arith, ⊎-elim (λ e. _⊎_.inl (ea ∙ e)) (λ e. _⊎_.inr (ec ∙ e)) (touch-cases (tableOf d f s) j u h))
 
     pub row-small : {v : ℕ} → v ≡ pickOther (eqb a u) a c → v < 4096
     unfolding pickOther
     row-small {v} ev =
-        ⊎-elim (λ y. let z : v ≡ c = ev ∙ ap (λ (w : Bool). pickOther w a c) y in let k = row-ends .1 in omega arith) (λ y. let z : v ≡ a = ev ∙ ap (λ (w : Bool). pickOther w a c) y in let k = row-ends .0 in omega arith) (look (eqb a u))
+        ⊎-elim (λ y. let z : v ≡ c = ev ∙ ap (λ (w : Bool). pickOther w a c) y in let k = row-ends .1 in omega arith)
+        (λ y. let z : v ≡ a = ev ∙ ap (λ (w : Bool). pickOther w a c) y in let k = row-ends .0 in omega arith) (look (eqb a u))
 
     -- the other
     pub row-other : {v : ℕ} → v ≡ pickOther (eqb a u) a c → v ≡ otherOf (tableOf d f s) j u
@@ -73,7 +78,8 @@ module _ {d f s links : List ℕ} {u p : ℕ} (R : RowStands d f s links u p) {j
     stands-ends = row-ends d f s (R .sound) at-below u at-touch ea ec
 
     -- v is the account that is not u, e the earlier row
-    pub row-read : (lo : ℕ) {day v e : ℕ} → day ≡ getD d j 0 → v ≡ pickOther (eqb a u) a c → e ≡ getD links (8192 + 2 * length d + j) 0 → RowRead (tableOf d f s) links lo u p (record { row = j; day = day; other = v; leads = leb e lo })
+    pub row-read : (lo : ℕ) {day v e : ℕ} → day ≡ getD d j 0 → v ≡ pickOther (eqb a u) a c → e ≡ getD links (8192 + 2 * length d + j) 0
+        → RowRead (tableOf d f s) links lo u p (record { row = j; day = day; other = v; leads = leb e lo })
     unfolding dayOf at
     row-read lo ed ev ee =
         record {
@@ -99,7 +105,11 @@ module _ (d f s links : List ℕ) (S : Sound d f s) {day : ℕ} (L : Linked (tab
   module _ {b p end : ℕ} (A : Along t u b p) (ee : end ≡ placeOf t (suc u)) where
     pub along-out : end ≤ p → (i : ℕ) → b ≤ i → i < length d → touches t i u ≡ false
     along-out h i a k =
-        ⊎-elim (λ y. let m : rank t u i < rank t u (length d) = rank-less t u i (length d) y k in let o = A .place in let g = place-step t u in let z = rank-mono t u b i a in absurd (omega arith)) (λ y. y) (look (touches t i u))
+        ⊎-elim
+        (λ y.
+        let m : rank t u i < rank t u (length d) = rank-less t u i (length d) y k in
+        let o = A .place in let g = place-step t u in let z = rank-mono t u b i a in absurd (omega arith))
+        (λ y. y) (look (touches t i u))
 
     module _ (more : p < end) where
       pub along-place : 8192 + p < length links
@@ -113,7 +123,11 @@ module _ (d f s links : List ℕ) (S : Sound d f s) {day : ℕ} (L : Linked (tab
 
       module _ {j : ℕ} (ej : j ≡ getD links (8192 + p) 0) where
         row-is : j ≡ nth .row
-        row-is = ej ∙ (ap (λ (c : ℕ). getD links c 0) (let a = A .place in let c = nth .ranked in let g : 8192 + p ≡ 8192 + (placeOf t u + rank t u (nth .row)) = omega arith in g) ∙ L .book u (nth .row) small (nth .below) (nth .touch))
+        row-is =
+            ej
+            ∙ (ap (λ (c : ℕ). getD links c 0)
+            (let a = A .place in let c = nth .ranked in let g : 8192 + p ≡ 8192 + (placeOf t u + rank t u (nth .row)) = omega arith in g)
+            ∙ L .book u (nth .row) small (nth .below) (nth .touch))
 
         pub along-row : j < length d
         along-row = let a = row-is in let c = nth .below in omega arith
@@ -125,13 +139,23 @@ module _ (d f s links : List ℕ) (S : Sound d f s) {day : ℕ} (L : Linked (tab
         row-rank = sym (nth .ranked) ∙ ap (rank t u) (sym row-is)
 
         pub along-from : b ≤ j
-        along-from = ⊎-elim (λ y. leb-true b j y) (λ y. let m : rank t u j < rank t u b = rank-less t u j b along-touch (leb-false b j y) in let g = row-rank in absurd (omega arith)) (look (leb b j))
+        along-from =
+            ⊎-elim (λ y. leb-true b j y)
+            (λ y.
+            let m : rank t u j < rank t u b = rank-less t u j b along-touch (leb-false b j y) in let g = row-rank in absurd (omega arith))
+            (look (leb b j))
 
         pub along-none : (i : ℕ) → b ≤ i → i < j → touches t i u ≡ false
         along-none = none-between t u b j row-rank
 
         pub along-next : Along t u (j + 1) (p + 1)
-        along-next = record { place = let a = A .place in let c = row-rank in let g : rank t u (j + 1) ≡ suc (rank t u j) = ap (rank t u) (add-one j) ∙ rank-yes t u j along-touch in omega arith }
+        along-next =
+            record {
+              place =
+                  let a = A .place in
+                  let c = row-rank in
+                  let g : rank t u (j + 1) ≡ suc (rank t u j) = ap (rank t u) (add-one j) ∙ rank-yes t u j along-touch in omega arith;
+            }
 
         -- what `is_fresh` answers, and what it reads
         pub along-fresh : (lo : ℕ) {y : Bool} → y ≡ (leb lo j and leb (getD links (8192 + 2 * length d + j) 0) lo) → y ≡ fresh t lo j
@@ -170,10 +194,21 @@ pub record Begun (t : Table) (u lo p : ℕ) : Type 0 where
 pub begun : {t : Table} {u lo p : ℕ} → Ahead t u lo p → Begun t u lo p
 begun {t} {u} {lo} {p} A =
     ⊎-elim (λ y. let h = leb-true (placeOf t (suc u)) p y in let a = A .to in let g = place-step t u in
-    record { b = size t; within = le-refl (size t); along = record { place = omega arith }; before = λ i l k. A .before i l k (let m = entry-below t u i k l in omega arith) })
+    record {
+      b = size t;
+      within = le-refl (size t);
+      along = record { place = omega arith };
+      before = λ i l k. A .before i l k (let m = entry-below t u i k l in omega arith);
+    })
     (λ y. let N = nth-row t u (size t) (p - placeOf t u) (let h = leb-false (placeOf t (suc u)) p y in let a = A .from in let g = place-step t u in omega arith) in
     let a = A .from in let g = N .ranked in let w = N .below in
-    record { b = N .row; within = omega arith; along = record { place = omega arith }; before = λ i l k. A .before i (omega arith) k (let m = rank-less t u i (N .row) k l in omega arith) }) (look (leb (placeOf t (suc u)) p))
+    record {
+      b = N .row;
+      within = omega arith;
+      along = record { place = omega arith };
+      before = λ i l k. A .before i (omega arith) k (let m = rank-less t u i (N .row) k l in omega arith);
+    }) (look
+    (leb (placeOf t (suc u)) p))
 
 module _ (d f s links : List ℕ) (S : Sound d f s) {day : ℕ} (L : Linked (tableOf d f s) day links) {u : ℕ} (small : u < 4096) where
   abbrev tb : Table
@@ -186,7 +221,9 @@ module _ (d f s links : List ℕ) (S : Sound d f s) {day : ℕ} (L : Linked (tab
       record {
         from = let a = H .from in omega arith;
         to = let a = H .to in omega arith;
-        before = λ i l k h. ⊎-elim (λ y. let a = late i l (leb-true lo i y) in let b = H .before i l k (omega arith) in absurd (omega arith)) (λ y. leb-false lo i y) (look (leb lo i));
+        before = λ i l k h.
+            ⊎-elim (λ y. let a = late i l (leb-true lo i y) in let b = H .before i l k (omega arith) in absurd (omega arith))
+            (λ y. leb-false lo i y) (look (leb lo i));
       }
 
 -- what `other` returns

@@ -44,7 +44,8 @@ else-set {sc = sc} {u = u} v l E e =
       high = λ p h. ap (λ (ys : List ℕ). getD ys p 0) e ∙ (getD-set-other sc (4096 + u) p v 0 (λ y. omega arith) ∙ E .high p h);
     }
 
-pub linked-by : {t : Table} {day day′ : ℕ} {sc₀ sc : List ℕ} → Linked t day sc₀ → Else sc₀ sc → ((u : ℕ) → u < 4096 → Head t u day′ (getD sc (4096 + u) 0)) → Linked t day′ sc
+pub linked-by : {t : Table} {day day′ : ℕ} {sc₀ sc : List ℕ} → Linked t day sc₀ → Else sc₀ sc
+    → ((u : ℕ) → u < 4096 → Head t u day′ (getD sc (4096 + u) 0)) → Linked t day′ sc
 linked-by {t} L E H =
     record {
       long = subst (λ (n : ℕ). 8192 + 4 * size t ≤ n) (sym (E .long)) (L .long);
@@ -59,11 +60,25 @@ head-first : (t : Table) (u p : ℕ) → p ≡ placeOf t u → Head t u 0 p
 head-first t u p e = record { from = omega arith; to = let g = place-step t u in omega arith; before = λ i l k h. absurd (omega arith) }
 
 pub linked-first : {t : Table} {sc : List ℕ} → Book t (size t) sc → Linked t 0 sc
-linked-first {t} {sc} B = record { long = B .long; cursors = B .cursors; heads = λ u l. head-first t u (getD sc (4096 + u) 0) (B .starts u l); book = B .book; pairs = B .pairs }
+linked-first {t} {sc} B =
+    record {
+      long = B .long;
+      cursors = B .cursors;
+      heads = λ u l. head-first t u (getD sc (4096 + u) 0) (B .starts u l);
+      book = B .book;
+      pairs = B .pairs;
+    }
 
 pub linked-later : {t : Table} {a b : ℕ} {sc : List ℕ} → Linked t a sc → a ≤ b → Linked t b sc
 linked-later L h =
-    record { long = L .long; cursors = L .cursors; heads = λ u l. let H = L .heads u l in record { from = H .from; to = H .to; before = λ i k y o. let m = H .before i k y o in omega arith }; book = L .book; pairs = L .pairs }
+    record {
+      long = L .long;
+      cursors = L .cursors;
+      heads = λ u l.
+          let H = L .heads u l in record { from = H .from; to = H .to; before = λ i k y o. let m = H .before i k y o in omega arith };
+      book = L .book;
+      pairs = L .pairs;
+    }
 
 -- ---- back to the first rows
 
@@ -80,14 +95,23 @@ resetting-start t sc = record { else = else-none sc; taken = refl; heads = λ v 
 pub resetting-few : (t : Table) {sc₀ sc : List ℕ} {u run : ℕ} → size t ≤ 16384 → Resetting t sc₀ u run sc → run < 65536
 resetting-few t {u = u} m R = let a = R .taken in let b = places-most t u in omega arith
 
-pub resetting-next : {t : Table} {day u run end : ℕ} {sc₀ sc sc′ : List ℕ} → Linked t day sc₀ → Resetting t sc₀ u run sc → u < 4096 → end ≡ getD sc u 0 → sc′ ≡ set sc (4096 + u) run → Resetting t sc₀ (u + 1) end sc′
+pub resetting-next : {t : Table} {day u run end : ℕ} {sc₀ sc sc′ : List ℕ} → Linked t day sc₀ → Resetting t sc₀ u run sc → u < 4096
+    → end ≡ getD sc u 0 → sc′ ≡ set sc (4096 + u) run → Resetting t sc₀ (u + 1) end sc′
 resetting-next {t} {u = u} {run = run} {sc = sc} {sc′ = sc′} L R l ee e =
     record {
       else = else-set run l (R .else) e;
       taken = ee ∙ (R .else .low u l ∙ (L .cursors u l ∙ (sym (place-step t u) ∙ ap (placeOf t) (sym (add-one u)))));
       heads = λ v h k.
-          ⊎-elim (λ y. ap (λ (a : ℕ). getD sc′ (4096 + a) 0) y ∙ (ap (λ (ys : List ℕ). getD ys (4096 + u) 0) e ∙ (getD-set-same sc (4096 + u) run 0 (let a = L .long in let b = R .else .long in omega arith) ∙ (R .taken ∙ ap (placeOf t) (sym y)))))
-          (λ y. ap (λ (ys : List ℕ). getD ys (4096 + v) 0) e ∙ (getD-set-other sc (4096 + u) (4096 + v) run 0 (λ z. omega arith) ∙ R .heads v y k)) (eq-or-lt-of-le (omega arith));
+          ⊎-elim
+          (λ y.
+          ap (λ (a : ℕ). getD sc′ (4096 + a) 0) y
+          ∙ (ap (λ (ys : List ℕ). getD ys (4096 + u) 0) e
+          ∙ (getD-set-same sc (4096 + u) run 0 (let a = L .long in let b = R .else .long in omega arith)
+          ∙ (R .taken ∙ ap (placeOf t) (sym y)))))
+          (λ y.
+          ap (λ (ys : List ℕ). getD ys (4096 + v) 0) e
+          ∙ (getD-set-other sc (4096 + u) (4096 + v) run 0 (λ z. omega arith) ∙ R .heads v y k))
+          (eq-or-lt-of-le (omega arith));
     }
 
 pub resetting-end : {t : Table} {day u run : ℕ} {sc₀ sc : List ℕ} → Linked t day sc₀ → Resetting t sc₀ u run sc → 4096 ≤ u → Linked t 0 sc
@@ -106,11 +130,16 @@ ahead-pass t u j p l y A =
     record {
       from = let a = A .from in omega arith;
       to = let a = reached in let b = entry-below t u j y l in omega arith;
-      before = λ i k h o. ⊎-elim (λ z. let m = leb-true i j z in omega arith) (λ z. let m = rank-less t u j i y (leb-false i j z) in let a = reached in absurd (omega arith)) (look (leb i j));
+      before = λ i k h o.
+          ⊎-elim (λ z. let m = leb-true i j z in omega arith)
+          (λ z. let m = rank-less t u j i y (leb-false i j z) in let a = reached in absurd (omega arith)) (look (leb i j));
     }
   where
     reached : p ≤ placeOf t u + rank t u j
-    reached = ⊎-elim (λ z. leb-true p (placeOf t u + rank t u j) z) (λ z. let m = A .before j l y (leb-false p (placeOf t u + rank t u j) z) in absurd (omega arith)) (look (leb p (placeOf t u + rank t u j)))
+    reached =
+        ⊎-elim (λ z. leb-true p (placeOf t u + rank t u j) z)
+        (λ z. let m = A .before j l y (leb-false p (placeOf t u + rank t u j) z) in absurd (omega arith))
+        (look (leb p (placeOf t u + rank t u j)))
 
 ahead-on : {t : Table} {u j p : ℕ} → Ahead t u j p → Ahead t u (j + 1) p
 ahead-on A = record { from = A .from; to = A .to; before = λ i l k h. let m = A .before i l k h in omega arith }
@@ -165,33 +194,51 @@ module _ (d f g : List ℕ) (S : Sound d f g) where
         moving-next {sc₂} long e₂ =
             record {
               else = else-set (getD sc₁ (4096 + b) 0 + 1) moving-second E₁ e₂;
-              heads = λ u k. ⊎-elim (λ y. at-b u y) (λ n. subst (Ahead t u (j + 1)) (sym (same₂ u n)) (⊎-elim (λ y. at-a u y) (λ m. subst (Ahead t u (j + 1)) (sym (same₁ u m)) (ahead-on (M .heads u k))) (same-or u a))) (same-or u b);
+              heads = λ u k.
+                  ⊎-elim (λ y. at-b u y)
+                  (λ n.
+                  subst (Ahead t u (j + 1)) (sym (same₂ u n))
+                  (⊎-elim (λ y. at-a u y) (λ m. subst (Ahead t u (j + 1)) (sym (same₁ u m)) (ahead-on (M .heads u k))) (same-or u a)))
+                  (same-or u b);
             }
           where
             E₁ : Else sc₀ sc₁
             E₁ = else-set (getD sc (4096 + a) 0 + 1) moving-first (M .else) e₁
 
             same₂ : (u : ℕ) → (u ≡ b → ⊥) → getD sc₂ (4096 + u) 0 ≡ getD sc₁ (4096 + u) 0
-            same₂ u n = ap (λ (ys : List ℕ). getD ys (4096 + u) 0) e₂ ∙ getD-set-other sc₁ (4096 + b) (4096 + u) (getD sc₁ (4096 + b) 0 + 1) 0 (λ y. n (omega arith))
+            same₂ u n =
+                ap (λ (ys : List ℕ). getD ys (4096 + u) 0) e₂ ∙ getD-set-other sc₁ (4096 + b) (4096 + u) (getD sc₁ (4096 + b) 0 + 1) 0
+                (λ y. n (omega arith))
 
             set₁ : getD sc₁ (4096 + a) 0 ≡ getD sc (4096 + a) 0 + 1
-            set₁ = ap (λ (ys : List ℕ). getD ys (4096 + a) 0) e₁ ∙ getD-set-same sc (4096 + a) (getD sc (4096 + a) 0 + 1) 0 (let x = M .else .long in let y = moving-first in omega arith)
+            set₁ =
+                ap (λ (ys : List ℕ). getD ys (4096 + a) 0) e₁ ∙ getD-set-same sc (4096 + a) (getD sc (4096 + a) 0 + 1) 0
+                (let x = M .else .long in let y = moving-first in omega arith)
 
             set₂ : getD sc₂ (4096 + b) 0 ≡ getD sc (4096 + b) 0 + 1
             set₂ =
                 ap (λ (ys : List ℕ). getD ys (4096 + b) 0) e₂
-                ∙ (getD-set-same sc₁ (4096 + b) (getD sc₁ (4096 + b) 0 + 1) 0 (let x = E₁ .long in let y = moving-second in omega arith) ∙ ap (λ (c : ℕ). c + 1) (same₁ b (λ y. let z = apart in omega arith)))
+                ∙ (getD-set-same sc₁ (4096 + b) (getD sc₁ (4096 + b) 0 + 1) 0 (let x = E₁ .long in let y = moving-second in omega arith) ∙ ap
+                (λ (c : ℕ). c + 1) (same₁ b (λ y. let z = apart in omega arith)))
 
             at-a : (u : ℕ) → u ≡ a → Ahead t u (j + 1) (getD sc₁ (4096 + u) 0)
-            at-a u y = subst (λ (c : ℕ). Ahead t c (j + 1) (getD sc₁ (4096 + c) 0)) (sym y) (subst (Ahead t a (j + 1)) (sym set₁) (ahead-pass t a j (getD sc (4096 + a) 0) l has-a (M .heads a moving-first)))
+            at-a u y =
+                subst (λ (c : ℕ). Ahead t c (j + 1) (getD sc₁ (4096 + c) 0)) (sym y)
+                (subst (Ahead t a (j + 1)) (sym set₁) (ahead-pass t a j (getD sc (4096 + a) 0) l has-a (M .heads a moving-first)))
 
             at-b : (u : ℕ) → u ≡ b → Ahead t u (j + 1) (getD sc₂ (4096 + u) 0)
-            at-b u y = subst (λ (c : ℕ). Ahead t c (j + 1) (getD sc₂ (4096 + c) 0)) (sym y) (subst (Ahead t b (j + 1)) (sym set₂) (ahead-pass t b j (getD sc (4096 + b) 0) l has-b (M .heads b moving-second)))
+            at-b u y =
+                subst (λ (c : ℕ). Ahead t c (j + 1) (getD sc₂ (4096 + c) 0)) (sym y)
+                (subst (Ahead t b (j + 1)) (sym set₂) (ahead-pass t b j (getD sc (4096 + b) 0) l has-b (M .heads b moving-second)))
 
   pub moving-end : {s day next j : ℕ} {sc₀ sc : List ℕ} → Linked t s sc₀ → Moving t sc₀ j sc → j ≤ next → Split d day next → HeadsMoved t day sc₀ sc
   unfolding dayOf at
   moving-end L M h N =
       record {
-        linked = linked-by L (M .else) (λ u k. let A = M .heads u k in record { from = A .from; to = A .to; before = λ i l y o. N .before i (let m = A .before i l y o in omega arith) });
+        linked =
+            linked-by L (M .else)
+            (λ u k.
+            let A = M .heads u k in
+            record { from = A .from; to = A .to; before = λ i l y o. N .before i (let m = A .before i l y o in omega arith) });
         behind = M .else .high;
       }

@@ -62,44 +62,70 @@ module _ (d r b e : List ℕ) where
   c = columnsOf r b e
 
   -- the entry before, from the columns
-  place-is : (rb sb eb j : ℕ) → ((i : ℕ) → j ≡ suc i → rb ≡ getD r i 0) → ((i : ℕ) → j ≡ suc i → sb ≡ getD b i 0) → ((i : ℕ) → j ≡ suc i → eb ≡ getD e i 0) → inPlace c j ≡ (eqb j 0 or comesAfter (entryOf rb sb eb) (entryAt c j))
+  place-is : (rb sb eb j : ℕ) → ((i : ℕ) → j ≡ suc i → rb ≡ getD r i 0) → ((i : ℕ) → j ≡ suc i → sb ≡ getD b i 0)
+      → ((i : ℕ) → j ≡ suc i → eb ≡ getD e i 0) → inPlace c j ≡ (eqb j 0 or comesAfter (entryOf rb sb eb) (entryAt c j))
   unfolding inPlace entryAt at
   place-is rb sb eb zero h₁ h₂ h₃ = sym (or-l (eqb 0 0) (comesAfter (entryOf rb sb eb) (entryAt c 0)) (eq-eqb 0 0 refl))
   place-is rb sb eb (suc i) h₁ h₂ h₃ =
       let y = entryAt c (suc i) in
-      sym (or-no (comesAfter (entryOf rb sb eb) y) (ne-eqb (suc i) 0 (λ q. omega arith)) ∙ (ap (λ (x : ℕ). comesAfter (entryOf x sb eb) y) (h₁ i refl) ∙ (ap (λ (x : ℕ). comesAfter (entryOf (getD r i 0) x eb) y) (h₂ i refl) ∙ ap (λ (x : ℕ). comesAfter (entryOf (getD r i 0) (getD b i 0) x) y) (h₃ i refl))))
+      sym
+      (or-no (comesAfter (entryOf rb sb eb) y) (ne-eqb (suc i) 0 (λ q. omega arith))
+      ∙ (ap (λ (x : ℕ). comesAfter (entryOf x sb eb) y) (h₁ i refl)
+      ∙ (ap (λ (x : ℕ). comesAfter (entryOf (getD r i 0) x eb) y) (h₂ i refl) ∙ ap
+      (λ (x : ℕ). comesAfter (entryOf (getD r i 0) (getD b i 0) x) y) (h₃ i refl))))
 
-  entry-is : {rb sb eb j : ℕ} → Judged d r b e rb sb eb j → entryCheck (dated d) c j ≡ judged j (length d) (at d (getD r j 0)) (entryOf rb sb eb) (entryOf (getD r j 0) (getD b j 0) (getD e j 0))
+  entry-is : {rb sb eb j : ℕ} → Judged d r b e rb sb eb j
+      → entryCheck (dated d) c j ≡ judged j (length d) (at d (getD r j 0)) (entryOf rb sb eb) (entryOf (getD r j 0) (getD b j 0) (getD e j 0))
   unfolding entryCheck judged fits dayOf entryAt at
   entry-is {rb} {sb} {eb} {j} p =
       ap (λ (x : Bool). BadEntry j when no (fits (dated d) (entryAt c j) and x)) (place-is rb sb eb j (p .row-before) (p .start-before) (p .end-before))
 
   -- what `check_entry` answers is 14 at j
-  entry-here : {rb sb eb j row start end day : ℕ} {v : Verdict} → Judged d r b e rb sb eb j → row ≡ getD r j 0 → start ≡ getD b j 0 → end ≡ getD e j 0 → day ≡ at d row → v ≡ judged j (length d) day (entryOf rb sb eb) (entryOf row start end) → entryCheck (dated d) c j ≡ v
+  entry-here : {rb sb eb j row start end day : ℕ} {v : Verdict} → Judged d r b e rb sb eb j → row ≡ getD r j 0 → start ≡ getD b j 0
+      → end ≡ getD e j 0 → day ≡ at d row → v ≡ judged j (length d) day (entryOf rb sb eb) (entryOf row start end)
+      → entryCheck (dated d) c j ≡ v
   entry-here {rb} {sb} {eb} {j} {row} {start} {end} {day} {v} p h₁ h₂ h₃ h₄ h =
       let x = entryOf rb sb eb in
       let n = length d in
       let day′ = at d (getD r j 0) in
-      sym (h ∙ (ap (λ (y : ℕ). judged j n y x (entryOf row start end)) (h₄ ∙ ap (at d) h₁) ∙ (ap (λ (y : ℕ). judged j n day′ x (entryOf y start end)) h₁ ∙ (ap (λ (y : ℕ). judged j n day′ x (entryOf (getD r j 0) y end)) h₂ ∙ (ap (λ (y : ℕ). judged j n day′ x (entryOf (getD r j 0) (getD b j 0) y)) h₃ ∙ sym (entry-is p))))))
+      sym
+      (h
+      ∙ (ap (λ (y : ℕ). judged j n y x (entryOf row start end)) (h₄ ∙ ap (at d) h₁)
+      ∙ (ap (λ (y : ℕ). judged j n day′ x (entryOf y start end)) h₁
+      ∙ (ap (λ (y : ℕ). judged j n day′ x (entryOf (getD r j 0) y end)) h₂
+      ∙ (ap (λ (y : ℕ). judged j n day′ x (entryOf (getD r j 0) (getD b j 0) y)) h₃ ∙ sym (entry-is p))))))
 
   pub judge-start : Judged d r b e 0 0 0 0
   judge-start =
-      record { inside = omega arith; row-before = λ i h. absurd (omega arith); start-before = λ i h. absurd (omega arith); end-before = λ i h. absurd (omega arith); passed = λ i h. absurd (not-suc-le-zero h) }
+      record {
+        inside = omega arith;
+        row-before = λ i h. absurd (omega arith);
+        start-before = λ i h. absurd (omega arith);
+        end-before = λ i h. absurd (omega arith);
+        passed = λ i h. absurd (not-suc-le-zero h);
+      }
 
-  pub judge-next : {rb sb eb j row start end day : ℕ} → Judged d r b e rb sb eb j → j < length r → row ≡ getD r j 0 → start ≡ getD b j 0 → end ≡ getD e j 0 → day ≡ at d row → Accepted ≡ judged j (length d) day (entryOf rb sb eb) (entryOf row start end) → Judged d r b e row start end (j + 1)
+  pub judge-next : {rb sb eb j row start end day : ℕ} → Judged d r b e rb sb eb j → j < length r → row ≡ getD r j 0 → start ≡ getD b j 0
+      → end ≡ getD e j 0 → day ≡ at d row → Accepted ≡ judged j (length d) day (entryOf rb sb eb) (entryOf row start end)
+      → Judged d r b e row start end (j + 1)
   judge-next {j = j} p l h₁ h₂ h₃ h₄ h =
       record {
         inside = omega arith;
         row-before = λ i q. h₁ ∙ ap (λ (x : ℕ). getD r x 0) (same i q);
         start-before = λ i q. h₂ ∙ ap (λ (x : ℕ). getD b x 0) (same i q);
         end-before = λ i q. h₃ ∙ ap (λ (x : ℕ). getD e x 0) (same i q);
-        passed = λ i q. ⊎-elim (λ x. subst (λ (y : ℕ). entryCheck (dated d) c y ≡ Accepted) (sym x) (entry-here p h₁ h₂ h₃ h₄ h)) (λ x. p .passed i x) (eq-or-lt-of-le (le-of-suc-le-suc (rw (add-one j) at q)));
+        passed = λ i q.
+            ⊎-elim (λ x. subst (λ (y : ℕ). entryCheck (dated d) c y ≡ Accepted) (sym x) (entry-here p h₁ h₂ h₃ h₄ h)) (λ x. p .passed i x)
+            (eq-or-lt-of-le (le-of-suc-le-suc (rw (add-one j) at q)));
       }
     where
       same : (i : ℕ) → j + 1 ≡ suc i → j ≡ i
       same i q = omega arith
 
-  pub judge-refused : {rb sb eb j row start end day : ℕ} {x : Refusal} → Judged d r b e rb sb eb j → j < length r → row ≡ getD r j 0 → start ≡ getD b j 0 → end ≡ getD e j 0 → day ≡ at d row → Refused x ≡ judged j (length d) day (entryOf rb sb eb) (entryOf row start end) → Refused x ≡ inOrder (run (entryCheck (dated d) c) 0 (length r))
+  pub judge-refused : {rb sb eb j row start end day : ℕ} {x : Refusal} → Judged d r b e rb sb eb j → j < length r → row ≡ getD r j 0
+      → start ≡ getD b j 0 → end ≡ getD e j 0 → day ≡ at d row
+      → Refused x ≡ judged j (length d) day (entryOf rb sb eb) (entryOf row start end)
+      → Refused x ≡ inOrder (run (entryCheck (dated d) c) 0 (length r))
   judge-refused {j = j} p l h₁ h₂ h₃ h₄ h =
       sym (order-refused (entryCheck (dated d) c) 0 (length r) j (omega arith) (omega arith) (λ i a q. p .passed i q) (entry-here p h₁ h₂ h₃ h₄ h))
 
@@ -109,7 +135,9 @@ module _ (d r b e : List ℕ) where
 -- ---- the answer
 
 -- what a passed 8 says
-pub lengths-same : (d r b e : List ℕ) (p : ℕ) → Accepted ≡ (BadLengths when no (eqb (length b) (length r) and eqb (length e) (length r) and eqb p (length d))) → (length b ≡ length r) × (length e ≡ length r) × (p ≡ length d)
+pub lengths-same : (d r b e : List ℕ) (p : ℕ)
+    → Accepted ≡ (BadLengths when no (eqb (length b) (length r) and eqb (length e) (length r) and eqb p (length d)))
+    → (length b ≡ length r) × (length e ≡ length r) × (p ≡ length d)
 lengths-same d r b e p h =
     let x = eqb (length b) (length r) in
     let y = eqb (length e) (length r) in
@@ -145,17 +173,26 @@ module _ (d f g r b e : List ℕ) (lo hi p : ℕ) where
 
   pub answer-lengths : {x : Refusal} → Accepted ≡ tableCheck t → Refused x ≡ (BadLengths when unequal) → Refused x ≡ recallAnswer t c′ lo hi p
   unfolding recallAnswer
-  answer-lengths h₁ h₂ = sym (then-accepted (BadLengths when unequal then listed then rangeCheck lo hi) (sym h₁) ∙ then-refused (listed then rangeCheck lo hi) (sym h₂))
+  answer-lengths h₁ h₂ =
+      sym
+      (then-accepted (BadLengths when unequal then listed then rangeCheck lo hi) (sym h₁) ∙ then-refused (listed then rangeCheck lo hi)
+      (sym h₂))
 
-  pub answer-entries : {x : Refusal} → Accepted ≡ tableCheck t → Accepted ≡ (BadLengths when unequal) → Refused x ≡ inOrder (run (entryCheck (dated d) c′) 0 (length r)) → Refused x ≡ recallAnswer t c′ lo hi p
+  pub answer-entries : {x : Refusal} → Accepted ≡ tableCheck t → Accepted ≡ (BadLengths when unequal)
+      → Refused x ≡ inOrder (run (entryCheck (dated d) c′) 0 (length r)) → Refused x ≡ recallAnswer t c′ lo hi p
   unfolding recallAnswer
   answer-entries h₁ h₂ h₃ =
-      sym (then-accepted (BadLengths when unequal then listed then rangeCheck lo hi) (sym h₁) ∙ (then-accepted (listed then rangeCheck lo hi) (sym h₂) ∙ then-refused (rangeCheck lo hi) (to-listed h₃)))
+      sym
+      (then-accepted (BadLengths when unequal then listed then rangeCheck lo hi) (sym h₁)
+      ∙ (then-accepted (listed then rangeCheck lo hi) (sym h₂) ∙ then-refused (rangeCheck lo hi) (to-listed h₃)))
 
-  pub answer-window : {v : Verdict} → Accepted ≡ tableCheck t → Accepted ≡ (BadLengths when unequal) → Accepted ≡ inOrder (run (entryCheck (dated d) c′) 0 (length r)) → v ≡ rangeCheck lo hi → v ≡ recallAnswer t c′ lo hi p
+  pub answer-window : {v : Verdict} → Accepted ≡ tableCheck t → Accepted ≡ (BadLengths when unequal)
+      → Accepted ≡ inOrder (run (entryCheck (dated d) c′) 0 (length r)) → v ≡ rangeCheck lo hi → v ≡ recallAnswer t c′ lo hi p
   unfolding recallAnswer
   answer-window h₁ h₂ h₃ h₄ =
-      sym (then-accepted (BadLengths when unequal then listed then rangeCheck lo hi) (sym h₁) ∙ (then-accepted (listed then rangeCheck lo hi) (sym h₂) ∙ (then-accepted (rangeCheck lo hi) (to-listed h₃) ∙ sym h₄)))
+      sym
+      (then-accepted (BadLengths when unequal then listed then rangeCheck lo hi) (sym h₁)
+      ∙ (then-accepted (listed then rangeCheck lo hi) (sym h₂) ∙ (then-accepted (rangeCheck lo hi) (to-listed h₃) ∙ sym h₄)))
 
   -- a list that passes 14 names rows of the table
   rows-inside : listed ≡ Accepted → (i : ℕ) → i < length r → getD r i 0 < length d
@@ -164,10 +201,14 @@ module _ (d f g r b e : List ℕ) (lo hi p : ℕ) where
       let x = entryAt c′ i in
       let one = all-accepted (entryCheck t c′) 0 (length r) h i (omega arith) (omega arith) in
       let both = passed (BadEntry i) (fits t x and inPlace c′ i) one in
-      ltb-true (getD r i 0) (length d) (and-l (ltb (getD r i 0) (length d)) (leb 1 (x .start) and leb (x .start) (dayOf t (x .row)) and leb (dayOf t (x .row)) (x .end) and leb (x .end) 1024) (and-l (fits t x) (inPlace c′ i) both))
+      ltb-true (getD r i 0) (length d)
+      (and-l (ltb (getD r i 0) (length d))
+      (leb 1 (x .start) and leb (x .start) (dayOf t (x .row)) and leb (dayOf t (x .row)) (x .end) and leb (x .end) 1024)
+      (and-l (fits t x) (inPlace c′ i) both))
 
   -- an accepted call: the columns are of one length, a mark stands for each row, and the list names rows of the table
-  list-fits : Accepted ≡ recallAnswer t c′ lo hi p → (length b ≡ length r) × (length e ≡ length r) × (p ≡ length d) × ((i : ℕ) → i < length r → getD r i 0 < length d)
+  list-fits : Accepted ≡ recallAnswer t c′ lo hi p
+      → (length b ≡ length r) × (length e ≡ length r) × (p ≡ length d) × ((i : ℕ) → i < length r → getD r i 0 < length d)
   unfolding recallAnswer
   list-fits h =
       let rest = listed then rangeCheck lo hi in
@@ -181,7 +222,8 @@ module _ (d f g r b e : List ℕ) (lo hi : ℕ) (m₀ : List ℕ) where
   cleared-long : {m : List ℕ} → m ≡ replicate (length m₀) 0 → length m ≡ length m₀
   cleared-long h = ap length h ∙ length-replicate (length m₀) 0
 
-  pub marks-ready : {m : List ℕ} → Accepted ≡ recallAnswer (tableOf d f g) (columnsOf r b e) lo hi (length m₀) → m ≡ replicate (length m₀) 0 → Markable (columnsOf r b e) m
+  pub marks-ready : {m : List ℕ} → Accepted ≡ recallAnswer (tableOf d f g) (columnsOf r b e) lo hi (length m₀) → m ≡ replicate (length m₀) 0
+      → Markable (columnsOf r b e) m
   marks-ready h z =
       let x = list-fits d f g r b e lo hi (length m₀) h in
       let n = cleared-long z in
@@ -191,7 +233,8 @@ module _ (d f g r b e : List ℕ) (lo hi : ℕ) (m₀ : List ℕ) where
         clear = z ∙ ap (λ (k : ℕ). replicate k 0) (sym n);
       }
 
-  pub marks-right : {m m′ : List ℕ} → Accepted ≡ recallAnswer (tableOf d f g) (columnsOf r b e) lo hi (length m₀) → m ≡ replicate (length m₀) 0 → m′ ≡ marksOf (columnsOf r b e) lo hi (length m) → m′ ≡ marksOf (columnsOf r b e) lo hi (length d)
+  pub marks-right : {m m′ : List ℕ} → Accepted ≡ recallAnswer (tableOf d f g) (columnsOf r b e) lo hi (length m₀)
+      → m ≡ replicate (length m₀) 0 → m′ ≡ marksOf (columnsOf r b e) lo hi (length m) → m′ ≡ marksOf (columnsOf r b e) lo hi (length d)
   marks-right h z w = w ∙ ap (marksOf (columnsOf r b e) lo hi) (cleared-long z ∙ list-fits d f g r b e lo hi (length m₀) h .2)
 
 -- ---- the marks
@@ -232,7 +275,8 @@ module _ (r b e : List ℕ) (lo hi : ℕ) where
   mark-late {n} {i} {end} p l h q =
       mark-skip p l (λ k. and-no-r (eqb (getD r i 0) k) (and-no-r (leb lo (getD b i 0)) (lt-leb (getD e i 0) hi (subst (λ (x : ℕ). hi < x) h q))))
 
-  pub mark-hit : {n i row start end : ℕ} {m : List ℕ} → Marking r b e lo hi n i m → InTable n r → i < length r → row ≡ getD r i 0 → start ≡ getD b i 0 → end ≡ getD e i 0 → lo ≤ start → end ≤ hi → Marking r b e lo hi n (i + 1) (set m row 1)
+  pub mark-hit : {n i row start end : ℕ} {m : List ℕ} → Marking r b e lo hi n i m → InTable n r → i < length r → row ≡ getD r i 0
+      → start ≡ getD b i 0 → end ≡ getD e i 0 → lo ≤ start → end ≤ hi → Marking r b e lo hi n (i + 1) (set m row 1)
   unfolding hits at mark
   mark-hit {n} {i} {row} {start} {end} {m} p w l h₁ h₂ h₃ q₁ q₂ =
       record {
@@ -246,11 +290,17 @@ module _ (r b e : List ℕ) (lo hi : ℕ) where
 
       here : (k : ℕ) → getD r i 0 ≡ k → eqb (getD r i 0) k ≡ true → getD (set m row 1) k 0 ≡ mark (some (hits c″ lo hi k) (i + 1))
       here k x y =
-          ap (λ (z : ℕ). getD (set m row 1) z 0) (sym (h₁ ∙ x)) ∙ (getD-set-same m row 1 0 room ∙ ap mark (sym (some-yes (hits c″ lo hi k) i (and-i y (and-i (le-leb lo (getD b i 0) (subst (λ (z : ℕ). lo ≤ z) h₂ q₁)) (le-leb (getD e i 0) hi (subst (λ (z : ℕ). z ≤ hi) h₃ q₂)))))))
+          ap (λ (z : ℕ). getD (set m row 1) z 0) (sym (h₁ ∙ x))
+          ∙ (getD-set-same m row 1 0 room ∙ ap mark
+          (sym
+          (some-yes (hits c″ lo hi k) i
+          (and-i y
+          (and-i (le-leb lo (getD b i 0) (subst (λ (z : ℕ). lo ≤ z) h₂ q₁)) (le-leb (getD e i 0) hi (subst (λ (z : ℕ). z ≤ hi) h₃ q₂)))))))
 
       other : (k : ℕ) → k < n → eqb (getD r i 0) k ≡ false → getD (set m row 1) k 0 ≡ mark (some (hits c″ lo hi k) (i + 1))
       other k o x =
-          getD-set-other m row k 1 0 (λ y. eqb-false (getD r i 0) k x (sym (y ∙ h₁))) ∙ (p .mark-at k o ∙ ap mark (sym (some-no (hits c″ lo hi k) i (and-no-l (leb lo (getD b i 0) and leb (getD e i 0) hi) x))))
+          getD-set-other m row k 1 0 (λ y. eqb-false (getD r i 0) k x (sym (y ∙ h₁)))
+          ∙ (p .mark-at k o ∙ ap mark (sym (some-no (hits c″ lo hi k) i (and-no-l (leb lo (getD b i 0) and leb (getD e i 0) hi) x))))
 
   -- a row is recalled if some entry hits it
   recalled-is : (k : ℕ) → recalled (entries r b e) lo hi k ≡ some (hits c″ lo hi k) (length r)
@@ -293,4 +343,6 @@ module _ (r b e : List ℕ) (lo hi : ℕ) where
       each : (k : ℕ) → k < length m → getD m k 0 ≡ getD (map mark rows) k 0
       each k o =
           let o′ : k < n = subst (λ (x : ℕ). k < x) (p .long) o in
-          p .mark-at k o′ ∙ (ap (λ (x : ℕ). mark (some (hits c″ lo hi k) x)) last ∙ (ap mark (sym (recalled-is k) ∙ sym (getD-run row 0 n k false o′ ∙ ap row (zero-add k))) ∙ sym (List·getD-map mark rows k false)))
+          p .mark-at k o′
+          ∙ (ap (λ (x : ℕ). mark (some (hits c″ lo hi k) x)) last
+          ∙ (ap mark (sym (recalled-is k) ∙ sym (getD-run row 0 n k false o′ ∙ ap row (zero-add k))) ∙ sym (List·getD-map mark rows k false)))

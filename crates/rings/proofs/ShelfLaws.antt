@@ -42,11 +42,25 @@ seeking-start lo K e = record { from = omega arith; to = let a = K .from in omeg
 
 pub seeking-next : {sc : List ℕ} {u lo p j : ℕ} → Seeking sc u lo p → p < getD sc u 0 → j ≡ getD sc (8192 + p) 0 → j < lo → Seeking sc u lo (p + 1)
 seeking-next {sc} G more ej h =
-    record { from = let a = G .from in omega arith; to = omega arith; before = λ r a k. ⊎-elim (λ o. let m = ap (λ (c : ℕ). getD sc (8192 + c) 0) o in omega arith) (λ o. G .before r a o) (eq-or-lt-of-le (let z : r ≤ _ = omega arith in z)) }
+    record {
+      from = let a = G .from in omega arith;
+      to = omega arith;
+      before = λ r a k.
+          ⊎-elim (λ o. let m = ap (λ (c : ℕ). getD sc (8192 + c) 0) o in omega arith) (λ o. G .before r a o)
+          (eq-or-lt-of-le (let z : r ≤ _ = omega arith in z));
+    }
 
-pub seeking-found : {t : Table} {sc : List ℕ} {u lo p j : ℕ} → Shelf t u sc → Seeking sc u lo p → p < getD sc u 0 → j ≡ getD sc (8192 + p) 0 → lo ≤ j → Reading sc u lo p
+pub seeking-found : {t : Table} {sc : List ℕ} {u lo p j : ℕ} → Shelf t u sc → Seeking sc u lo p → p < getD sc u 0 → j ≡ getD sc (8192 + p) 0
+    → lo ≤ j → Reading sc u lo p
 seeking-found {sc = sc} {p = p} K G more ej h =
-    record { from = G .from; to = G .to; before = G .before; after = λ r a k. ⊎-elim (λ o. let m = ap (λ (c : ℕ). getD sc (8192 + c) 0) o in omega arith) (λ o. let m = K .rising p r (G .from) o k in omega arith) (eq-or-lt-of-le a) }
+    record {
+      from = G .from;
+      to = G .to;
+      before = G .before;
+      after = λ r a k.
+          ⊎-elim (λ o. let m = ap (λ (c : ℕ). getD sc (8192 + c) 0) o in omega arith)
+          (λ o. let m = K .rising p r (G .from) o k in omega arith) (eq-or-lt-of-le a);
+    }
 
 pub seeking-out : {sc : List ℕ} {u lo p : ℕ} → Seeking sc u lo p → getD sc u 0 ≤ p → Reading sc u lo p
 seeking-out G past = record { from = G .from; to = G .to; before = G .before; after = λ r a k. absurd (omega arith) }
@@ -69,10 +83,17 @@ module _ (d f s links : List ℕ) (S : Sound d f s) (L : Shelves (tableOf d f s)
 
     -- an entry of u from b on does not stand before p
     stands-after : {i : ℕ} → b ≤ i → (P : Stands links u i) → p ≤ P .place
-    stands-after h P = ⊎-elim (λ y. leb-true p (P .place) y) (λ y. let a = A .before (P .place) (P .from) (leb-false p (P .place) y) in let e = P .is in absurd (omega arith)) (look (leb p (P .place)))
+    stands-after h P =
+        ⊎-elim (λ y. leb-true p (P .place) y)
+        (λ y. let a = A .before (P .place) (P .from) (leb-false p (P .place) y) in let e = P .is in absurd (omega arith))
+        (look (leb p (P .place)))
 
-    pub reading-out : {x : ℕ → ℕ} {lo : ℕ} → Every t x lo u links → end ≤ p → (i : ℕ) → b ≤ i → i < length d → touches t i u ≡ true → (i < lo) ⊎ (x (otherOf t i u) ≡ never)
-    reading-out {lo = lo} E h i a k y = ⊎-elim (λ z. ⊎-elim _⊎_.inr (λ P. let o = stands-after a P in let g = P .below in absurd (omega arith)) (E .row i (leb-true lo i z) k y)) (λ z. _⊎_.inl (leb-false lo i z)) (look (leb lo i))
+    pub reading-out : {x : ℕ → ℕ} {lo : ℕ} → Every t x lo u links → end ≤ p → (i : ℕ) → b ≤ i → i < length d → touches t i u ≡ true
+        → (i < lo) ⊎ (x (otherOf t i u) ≡ never)
+    reading-out {lo = lo} E h i a k y =
+        ⊎-elim
+        (λ z. ⊎-elim _⊎_.inr (λ P. let o = stands-after a P in let g = P .below in absurd (omega arith)) (E .row i (leb-true lo i z) k y))
+        (λ z. _⊎_.inl (leb-false lo i z)) (look (leb lo i))
 
     module _ (more : p < end) where
       pub reading-place : 8192 + p < length links
@@ -95,7 +116,9 @@ module _ (d f s links : List ℕ) (S : Sound d f s) (L : Shelves (tableOf d f s)
         reading-gap {lo = lo} E i a k y =
             ⊎-elim (λ z. ⊎-elim _⊎_.inr
             (λ P. let e = P .is in let g = P .below in
-            ⊎-elim (λ o. let m = ap (λ (c : ℕ). getD links (8192 + c) 0) o in absurd (omega arith)) (λ o. let m = L .shelf u small .rising p (P .place) (A .from) o (omega arith) in absurd (omega arith)) (eq-or-lt-of-le (stands-after a P)))
+            ⊎-elim (λ o. let m = ap (λ (c : ℕ). getD links (8192 + c) 0) o in absurd (omega arith))
+            (λ o. let m = L .shelf u small .rising p (P .place) (A .from) o (omega arith) in absurd (omega arith))
+            (eq-or-lt-of-le (stands-after a P)))
             (E .row i (leb-true lo i z) (let o = reading-row in omega arith) y)) (λ z. _⊎_.inl (leb-false lo i z)) (look (leb lo i))
 
         pub reading-next : Reading links u (j + 1) (p + 1)
@@ -103,7 +126,9 @@ module _ (d f s links : List ℕ) (S : Sound d f s) (L : Shelves (tableOf d f s)
             record {
               from = let a = A .from in omega arith;
               to = omega arith;
-              before = λ r h k. ⊎-elim (λ o. let m = ap (λ (c : ℕ). getD links (8192 + c) 0) o in omega arith) (λ o. let m = A .before r h o in let n = reading-from in omega arith) (eq-or-lt-of-le (let z : r ≤ p = omega arith in z));
+              before = λ r h k.
+                  ⊎-elim (λ o. let m = ap (λ (c : ℕ). getD links (8192 + c) 0) o in omega arith)
+                  (λ o. let m = A .before r h o in let n = reading-from in omega arith) (eq-or-lt-of-le (let z : r ≤ p = omega arith in z));
               after = λ r h k. let m = L .shelf u small .rising p r (A .from) (omega arith) k in omega arith;
             }
 
@@ -124,10 +149,12 @@ module _ (d f s links : List ℕ) (S : Sound d f s) (L : Shelves (tableOf d f s)
 
 -- ---- times only rise, and rows only leave
 
-pub every-rise : {t : Table} {x x′ : ℕ → ℕ} {lo lo′ u : ℕ} {sc : List ℕ} → ((v : ℕ) → x v ≡ never → x′ v ≡ never) → lo ≤ lo′ → Every t x lo u sc → Every t x′ lo′ u sc
+pub every-rise : {t : Table} {x x′ : ℕ → ℕ} {lo lo′ u : ℕ} {sc : List ℕ} → ((v : ℕ) → x v ≡ never → x′ v ≡ never) → lo ≤ lo′
+    → Every t x lo u sc → Every t x′ lo′ u sc
 every-rise {t} {u = u} up h E = record { row = λ i a l y. ⊎-elim (λ e. _⊎_.inl (up (otherOf t i u) e)) _⊎_.inr (E .row i (omega arith) l y) }
 
-pub covered-rise : {t : Table} {x x′ : ℕ → ℕ} {lo lo′ : ℕ} {sc : List ℕ} → ((v : ℕ) → x v ≡ never → x′ v ≡ never) → lo ≤ lo′ → Covered t x lo sc → Covered t x′ lo′ sc
+pub covered-rise : {t : Table} {x x′ : ℕ → ℕ} {lo lo′ : ℕ} {sc : List ℕ} → ((v : ℕ) → x v ≡ never → x′ v ≡ never) → lo ≤ lo′
+    → Covered t x lo sc → Covered t x′ lo′ sc
 covered-rise up h C = record { rows = λ u l n. every-rise up h (C .rows u l (λ e. n (up u e))) }
 
 -- ---- the whole book
@@ -150,7 +177,13 @@ module _ {t : Table} {day : ℕ} {sc : List ℕ} (L : Linked t day sc) where
       let c = L .cursors u l in
       let N = nth-row t u (size t) (p - placeOf t u) (omega arith) in
       let e : placeOf t u + rank t u (N .row) ≡ p = let g = N .ranked in omega arith in
-      record { row = N .row; below = N .below; touch = N .touch; ranked = e; is = ap (λ (c : ℕ). getD sc (8192 + c) 0) (sym e) ∙ L .book u (N .row) l (N .below) (N .touch) }
+      record {
+        row = N .row;
+        below = N .below;
+        touch = N .touch;
+        ranked = e;
+        is = ap (λ (c : ℕ). getD sc (8192 + c) 0) (sym e) ∙ L .book u (N .row) l (N .below) (N .touch);
+      }
 
   pub linked-shelves : Shelves t sc
   linked-shelves =
@@ -167,7 +200,11 @@ module _ {t : Table} {day : ℕ} {sc : List ℕ} (L : Linked t day sc) where
                   let E = entry u p l h (omega arith) in
                   let G = entry u r l (omega arith) k in
                   let a = E .is in let b = G .is in let c = E .ranked in let e = G .ranked in
-                  ⊎-elim (λ y. ⊎-elim (λ z. let m = ap (rank t u) z in absurd (omega arith)) (λ z. let m = rank-less t u (G .row) (E .row) (G .touch) z in absurd (omega arith)) (eq-or-lt-of-le (leb-true (G .row) (E .row) y)))
+                  ⊎-elim
+                  (λ y.
+                  ⊎-elim (λ z. let m = ap (rank t u) z in absurd (omega arith))
+                  (λ z. let m = rank-less t u (G .row) (E .row) (G .touch) z in absurd (omega arith))
+                  (eq-or-lt-of-le (leb-true (G .row) (E .row) y)))
                   (λ y. let m = leb-false (G .row) (E .row) y in omega arith) (look (leb (G .row) (E .row)));
             };
       }
@@ -183,7 +220,12 @@ module _ {t : Table} {day : ℕ} {sc : List ℕ} (L : Linked t day sc) where
                   _⊎_.inr
                   (record {
                     place = placeOf t u + rank t u i;
-                    from = ⊎-elim (λ z. leb-true (getD sc (4096 + u) 0) (placeOf t u + rank t u i) z) (λ z. let b = H .before i k y (leb-false (getD sc (4096 + u) 0) (placeOf t u + rank t u i) z) in let c = late i k a in absurd (omega arith)) (look (leb (getD sc (4096 + u) 0) (placeOf t u + rank t u i)));
+                    from =
+                        ⊎-elim (λ z. leb-true (getD sc (4096 + u) 0) (placeOf t u + rank t u i) z)
+                        (λ z.
+                        let b = H .before i k y (leb-false (getD sc (4096 + u) 0) (placeOf t u + rank t u i) z) in
+                        let c = late i k a in absurd (omega arith))
+                        (look (leb (getD sc (4096 + u) 0) (placeOf t u + rank t u i)));
                     below = let b = entry-below t u i y k in let c = last-is u l in omega arith;
                     is = L .book u i l k y;
                   });

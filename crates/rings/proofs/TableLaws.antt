@@ -36,21 +36,29 @@ module _ (d f s : List ℕ) where
   unfolding dayBefore
   pass-start = record { inside = omega arith; day-before = refl; passed = λ l h. absurd (not-suc-le-zero h) }
 
-  pub row-here : (before j : ℕ) {v : Verdict} → Passed d f s before j → v ≡ rowFaults j before (getD d j 0) (getD f j 0) (getD s j 0) → rowCheck (tableOf d f s) j ≡ v
+  pub row-here : (before j : ℕ) {v : Verdict} → Passed d f s before j → v ≡ rowFaults j before (getD d j 0) (getD f j 0) (getD s j 0)
+      → rowCheck (tableOf d f s) j ≡ v
   unfolding rowCheck dayOf firstOf secondOf at
   row-here before j p e = sym (rw (← (p .day-before)) e)
 
-  pub pass-next : (before j : ℕ) → Passed d f s before j → j < length d → Accepted ≡ rowFaults j before (getD d j 0) (getD f j 0) (getD s j 0) → Passed d f s (getD d j 0) (j + 1)
+  pub pass-next : (before j : ℕ) → Passed d f s before j → j < length d
+      → Accepted ≡ rowFaults j before (getD d j 0) (getD f j 0) (getD s j 0) → Passed d f s (getD d j 0) (j + 1)
   unfolding dayBefore dayOf at
   pass-next before j p l e =
       record {
         inside = omega arith;
         day-before = ap (dayBefore (tableOf d f s)) (sym (add-one j));
-        passed = λ i h. ⊎-elim (λ q. subst (λ (x : ℕ). rowCheck (tableOf d f s) x ≡ Accepted) (sym q) (row-here before j p e)) (λ q. p .passed i q) (eq-or-lt-of-le (le-of-suc-le-suc (rw (add-one j) at h)));
+        passed = λ i h.
+            ⊎-elim (λ q. subst (λ (x : ℕ). rowCheck (tableOf d f s) x ≡ Accepted) (sym q) (row-here before j p e)) (λ q. p .passed i q)
+            (eq-or-lt-of-le (le-of-suc-le-suc (rw (add-one j) at h)));
       }
 
-  pub pass-refused : (before j : ℕ) (r : Refusal) → Passed d f s before j → j < length d → Refused r ≡ rowFaults j before (getD d j 0) (getD f j 0) (getD s j 0) → Refused r ≡ inOrder (run (rowCheck (tableOf d f s)) 0 (length d))
-  pass-refused before j r p l e = sym (order-refused (rowCheck (tableOf d f s)) 0 (length d) j (omega arith) (omega arith) (λ i a b. p .passed i b) (row-here before j p e))
+  pub pass-refused : (before j : ℕ) (r : Refusal) → Passed d f s before j → j < length d
+      → Refused r ≡ rowFaults j before (getD d j 0) (getD f j 0) (getD s j 0)
+      → Refused r ≡ inOrder (run (rowCheck (tableOf d f s)) 0 (length d))
+  pass-refused before j r p l e =
+      sym
+      (order-refused (rowCheck (tableOf d f s)) 0 (length d) j (omega arith) (omega arith) (λ i a b. p .passed i b) (row-here before j p e))
 
   pub pass-end : (before j : ℕ) → Passed d f s before j → length d ≤ j → Accepted ≡ inOrder (run (rowCheck (tableOf d f s)) 0 (length d))
   pass-end before j p l = sym (order-accepted (rowCheck (tableOf d f s)) 0 (length d) (λ i a b. p .passed i (omega arith)))
@@ -68,8 +76,13 @@ faults-none j before day a b e =
     let e′ = accepted-right (BadDay j when p) rest e in
     let e₂ = when-accepted (BadAccounts j) q (accepted-left (BadAccounts j when q) (OutOfOrder j when r) e′) in
     let e₃ = when-accepted (OutOfOrder j) r (accepted-right (BadAccounts j when q) (OutOfOrder j when r) e′) in
-    let both = not-no (leb 1 day and leb day 1024) e₁ in
-    (leb-true 1 day (and-l (leb 1 day) (leb day 1024) both), leb-true day 1024 (and-r (leb 1 day) (leb day 1024) both), ltb-true a b (not-no (ltb a b) (right-false (ltb 4095 b) (no (ltb a b)) e₂)), ltb-false 4095 b (left-false (ltb 4095 b) (no (ltb a b)) e₂), ltb-false day before e₃)
+    let both = not-no (leb 1 day and leb day 1024) e₁ in (
+      leb-true 1 day (and-l (leb 1 day) (leb day 1024) both),
+      leb-true day 1024 (and-r (leb 1 day) (leb day 1024) both),
+      ltb-true a b (not-no (ltb a b) (right-false (ltb 4095 b) (no (ltb a b)) e₂)),
+      ltb-false 4095 b (left-false (ltb 4095 b) (no (ltb a b)) e₂),
+      ltb-false day before e₃,
+    )
   where
     left-false : (x y : Bool) → x or y ≡ false → x ≡ false
     left-false x y h = ⊎-elim (λ z. clash (or-l x y z) h) (λ z. z) (look x)
@@ -77,7 +90,8 @@ faults-none j before day a b e =
     right-false : (x y : Bool) → x or y ≡ false → y ≡ false
     right-false x y h = ⊎-elim (λ z. clash (or-r x y z) h) (λ z. z) (look y)
 
-row-sound : (d f s : List ℕ) (j : ℕ) → rowCheck (tableOf d f s) j ≡ Accepted → (1 ≤ getD d j 0) × (getD d j 0 ≤ 1024) × (getD f j 0 < getD s j 0) × (getD s j 0 ≤ 4095) × (dayBefore (tableOf d f s) j ≤ getD d j 0)
+row-sound : (d f s : List ℕ) (j : ℕ) → rowCheck (tableOf d f s) j ≡ Accepted
+    → (1 ≤ getD d j 0) × (getD d j 0 ≤ 1024) × (getD f j 0 < getD s j 0) × (getD s j 0 ≤ 4095) × (dayBefore (tableOf d f s) j ≤ getD d j 0)
 unfolding rowCheck dayOf firstOf secondOf at
 row-sound d f s j e = faults-none j (dayBefore (tableOf d f s) j) (getD d j 0) (getD f j 0) (getD s j 0) e
 
@@ -100,5 +114,6 @@ table-sound d f s e =
       rising = record { next = λ j l. row e₃ (suc j) l .4 };
     }
   where
-    row : inOrder (run (rowCheck (tableOf d f s)) 0 (length d)) ≡ Accepted → (j : ℕ) → j < length d → (1 ≤ getD d j 0) × (getD d j 0 ≤ 1024) × (getD f j 0 < getD s j 0) × (getD s j 0 ≤ 4095) × (dayBefore (tableOf d f s) j ≤ getD d j 0)
+    row : inOrder (run (rowCheck (tableOf d f s)) 0 (length d)) ≡ Accepted → (j : ℕ) → j < length d
+        → (1 ≤ getD d j 0) × (getD d j 0 ≤ 1024) × (getD f j 0 < getD s j 0) × (getD s j 0 ≤ 4095) × (dayBefore (tableOf d f s) j ≤ getD d j 0)
     row h j l = row-sound d f s j (all-accepted (rowCheck (tableOf d f s)) 0 (length d) h j (omega arith) (omega arith))

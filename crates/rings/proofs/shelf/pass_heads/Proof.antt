@@ -14,7 +14,8 @@ use Rattle.rings.proofs.links.entry.Reads as entry-reads
 use Rattle.rings.proofs.shelf.pass_head.Reads as pass-head-reads
 
 abbrev Inv-loop : tie.InvT-loop
-Inv-loop days first second scratch₀ lo next j₀ scratch j = (length scratch ≡ length scratch₀) × HeadsPassed (tableOf days first second) lo scratch₀ j scratch × (j ≤ next)
+Inv-loop days first second scratch₀ lo next j₀ scratch j =
+    (length scratch ≡ length scratch₀) × HeadsPassed (tableOf days first second) lo scratch₀ j scratch × (j ≤ next)
 
 abbrev μ-loop : tie.MeasureT-loop
 μ-loop days first second scratch₀ lo next j₀ scratch j = next - j

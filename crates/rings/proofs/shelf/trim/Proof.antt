@@ -12,7 +12,8 @@ use Rattle.rings.proofs.shelf.trim.Lts as lts
 use Rattle.rings.proofs.shelf.trim_account.Reads as trim-account-reads
 
 abbrev Inv-loop : tie.InvT-loop
-Inv-loop days first second scratch₀ day times u₀ scratch u = (length scratch ≡ length scratch₀) × Trimming (tableOf days first second) (guess times) scratch₀ scratch
+Inv-loop days first second scratch₀ day times u₀ scratch u =
+    (length scratch ≡ length scratch₀) × Trimming (tableOf days first second) (guess times) scratch₀ scratch
 
 abbrev μ-loop : tie.MeasureT-loop
 μ-loop days first second scratch₀ day times u₀ scratch u = 4096 - u

@@ -18,7 +18,8 @@ use Rattle.rings.proofs.links.put.Reads as put-reads
 use Rattle.rings.proofs.links.wide.Reads as wide-reads
 
 abbrev Inv-loop : tie.InvT-loop
-Inv-loop days first second scratch₀ times u last p₀ end₀ scratch p end = (last ≡ getD scratch₀ u 0) × Sift (tableOf days first second) (guess times) u scratch₀ p end scratch
+Inv-loop days first second scratch₀ times u last p₀ end₀ scratch p end =
+    (last ≡ getD scratch₀ u 0) × Sift (tableOf days first second) (guess times) u scratch₀ p end scratch
 
 abbrev μ-loop : tie.MeasureT-loop
 μ-loop days first second scratch₀ times u last p₀ end₀ scratch p end = last - p
