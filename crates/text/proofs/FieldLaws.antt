@@ -28,7 +28,7 @@ use lib.ListN.{length, getD, take, drop, length-drop}
 use lib.Seq.{drop-cons, drop-length, take-all}
 use borrow.Author.Tests.{leb-true, eq-eqb, ne-eqb, le-leb, lt-leb, lt-ltb}
 use Rattle.text.specs.Layout.{mostDigits}
-use Rattle.text.specs.Decimal.{unblank, isDigit, allDigits, leadsWell, isNumeral, value, numeralOf, fieldOf}
+use Rattle.text.specs.Decimal.{unblank, isDigit, allDigits, leadsWell, isNumeral, value, numeralOf, fieldOf, FewDigits}
 use Rattle.text.specs.declared.decimal.Field.the-variants.{Number, Large, Broken}
 use Rattle.text.proofs.Tests.{and-left, and-right, pick-true, pick-false}
 
@@ -141,12 +141,9 @@ pub value-end : (f : List ℕ) (i : ℕ) → i ≡ length f → value (drop i f)
 unfolding value
 value-end f i e = rw (e, drop-length f)
 
--- the part of one digit fits beside the sum so far
-pub value-sum : (f : List ℕ) (i p sum : ℕ) → i < length f → p ≡ 10 ^ (length f - 1 - i) → allDigits f ≡ true → length f ≤ mostDigits → sum + value (drop i f) ≡ value f
-    → sum + (getD f i 0 - 48) * p < 10 ^ mostDigits
-value-sum f i p sum h q e l s =
-    let m : 10 ^ length f ≤ 10 ^ mostDigits = pow-le-pow-right (lit< tt) l in
-    omega (arith, value-below f e, value-next f i p h q)
+-- so no sum of its digits' parts overflows
+pub value-few : {f : List ℕ} → FewDigits f → value f < 10 ^ mostDigits
+value-few {f} d = lt-of-lt-of-le (value-below f (d .digits)) (pow-le-pow-right (lit< tt) (d .few))
 
 leads : (ds : List ℕ) → isNumeral ds ≡ true → 1 < length ds → getD ds 0 0 ≡ 48 → ⊥
 leads ds e h z = true≢false (sym e ∙ numeral-zero ds h z)

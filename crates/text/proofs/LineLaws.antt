@@ -7,6 +7,7 @@
 --   short-line early-end open-line whole-line line-ends     the test for a whole line, by the code's cases
 --   whole-size whole-first whole-fits     a whole first line is the text's first bytes
 --   part-of                   a part of the first bytes is a part of the text
+--   first-refuses second-refuses third-decides     one of three fields is refused, by the first that is
 --   step-none step-first step-short step-whole part-field step-judged   what the first line holds, by the code's cases
 --   step-past step-within     past the text there is no line; within it, the part that the code takes
 --   next-start lines-from step-from     where each line before line n is 18 bytes, the reader finds line n
@@ -28,8 +29,8 @@ use lib.ListN.{length, getD, take, drop, length-drop}
 use lib.Seq.{take-take, length-take-le, getD-take, drop-drop, drop-cons, drop-length}
 use borrow.Author.Tests.{eq-eqb, ne-eqb, eqb-true, eqb-false}
 use Rattle.text.specs.Layout.{bytesOf, tableLayout, lineBytes}
-use Rattle.text.specs.Decimal.{fieldOf}
-use Rattle.text.specs.Line.{prepend, linesOf, firstLine, isWhole, judged, fieldAt, lineAs, stepAs, stepAt, passed, stepFrom, lineAt, Reached}
+use Rattle.text.specs.Decimal.{fieldOf, refuses}
+use Rattle.text.specs.Line.{prepend, linesOf, firstLine, isWhole, oneRefuses, judged, fieldAt, lineAs, stepAs, stepAt, passed, stepFrom, lineAt, Reached}
 use Rattle.text.specs.declared.layout.Format.{Format}
 use Rattle.text.specs.declared.layout.Layout.{Layout}
 use Rattle.text.specs.declared.lines.Line.{Line}
@@ -165,6 +166,18 @@ part-of zero b n s h = take-take b n s (rw (← zero-add b) (omega arith))
 part-of (suc a) b zero s h = let z : ⊥ = omega arith in absurd z
 part-of (suc a) b (suc n) [] h = refl
 part-of (suc a) b (suc n) (x ∷ s) h = part-of a b n s (omega arith)
+
+-- ---- one of three fields is refused, by the first that is
+
+module _ (number : ℕ) (x y z : Field) where
+  pub first-refuses : refuses number x ≡ true → true ≡ oneRefuses number x y z
+  first-refuses p = rw p
+
+  pub second-refuses : refuses number x ≡ false → refuses number y ≡ true → true ≡ oneRefuses number x y z
+  second-refuses p q = rw (p, q)
+
+  pub third-decides : refuses number x ≡ false → refuses number y ≡ false → refuses number z ≡ oneRefuses number x y z
+  third-decides p q = rw (p, q)
 
 -- ---- what the first line holds
 

@@ -14,7 +14,7 @@ use native.Mathlib.Numerals.{add-one}
 use native.Mathlib.Omega.{arith}
 use lib.ListN.{length, getD, take, drop, set, length-set, length-append}
 use lib.Seq.{paste, paste-zero, paste-suc, length-paste, take-length, length-take-le, take-at, drop-at, drop-drop}
-use Rattle.text.specs.Print.{pasted}
+use Rattle.text.specs.Print.{pasted, WrittenAt}
 
 -- ---- one element a turn
 
@@ -82,23 +82,27 @@ pub record Pieces (s d now : List ℕ) (at next : ℕ) : Type 0 where
   pub long : length now ≡ length d
   pub is : now ≡ pasted d at s
 
-pub piece-first : {d now : List ℕ} {at next : ℕ} (s : List ℕ) (size : ℕ) → length s ≡ size → at + size ≤ length d → (next ≡ at + size) × (now ≡ pasted d at s) → Pieces s d now at next
+pub piece-first : {d now : List ℕ} {at next : ℕ} (s : List ℕ) (size : ℕ) → length s ≡ size → at + size ≤ length d
+    → WrittenAt d at size s next now → Pieces s d now at next
 piece-first {d} {now} {at} {next} s size e h w =
     let r : at + length s ≤ length d = omega arith in
-    let n : next ≡ at + size = w .0 in
-    record { stop = omega arith; room = omega arith; long = ap length (w .1) ∙ pasted-length d at s r; is = w .1 }
+    record {
+      stop = omega (arith, w .behind);
+      room = omega (arith, w .behind);
+      long = ap length (w .holds) ∙ pasted-length d at s r;
+      is = w .holds;
+    }
 
-pub piece-more : {s d now now′ : List ℕ} {at next next′ : ℕ} (t : List ℕ) (size : ℕ) → Pieces s d now at next → length t ≡ size → next + size ≤ length d
-    → (next′ ≡ next + size) × (now′ ≡ pasted now next t) → Pieces (s ++ t) d now′ at next′
+pub piece-more : {s d now now′ : List ℕ} {at next next′ : ℕ} (t : List ℕ) (size : ℕ) → Pieces s d now at next → length t ≡ size
+    → next + size ≤ length d → WrittenAt now next size t next′ now′ → Pieces (s ++ t) d now′ at next′
 piece-more {s} {d} {now} {now′} {at} {next} {next′} t size p e h w =
     let m : next ≡ at + length s = p .stop in
     let l : length now ≡ length d = p .long in
-    let n : next′ ≡ next + size = w .0 in
     let k : length (s ++ t) ≡ length s + length t = length-append s t in
     let r : next + length t ≤ length now = omega arith in
     record {
-      stop = omega arith;
-      room = omega arith;
-      long = ap length (w .1) ∙ pasted-length now next t r ∙ l;
-      is = w .1 ∙ rw (p .is, m) (pasted-pasted d at s t (omega arith));
+      stop = omega (arith, w .behind);
+      room = omega (arith, w .behind);
+      long = ap length (w .holds) ∙ pasted-length now next t r ∙ l;
+      is = w .holds ∙ rw (p .is, m) (pasted-pasted d at s t (omega arith));
     }

@@ -5,8 +5,8 @@
 --   printed-length printed-at      a printed field, column by column
 --   fits-none fits-wide fits-place    whether a number fits, by the code's cases
 --   room-short room-left           whether bytes fit, by the code's cases
---   room-for put-none put-wrote field-fits field-wide     the answer of a call that writes
---   Wrote-at line-pieces refused-pieces     a line is its pieces, one behind the other
+--   room-for puts-none puts-all field-wide field-fits     the answer of a call that writes
+--   line-pieces refused-pieces     a line is its pieces, one behind the other
 --   line-length refused-length     how long the lines are
 -- Assumes nothing.
 use Prim.Native.Nat.{ℕ, zero, suc, _+_, _-_, _/_, _%_, _^_, _≤_, _<_}
@@ -18,11 +18,12 @@ use native.Mathlib.Nat.{div-one, pow-le-pow-right, not-suc-le-zero, le-of-suc-le
 use native.Mathlib.Omega.{arith}
 use lib.Dec.{leb, ltb, lit<}
 use lib.ListN.{length, getD, length-append}
-use borrow.Author.Tests.{lt-ltb, le-ltb, lt-leb, le-leb, leb-true, leb-false, not-true, not-false}
+use borrow.Author.Tests.{lt-ltb, le-ltb, lt-leb, le-leb, leb-true, leb-false}
 use Rattle.text.specs.Layout.{mostDigits, dayWidth, rowsWidth, numberWidth, placeWidth, entryBytes, refusedBytes}
-use Rattle.text.specs.Print.{columnOf, printed, fits, pasted, putOf, fieldPut, listingLine, refusedLine}
+use Rattle.text.specs.Print.{columnOf, printed, fits, putOf, fieldPut, listingLine, refusedLine, WrittenAt, Puts, PutsField}
+use Rattle.text.specs.declared.print.Put.{Put}
 use Rattle.text.specs.declared.print.Put.the-variants.{Wrote, NoRoom}
-use Rattle.text.proofs.Tests.{look, pick-true, pick-false}
+use Rattle.text.proofs.Tests.{look, pick-true, pick-false, negated-true, negated-false}
 use Rattle.text.proofs.PasteLaws.{Pieces, piece-first, piece-more}
 
 -- ---- columns
@@ -84,59 +85,73 @@ room-left len at size h =
 -- ---- the answer of a call that writes
 
 pub room-for : (len at size : ℕ) {b : Bool} → b ≡ leb (at + size) len → not b ≡ false → at + size ≤ len
-room-for len at size {b} e t = leb-true (at + size) len (sym e ∙ not-false b t)
+room-for len at size e t = leb-true (at + size) len (negated-false e t)
 
 module _ (out : List ℕ) (at : ℕ) (bytes : List ℕ) {size : ℕ} {b : Bool} (e : length bytes ≡ size) (q : b ≡ leb (at + size) (length out)) where
   -- the test, on the bytes themselves
   tests : b ≡ leb (at + length bytes) (length out)
   tests = rw (e) q
 
-  pub put-none : not b ≡ true → NoRoom ≡ putOf out at bytes
+  pub puts-none : not b ≡ true → Puts out at bytes NoRoom out
   unfolding putOf
-  put-none t = sym (pick-false _ _ _ (sym tests ∙ not-true b t))
+  puts-none t = record { answers = sym (pick-false _ _ _ (negated-true tests t)); holds = refl }
 
-  pub put-wrote : {next : ℕ} → not b ≡ false → next ≡ at + size → Wrote next ≡ putOf out at bytes
+  pub puts-all : {next : ℕ} {now : List ℕ} → not b ≡ false → WrittenAt out at size bytes next now → Puts out at bytes (Wrote next) now
   unfolding putOf
-  put-wrote t n = rw (n, ← e) (sym (pick-true _ _ _ (sym tests ∙ not-false b t)))
+  puts-all t w = record { answers = rw (w .behind, ← e) (sym (pick-true _ _ _ (negated-false tests t))); holds = w .holds }
 
-pub field-fits : (out : List ℕ) (at width n : ℕ) {b : Bool} → b ≡ fits width n → not b ≡ false → fieldPut out at width n ≡ putOf out at (printed width n)
-unfolding fieldPut
-field-fits out at width n {b} e t = pick-true _ _ _ (sym e ∙ not-false b t)
+module _ (out : List ℕ) (at width n : ℕ) {b : Bool} (e : b ≡ fits width n) where
+  pub field-wide : not b ≡ true → PutsField out at width n NoRoom out
+  unfolding fieldPut
+  field-wide t = record { answers = sym (pick-false _ _ _ (negated-true e t)); holds = refl }
 
-pub field-wide : (out : List ℕ) (at width n : ℕ) {b : Bool} → b ≡ fits width n → not b ≡ true → fieldPut out at width n ≡ NoRoom
-unfolding fieldPut
-field-wide out at width n {b} e t = pick-false _ _ _ (sym e ∙ not-true b t)
+  pub field-fits : {r : Put} {now : List ℕ} → not b ≡ false → Puts out at (printed width n) r now → PutsField out at width n r now
+  unfolding fieldPut
+  field-fits t p = record { answers = p .answers ∙ sym (pick-true _ _ _ (negated-false e t)); holds = p .holds }
 
 -- ---- lines, piece by piece
 
--- a piece of some bytes is written from `at` on, and `next` is the place behind it
-abbrev pub Wrote-at : List ℕ → ℕ → ℕ → List ℕ → ℕ → List ℕ → Type 0
-Wrote-at out at size bytes next now = (next ≡ at + size) × (now ≡ pasted out at bytes)
-
-pub line-pieces : (out : List ℕ) (at : ℕ) {o₁ o₂ o₃ o₄ o₅ : List ℕ} {a b c d r : ℕ} (start end span rows : ℕ) → at + entryBytes ≤ length out
-    → Wrote-at out at dayWidth (printed dayWidth start) a o₁ → Wrote-at o₁ a dayWidth (printed dayWidth end) b o₂ → Wrote-at o₂ b dayWidth (printed dayWidth span) c o₃
-    → Wrote-at o₃ c rowsWidth (printed rowsWidth rows) d o₄ → Wrote-at o₄ d 1 (10 ∷ []) r o₅
-    → Wrote-at out at entryBytes (listingLine start end span rows) r o₅
-unfolding listingLine
-line-pieces out at {o₁} {o₂} {o₃} {o₄} {o₅} {a} {b} {c} {d} {r} start end span rows h w₁ w₂ w₃ w₄ w₅ =
-    let p₁ : Pieces (printed dayWidth start) out o₁ at a = piece-first _ dayWidth (printed-length dayWidth start) (omega arith) w₁ in
-    let p₂ : Pieces (printed dayWidth start ++ printed dayWidth end) out o₂ at b = piece-more _ dayWidth p₁ (printed-length dayWidth end) (omega arith) w₂ in
-    let p₃ : Pieces (printed dayWidth start ++ printed dayWidth end ++ printed dayWidth span) out o₃ at c = piece-more _ dayWidth p₂ (printed-length dayWidth span) (omega arith) w₃ in
-    let p₄ : Pieces (printed dayWidth start ++ printed dayWidth end ++ printed dayWidth span ++ printed rowsWidth rows) out o₄ at d = piece-more _ rowsWidth p₃ (printed-length rowsWidth rows) (omega arith) w₄ in
-    (omega arith, piece-more _ 1 p₄ refl (omega arith) w₅ .is)
+module _ (out : List ℕ) (at : ℕ) {o₁ o₂ o₃ o₄ o₅ : List ℕ} {a b c d r : ℕ} (start end span rows : ℕ) (h : at + entryBytes ≤ length out) where
+  pub line-pieces : WrittenAt out at dayWidth (printed dayWidth start) a o₁
+      → WrittenAt o₁ a dayWidth (printed dayWidth end) b o₂
+      → WrittenAt o₂ b dayWidth (printed dayWidth span) c o₃
+      → WrittenAt o₃ c rowsWidth (printed rowsWidth rows) d o₄
+      → WrittenAt o₄ d 1 (10 ∷ []) r o₅
+      → WrittenAt out at entryBytes (listingLine start end span rows) r o₅
+  unfolding listingLine
+  line-pieces w₁ w₂ w₃ w₄ w₅ =
+      let p₁ : Pieces (printed dayWidth start) out o₁ at a = piece-first _ dayWidth (printed-length dayWidth start) (omega arith) w₁ in
+      let p₂ : Pieces (printed dayWidth start ++ printed dayWidth end) out o₂ at b =
+      piece-more _ dayWidth p₁ (printed-length dayWidth end) (omega (arith, w₁ .behind)) w₂ in
+      let p₃ : Pieces (printed dayWidth start ++ printed dayWidth end ++ printed dayWidth span) out o₃ at c =
+      piece-more _ dayWidth p₂ (printed-length dayWidth span) (omega (arith, w₁ .behind, w₂ .behind)) w₃ in
+      let p₄ : Pieces (printed dayWidth start ++ printed dayWidth end ++ printed dayWidth span ++ printed rowsWidth rows) out o₄ at d =
+      piece-more _ rowsWidth p₃ (printed-length rowsWidth rows) (omega (arith, w₁ .behind, w₂ .behind, w₃ .behind)) w₄ in
+      record {
+        behind = omega (arith, w₁ .behind, w₂ .behind, w₃ .behind, w₄ .behind, w₅ .behind);
+        holds = piece-more _ 1 p₄ refl (omega (arith, w₁ .behind, w₂ .behind, w₃ .behind, w₄ .behind)) w₅ .is;
+      }
 
 abbrev pub refused : List ℕ
 refused = 114 ∷ 101 ∷ 102 ∷ 117 ∷ 115 ∷ 101 ∷ 100 ∷ []
 
-pub refused-pieces : (out : List ℕ) {o₁ o₂ o₃ o₄ : List ℕ} {a b c r : ℕ} (number line : ℕ) → refusedBytes ≤ length out
-    → Wrote-at out 0 7 refused a o₁ → Wrote-at o₁ a numberWidth (printed numberWidth number) b o₂ → Wrote-at o₂ b placeWidth (printed placeWidth line) c o₃ → Wrote-at o₃ c 1 (10 ∷ []) r o₄
-    → (r ≡ refusedBytes) × (o₄ ≡ pasted out 0 (refusedLine number line))
-unfolding refusedLine
-refused-pieces out {o₁} {o₂} {o₃} {o₄} {a} {b} {c} {r} number line h w₁ w₂ w₃ w₄ =
-    let p₁ : Pieces refused out o₁ 0 a = piece-first _ 7 refl (omega arith) w₁ in
-    let p₂ : Pieces (refused ++ printed numberWidth number) out o₂ 0 b = piece-more _ numberWidth p₁ (printed-length numberWidth number) (omega arith) w₂ in
-    let p₃ : Pieces (refused ++ printed numberWidth number ++ printed placeWidth line) out o₃ 0 c = piece-more _ placeWidth p₂ (printed-length placeWidth line) (omega arith) w₃ in
-    (omega arith, piece-more _ 1 p₃ refl (omega arith) w₄ .is)
+module _ (out : List ℕ) {o₁ o₂ o₃ o₄ : List ℕ} {a b c r : ℕ} (number line : ℕ) (h : refusedBytes ≤ length out) where
+  pub refused-pieces : WrittenAt out 0 7 refused a o₁
+      → WrittenAt o₁ a numberWidth (printed numberWidth number) b o₂
+      → WrittenAt o₂ b placeWidth (printed placeWidth line) c o₃
+      → WrittenAt o₃ c 1 (10 ∷ []) r o₄
+      → WrittenAt out 0 refusedBytes (refusedLine number line) r o₄
+  unfolding refusedLine
+  refused-pieces w₁ w₂ w₃ w₄ =
+      let p₁ : Pieces refused out o₁ 0 a = piece-first _ 7 refl (omega arith) w₁ in
+      let p₂ : Pieces (refused ++ printed numberWidth number) out o₂ 0 b =
+      piece-more _ numberWidth p₁ (printed-length numberWidth number) (omega (arith, w₁ .behind)) w₂ in
+      let p₃ : Pieces (refused ++ printed numberWidth number ++ printed placeWidth line) out o₃ 0 c =
+      piece-more _ placeWidth p₂ (printed-length placeWidth line) (omega (arith, w₁ .behind, w₂ .behind)) w₃ in
+      record {
+        behind = omega (arith, w₁ .behind, w₂ .behind, w₃ .behind, w₄ .behind);
+        holds = piece-more _ 1 p₃ refl (omega (arith, w₁ .behind, w₂ .behind, w₃ .behind)) w₄ .is;
+      }
 
 pub line-length : (start end span rows : ℕ) → length (listingLine start end span rows) ≡ entryBytes
 unfolding listingLine

@@ -7,7 +7,8 @@
 --   found-at       in a text of rows alone the reader finds each line in its place
 --   column-at column-length     a column's number at a row is that of the line found there; a column has as many as rows
 --   cell           the number that the loop writes
---   kept-from answer short enough     the reader's answer, by the code's cases
+--   Writing writing-none writing-row writing-more writing-all     through a loop that writes one row a turn
+--   reads-none reads-short reads-fit reads-all     the reader's answer, by the code's cases
 -- Assumes nothing.
 use Prim.Native.Nat.{ℕ, zero, suc, _+_, _*_, _≤_, _<_, min}
 use mathlib.Core.Path.{_≡_, refl, sym, ap, _∙_}
@@ -16,13 +17,14 @@ use mathlib.Core.Logic.{⊎-elim}
 use mathlib.Core.List.{List, [], _∷_, _++_, map}
 use native.Mathlib.Nat.{not-suc-le-zero, le-of-suc-le-suc}
 use native.Mathlib.Omega.{arith}
-use lib.ListN.{length, getD, take, drop, length-drop, length-map, List·getD-map}
+use lib.ListN.{length, getD, take, drop, set, length-drop, length-map, List·getD-map}
 use borrow.Author.Tests.{lt-leb, le-leb}
 use lib.Seq.{drop-cons, drop-length}
 use Rattle.text.specs.Layout.{tableLayout, lineBytes}
 use Rattle.text.specs.Decimal.{fieldValue}
 use Rattle.text.specs.Line.{linesOf, firstLine, isWhole, lineNumber, oneRefuses, judged, lineAs, stepAs, rowOf, stepAt, passed, stepFrom}
-use Rattle.text.specs.Table.{faultOr, judgedFrom, roomFor, tableReadOf}
+use Rattle.text.specs.Table.{dayOf, firstOf, secondOf, daysOf, firstsOf, secondsOf, faultOr, judgedFrom, roomFor, tableReadOf, filled}
+use Rattle.text.specs.Table.{Columns, columns, RowsFit, RowsWritten, TableReads}
 use Rattle.text.specs.declared.decimal.Field.{Field}
 use Rattle.text.specs.declared.lines.Line.{Line}
 use Rattle.text.specs.declared.lines.Line.the-variants as line
@@ -31,6 +33,7 @@ use Rattle.text.specs.declared.table.TableRead.{TableRead}
 use Rattle.text.specs.declared.table.TableRead.the-variants.{Rows, LineLength, Room}
 use Rattle.text.proofs.Tests.{look, pick-true, pick-false, zero-one, lt-or-le}
 use Rattle.text.proofs.LineLaws.{lines-first, next-start, step-none, step-short, step-from, whole-size, whole-fits, step-found, step-line}
+use Rattle.text.proofs.PasteLaws.{Pasting, pasting-none, pasting-on, pasting-all, pasted-start}
 
 -- ---- no line is the text's end
 
@@ -236,23 +239,104 @@ module _ (text : List ℕ) (c : ℕ) (so : judgedFrom 0 (linesOf text) ≡ Rows 
   pub column-length : (f : Line → ℕ) → length (map (λ (l : List ℕ). f (rowOf l)) (linesOf text)) ≡ c
   column-length f = length-map (linesOf text) (λ (l : List ℕ). f (rowOf l)) ∙ omega (arith, rows-count 0 c (linesOf text) so)
 
-pub cell : (text : List ℕ) (c : ℕ) → judgedFrom 0 (linesOf text) ≡ Rows c → (f : Line → ℕ) → f line.BadLength ≡ 0 → (i : ℕ) → i < c → {r : Line} {x : ℕ}
-    → r ≡ stepAt text i → x ≡ f r → x ≡ getD (map (λ (l : List ℕ). f (rowOf l)) (linesOf text)) i 0
+pub cell : (text : List ℕ) (c : ℕ) → judgedFrom 0 (linesOf text) ≡ Rows c → (f : Line → ℕ) → f line.BadLength ≡ 0 → (i : ℕ) → i < c
+    → {r : Line} {x : ℕ} → r ≡ stepAt text i → x ≡ f r → x ≡ getD (map (λ (l : List ℕ). f (rowOf l)) (linesOf text)) i 0
 cell text c so f z i h e q = q ∙ ap f e ∙ sym (column-at text c so f z i h)
 
--- what is kept behind the rows, counted as lines or as rows
-pub kept-from : (values old : List ℕ) {n m : ℕ} {now : List ℕ} → n ≡ m → now ≡ values ++ drop m old → now ≡ values ++ drop n old
-kept-from values old e h = h ∙ ap (λ (k : ℕ). values ++ drop k old) (sym e)
+-- ---- a text's rows, written into three columns row by row
+
+-- the first i rows stand in the columns
+pub record Writing (text : List ℕ) (old now : Columns) (i : ℕ) : Type 0 where
+  pub days-hold : Pasting (daysOf text) (old .days) (now .days) 0 (length (linesOf text)) i
+  pub first-hold : Pasting (firstsOf text) (old .first) (now .first) 0 (length (linesOf text)) i
+  pub second-hold : Pasting (secondsOf text) (old .second) (now .second) 0 (length (linesOf text)) i
+
+module _ {text : List ℕ} {old : Columns} (fit : RowsFit text old) where
+  pub writing-none : Writing text old old 0
+  unfolding daysOf firstsOf secondsOf
+  writing-none = record {
+    days-hold = pasting-none _ _ _ _ (column-length text _ (fit .rows) dayOf) (omega (arith, fit .days-fit));
+    first-hold = pasting-none _ _ _ _ (column-length text _ (fit .rows) firstOf) (omega (arith, fit .first-fit));
+    second-hold = pasting-none _ _ _ _ (column-length text _ (fit .rows) secondOf) (omega (arith, fit .second-fit));
+  }
+
+  -- the reader at line i has moved: there is a row
+  pub writing-row : {now : Columns} {i : ℕ} {s : Step} → Writing text old now i → s ≡ stepFrom text i → (s .line ≡ i → ⊥)
+      → i < length (linesOf text)
+  writing-row {i = i} w is moved = on-row text _ (fit .rows) i (w .days-hold .within) is moved
+
+  -- its numbers are stored, and it goes on
+  pub writing-more : {now : Columns} {i x y z : ℕ} {s : Step} → Writing text old now i → i < length (linesOf text) → s ≡ stepFrom text i
+      → x ≡ dayOf (s .found) → y ≡ firstOf (s .found) → z ≡ secondOf (s .found)
+      → Writing text old (columns (set (now .days) i x) (set (now .first) i y) (set (now .second) i z)) (s .line)
+  unfolding daysOf firstsOf secondsOf
+  writing-more {i = i} w row is p q r =
+      let found = step-found text i is in
+      let on = line-on text _ (fit .rows) i row is in
+      record {
+        days-hold = pasting-on _ _ on (w .days-hold) row (omega arith) (cell text _ (fit .rows) dayOf refl i row found p);
+        first-hold = pasting-on _ _ on (w .first-hold) row (omega arith) (cell text _ (fit .rows) firstOf refl i row found q);
+        second-hold = pasting-on _ _ on (w .second-hold) row (omega arith) (cell text _ (fit .rows) secondOf refl i row found r);
+      }
+
+  -- the reader has stayed: all rows stand
+  pub writing-all : {now : Columns} {i : ℕ} {s : Step} → Writing text old now i → s ≡ stepFrom text i → s .line ≡ i → RowsWritten text old now
+  writing-all {i = i} w is stayed =
+      let all = no-row-left text _ (fit .rows) i (w .days-hold .within) is stayed in
+      record {
+        days-hold = pasting-all (w .days-hold) all ∙ pasted-start _ _ _ (w .days-hold .size);
+        first-hold = pasting-all (w .first-hold) all ∙ pasted-start _ _ _ (w .first-hold .size);
+        second-hold = pasting-all (w .second-hold) all ∙ pasted-start _ _ _ (w .second-hold .size);
+      }
 
 -- ---- the reader's answer, by the code's cases
 
-module _ (text : List ℕ) (d f s : ℕ) {r : TableRead} (is : r ≡ judgedFrom 0 (linesOf text)) where
-  pub answer : {j : TableRead} → r ≡ j → roomFor (min d (min f s)) j ≡ tableReadOf text d f s
+-- what is kept behind the rows, counted as lines or as rows
+kept-from : (values old : List ℕ) {n m : ℕ} {now : List ℕ} → n ≡ m → now ≡ values ++ drop m old → now ≡ values ++ drop n old
+kept-from values old e h = h ∙ ap (λ (k : ℕ). values ++ drop k old) (sym e)
+
+module _ (text : List ℕ) (old : Columns) {r : TableRead} (is : r ≡ judgedFrom 0 (linesOf text)) where
+  -- the places of the shortest column
+  abbrev room : ℕ
+  room = min (length (old .days)) (min (length (old .first)) (length (old .second)))
+
+  answer : {j : TableRead} → r ≡ j → roomFor room j ≡ tableReadOf text (length (old .days)) (length (old .first)) (length (old .second))
   unfolding tableReadOf
-  answer e = ap (roomFor (min d (min f s))) (sym e ∙ is)
+  answer e = ap (roomFor room) (sym e ∙ is)
 
-  pub short : {n room : ℕ} → r ≡ Rows n → room ≡ min d (min f s) → room < n → Room ≡ tableReadOf text d f s
-  short {n} {room} e q h = sym (pick-false _ _ _ (lt-leb n (min d (min f s)) (rw (q) at h))) ∙ answer e
+  -- an answer that is no number of rows keeps the columns
+  pub reads-none : {j : TableRead} → r ≡ j → ((k : ℕ) → roomFor k j ≡ j) → ((values column : List ℕ) → column ≡ filled j values column)
+      → TableReads text old j old
+  reads-none e same keeps = record {
+    answers = sym (same room) ∙ answer e;
+    days-hold = keeps _ _;
+    first-hold = keeps _ _;
+    second-hold = keeps _ _;
+  }
 
-  pub enough : {n room : ℕ} → r ≡ Rows n → room ≡ min d (min f s) → n ≤ room → Rows n ≡ tableReadOf text d f s
-  enough {n} {room} e q h = sym (pick-true _ _ _ (le-leb n (min d (min f s)) (rw (q) at h))) ∙ answer e
+  module _ {n places : ℕ} (e : r ≡ Rows n) (q : places ≡ room) where
+    pub reads-short : places < n → TableReads text old Room old
+    reads-short h = record {
+      answers = sym (pick-false _ _ _ (lt-leb n room (rw q at h))) ∙ answer e;
+      days-hold = refl;
+      first-hold = refl;
+      second-hold = refl;
+    }
+
+    rows : judgedFrom 0 (linesOf text) ≡ Rows n
+    rows = sym is ∙ e
+
+    pub reads-fit : n ≤ places → RowsFit text old
+    reads-fit h =
+        let all : n ≡ length (linesOf text) = all-rows n (linesOf text) rows in
+        record { rows = rows ∙ ap Rows all; days-fit = omega arith; first-fit = omega arith; second-fit = omega arith }
+
+    pub reads-all : {new : Columns} → n ≤ places → RowsWritten text old new → TableReads text old (Rows n) new
+    reads-all h w =
+        let all : n ≡ length (linesOf text) = all-rows n (linesOf text) rows in
+        record {
+          answers = sym (pick-true _ _ _ (le-leb n room (rw q at h))) ∙ answer e;
+          days-hold = kept-from (daysOf text) (old .days) all (w .days-hold);
+          first-hold = kept-from (firstsOf text) (old .first) all (w .first-hold);
+          second-hold = kept-from (secondsOf text) (old .second) all (w .second-hold);
+        }

@@ -8,15 +8,19 @@
 --   value        the number that digits stand for, by place values
 --   numeralOf    what a field without its blanks holds, where numbers end at a limit
 --   fieldOf      what a field holds, where numbers end at a limit
+--   BlanksEnd    where the blanks before a field's number end
+--   FewDigits    digits, no more than a number of 16 bits has
 --   fieldNumber  01's refusal number of what a field holds
 --   refuses      a field has this refusal number
 --   fieldValue   the number that a field holds, 0 where it has none
 -- Assumes nothing.
-use Prim.Native.Nat.{ℕ, _+_, _-_, _*_, _^_}
+use Prim.Native.Nat.{ℕ, _+_, _-_, _*_, _^_, _≤_}
+use mathlib.Core.Path.{_≡_}
 use mathlib.Core.Bool.{Bool, true, not, cond, _&&_}
 use mathlib.Core.List.{List, [], _∷_}
 use lib.Dec.{leb, ltb, eqb}
-use lib.ListN.{length, getD}
+use lib.ListN.{length, getD, drop}
+use Rattle.text.specs.Layout.{mostDigits}
 use Rattle.text.specs.declared.decimal.Field.{Field}
 use Rattle.text.specs.declared.decimal.Field.the-variants.{Number, Large, Broken}
 
@@ -53,6 +57,15 @@ numeralOf limit ds = cond (isNumeral ds) (cond (leb (value ds) limit) (Number (v
 -- "right-justified, blanks (byte 32) before it": what stands behind the blanks is the number
 unfoldable pub fieldOf : ℕ → List ℕ → Field
 fieldOf limit f = numeralOf limit (unblank f)
+
+-- the first r bytes are blanks, and the number stands behind them
+pub record BlanksEnd (f : List ℕ) (r : ℕ) : Type 0 where
+  pub within : r ≤ length f
+  pub rest : drop r f ≡ unblank f
+
+pub record FewDigits (f : List ℕ) : Type 0 where
+  pub few : length f ≤ mostDigits
+  pub digits : allDigits f ≡ true
 
 -- "12: a broken field, an all-blank one included; 13: a number above 65,535"; 0 for none
 abbrev pub fieldNumber : Field → ℕ

@@ -1,6 +1,7 @@
 pub mod Layout
 pub mod Decimal
 pub mod Line
+pub mod Reader
 pub mod Table
 pub mod Print
 pub mod TextNumbers

@@ -7,6 +7,9 @@
 --   putOf        the answer of a call that writes these bytes
 --   fieldPut     the answer of a call that writes a number in a field
 --   written      what the buffer holds after that answer
+--   WrittenAt    some bytes are written from a position on
+--   Puts         the answer of a call that writes these bytes, and the buffer after it
+--   PutsField    the same for a number in a field
 --   putNumber putLength      01's refusal number of that answer, and the position behind the bytes
 --   header       the listing's first line
 --   listingLine  a line of the listing
@@ -18,6 +21,7 @@
 --   TableRow tableText   the rows of a table, and its text
 -- Assumes nothing.
 use Prim.Native.Nat.{ℕ, zero, suc, _+_, _/_, _%_, _^_}
+use mathlib.Core.Path.{_≡_}
 use mathlib.Core.Bool.{Bool, cond, _&&_}
 use mathlib.Core.List.{List, [], _∷_, _++_}
 use lib.Dec.{leb, ltb}
@@ -56,6 +60,19 @@ fieldPut out at width n = cond (fits width n) (putOf out at (printed width n)) N
 abbrev pub written : Put → List ℕ → ℕ → List ℕ → List ℕ
 written (Wrote next) out at bytes = pasted out at bytes
 written NoRoom out at bytes = out
+
+-- `size` bytes from `at` on, and `next` is the position behind them
+pub record WrittenAt (out : List ℕ) (at size : ℕ) (bytes : List ℕ) (next : ℕ) (now : List ℕ) : Type 0 where
+  pub behind : next ≡ at + size
+  pub holds : now ≡ pasted out at bytes
+
+pub record Puts (out : List ℕ) (at : ℕ) (bytes : List ℕ) (answer : Put) (now : List ℕ) : Type 0 where
+  pub answers : answer ≡ putOf out at bytes
+  pub holds : now ≡ written answer out at bytes
+
+pub record PutsField (out : List ℕ) (at width n : ℕ) (answer : Put) (now : List ℕ) : Type 0 where
+  pub answers : answer ≡ fieldPut out at width n
+  pub holds : now ≡ written answer out at (printed width n)
 
 -- "output too short is 10"
 abbrev pub putNumber : Put → ℕ

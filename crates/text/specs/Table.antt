@@ -7,13 +7,18 @@
 --   roomFor      10 where the lines are more than the places
 --   tableReadOf  the reader's answer
 --   filled       what a column holds afterwards
+--   Columns columns               three columns
+--   RowsFit      a text of rows alone, and columns with a place for each row
+--   RowsWritten  its rows are written into them
+--   TableReads   the reader's answer, and the columns afterwards
 --   number place count            01's refusal number, its place, and the rows read, of each answer
 -- Assumes nothing.
-use Prim.Native.Nat.{ℕ, _+_, min}
+use Prim.Native.Nat.{ℕ, _+_, _≤_, min}
+use mathlib.Core.Path.{_≡_}
 use mathlib.Core.Bool.{cond}
 use mathlib.Core.List.{List, [], _∷_, _++_, map}
 use lib.Dec.{leb}
-use lib.ListN.{drop}
+use lib.ListN.{length, drop}
 use Rattle.text.specs.Line.{linesOf, rowOf, lineNumber}
 use Rattle.text.specs.Print.{putNumber}
 use Rattle.text.specs.declared.lines.Line.{Line}
@@ -86,6 +91,32 @@ filled (LineLength n) values column = column
 filled (BrokenField n) values column = column
 filled (LargeNumber n) values column = column
 filled Room values column = column
+
+-- "three columns"
+pub record Columns : Type 0 where
+  pub days : List ℕ
+  pub first : List ℕ
+  pub second : List ℕ
+
+abbrev pub columns : List ℕ → List ℕ → List ℕ → Columns
+columns days first second = record { days = days; first = first; second = second }
+
+pub record RowsFit (text : List ℕ) (c : Columns) : Type 0 where
+  pub rows : judgedFrom 0 (linesOf text) ≡ Rows (length (linesOf text))
+  pub days-fit : length (linesOf text) ≤ length (c .days)
+  pub first-fit : length (linesOf text) ≤ length (c .first)
+  pub second-fit : length (linesOf text) ≤ length (c .second)
+
+pub record RowsWritten (text : List ℕ) (old new : Columns) : Type 0 where
+  pub days-hold : new .days ≡ daysOf text ++ drop (length (linesOf text)) (old .days)
+  pub first-hold : new .first ≡ firstsOf text ++ drop (length (linesOf text)) (old .first)
+  pub second-hold : new .second ≡ secondsOf text ++ drop (length (linesOf text)) (old .second)
+
+pub record TableReads (text : List ℕ) (old : Columns) (answer : TableRead) (new : Columns) : Type 0 where
+  pub answers : answer ≡ tableReadOf text (length (old .days)) (length (old .first)) (length (old .second))
+  pub days-hold : new .days ≡ filled answer (daysOf text) (old .days)
+  pub first-hold : new .first ≡ filled answer (firstsOf text) (old .first)
+  pub second-hold : new .second ≡ filled answer (secondsOf text) (old .second)
 
 -- "A refusal is a number and a place"; 0 for none. 11, 12 and 13 are the faulty line's own; 10 is that of every call with too little room
 abbrev pub number : TableRead → ℕ

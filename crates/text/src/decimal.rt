@@ -1,10 +1,8 @@
 // Fixed decimal fields, and the place values that reading and printing share.
 ghost use mathlib.Core.Path.{_≡_};
-ghost use mathlib.Core.Bool.{true};
-ghost use Prim.Native.Nat.{_≤_, _<_, _^_};
-ghost use lib.ListN.{length, drop};
+ghost use Prim.Native.Nat.{_<_, _^_};
 ghost use Rattle.text.specs.Layout.{mostDigits};
-ghost use Rattle.text.specs.Decimal.{unblank, allDigits, isNumeral, value, fieldOf};
+ghost use Rattle.text.specs.Decimal.{allDigits, isNumeral, value, fieldOf, BlanksEnd, FewDigits};
 use crate::layout::MOST_DIGITS;
 
 // Place values: entry k is 10 ^ k.
@@ -27,7 +25,7 @@ pub(crate) fn place(k: usize) -> u64
 
 // Where the blanks before a field's number end.
 fn blanks(f: &[u8]) -> usize
-    ensures { λ r. ⌜ (r ≤ length (now (f .entry))) × (drop r (now (f .entry)) ≡ unblank (now (f .entry))) ⌝ }
+    ensures { λ r. ⌜ BlanksEnd (now (f .entry)) r ⌝ }
 {
     let mut i: usize = 0;
     while i < f.len() {
@@ -73,7 +71,7 @@ fn is_numeral(f: &[u8]) -> bool
 
 // The sum of the digits, each times its place value.
 fn value_of(f: &[u8]) -> u64
-    requires { ⌜ (length (now f) ≤ mostDigits) × (allDigits (now f) ≡ true) ⌝ }
+    requires { ⌜ FewDigits (now f) ⌝ }
     ensures { λ r. ⌜ r ≡ value (now (f .entry)) ⌝ }
 {
     let mut sum: u64 = 0;

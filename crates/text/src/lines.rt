@@ -4,7 +4,7 @@ ghost use Prim.Native.Nat.{_+_, _≤_, _<_, _^_};
 ghost use lib.ListN.{length};
 ghost use Rattle.text.specs.Layout.{bytesOf};
 ghost use Rattle.text.specs.Decimal.{fieldNumber, refuses, fieldValue};
-ghost use Rattle.text.specs.Line.{linesOf, firstLine, isWhole, judged, fieldAt, stepAs, stepAt, passed, stepFrom, queryOf};
+ghost use Rattle.text.specs.Line.{linesOf, firstLine, isWhole, oneRefuses, judged, fieldAt, stepAs, stepAt, passed, stepFrom, queryOf};
 use crate::decimal::Field;
 use crate::decimal::read_field;
 use crate::layout::Format;
@@ -66,26 +66,38 @@ fn number_of(f: Field) -> u16
     }
 }
 
+fn one_broken(x: Field, y: Field, z: Field) -> bool
+    ensures { λ r. ⌜ r ≡ oneRefuses (fieldNumber Field.Broken) x y z ⌝ }
+{
+    if is_broken(x) {
+        return true;
+    }
+    if is_broken(y) {
+        return true;
+    }
+    is_broken(z)
+}
+
+fn one_large(x: Field, y: Field, z: Field) -> bool
+    ensures { λ r. ⌜ r ≡ oneRefuses (fieldNumber Field.Large) x y z ⌝ }
+{
+    if is_large(x) {
+        return true;
+    }
+    if is_large(y) {
+        return true;
+    }
+    is_large(z)
+}
+
 // A broken field in the line comes before a large one.
 fn judge(x: Field, y: Field, z: Field) -> Line
     ensures { λ r. ⌜ r ≡ judged x y z ⌝ }
 {
-    if is_broken(x) {
+    if one_broken(x, y, z) {
         return Line::BadField;
     }
-    if is_broken(y) {
-        return Line::BadField;
-    }
-    if is_broken(z) {
-        return Line::BadField;
-    }
-    if is_large(x) {
-        return Line::LargeNumber;
-    }
-    if is_large(y) {
-        return Line::LargeNumber;
-    }
-    if is_large(z) {
+    if one_large(x, y, z) {
         return Line::LargeNumber;
     }
     Line::Row(number_of(x), number_of(y), number_of(z))

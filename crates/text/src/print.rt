@@ -4,7 +4,7 @@ ghost use Prim.Native.Nat.{_+_, _≤_};
 ghost use lib.ListN.{length};
 ghost use lib.Dec.{leb};
 ghost use Rattle.text.specs.Layout.{entryBytes, refusedBytes};
-ghost use Rattle.text.specs.Print.{columnOf, printed, fits, pasted, putOf, fieldPut, written, header, listingLine, refusedLine};
+ghost use Rattle.text.specs.Print.{columnOf, printed, fits, header, listingLine, refusedLine, WrittenAt, Puts, PutsField};
 use crate::decimal::place;
 use crate::layout::DAY_WIDTH;
 use crate::layout::ENTRY_BYTES;
@@ -63,7 +63,7 @@ fn has_room(len: usize, at: usize, size: usize) -> bool
 
 fn write_bytes(out: &mut [u8], at: usize, bytes: &[u8]) -> usize
     requires { ⌜ at + length (now bytes) ≤ length (now out) ⌝ }
-    ensures { λ r. ⌜ (r ≡ at + length (now (bytes .entry))) × (now (out .exit) ≡ pasted (now (out .entry)) at (now (bytes .entry))) ⌝ }
+    ensures { λ r. ⌜ WrittenAt (now (out .entry)) at (length (now (bytes .entry))) (now (bytes .entry)) r (now (out .exit)) ⌝ }
 {
     let mut j: usize = 0;
     while j < bytes.len() {
@@ -75,7 +75,7 @@ fn write_bytes(out: &mut [u8], at: usize, bytes: &[u8]) -> usize
 
 fn write_field(out: &mut [u8], at: usize, width: usize, n: u16) -> usize
     requires { ⌜ at + width ≤ length (now out) ⌝ }
-    ensures { λ r. ⌜ (r ≡ at + width) × (now (out .exit) ≡ pasted (now (out .entry)) at (printed width n)) ⌝ }
+    ensures { λ r. ⌜ WrittenAt (now (out .entry)) at width (printed width n) r (now (out .exit)) ⌝ }
 {
     let mut j: usize = 0;
     while j < width {
@@ -87,7 +87,7 @@ fn write_field(out: &mut [u8], at: usize, width: usize, n: u16) -> usize
 
 fn write_line(out: &mut [u8], at: usize, start: u16, end: u16, span: u16, rows: u16) -> usize
     requires { ⌜ at + entryBytes ≤ length (now out) ⌝ }
-    ensures { λ r. ⌜ (r ≡ at + entryBytes) × (now (out .exit) ≡ pasted (now (out .entry)) at (listingLine start end span rows)) ⌝ }
+    ensures { λ r. ⌜ WrittenAt (now (out .entry)) at entryBytes (listingLine start end span rows) r (now (out .exit)) ⌝ }
 {
     let a = write_field(out, at, DAY_WIDTH, start);
     let b = write_field(out, a, DAY_WIDTH, end);
@@ -98,7 +98,7 @@ fn write_line(out: &mut [u8], at: usize, start: u16, end: u16, span: u16, rows: 
 
 fn write_refused(out: &mut [u8], number: u16, line: u16) -> usize
     requires { ⌜ refusedBytes ≤ length (now out) ⌝ }
-    ensures { λ r. ⌜ (r ≡ refusedBytes) × (now (out .exit) ≡ pasted (now (out .entry)) 0 (refusedLine number line)) ⌝ }
+    ensures { λ r. ⌜ WrittenAt (now (out .entry)) 0 refusedBytes (refusedLine number line) r (now (out .exit)) ⌝ }
 {
     let a = write_bytes(out, 0, b"refused");
     let b = write_field(out, a, NUMBER_WIDTH, number);
@@ -108,8 +108,7 @@ fn write_refused(out: &mut [u8], number: u16, line: u16) -> usize
 
 // A number, right-justified in `width` columns.
 pub fn put_field(out: &mut [u8], at: usize, width: usize, n: u16) -> Put
-    ensures { λ r. ⌜ r ≡ fieldPut (now (out .entry)) at width n ⌝ }
-    ensures { λ r. ⌜ now (out .exit) ≡ written r (now (out .entry)) at (printed width n) ⌝ }
+    ensures { λ r. ⌜ PutsField (now (out .entry)) at width n r (now (out .exit)) ⌝ }
 {
     if !fits_in(width, n) {
         return Put::NoRoom;
@@ -123,8 +122,7 @@ pub fn put_field(out: &mut [u8], at: usize, width: usize, n: u16) -> Put
 
 // The listing's first line, at the start.
 pub fn put_header(out: &mut [u8]) -> Put
-    ensures { λ r. ⌜ r ≡ putOf (now (out .entry)) 0 header ⌝ }
-    ensures { λ r. ⌜ now (out .exit) ≡ written r (now (out .entry)) 0 header ⌝ }
+    ensures { λ r. ⌜ Puts (now (out .entry)) 0 header r (now (out .exit)) ⌝ }
 {
     if !has_room(out.len(), 0, ENTRY_BYTES) {
         return Put::NoRoom;
@@ -135,8 +133,7 @@ pub fn put_header(out: &mut [u8]) -> Put
 
 // A line of the listing.
 pub fn put_line(out: &mut [u8], at: usize, start: u16, end: u16, span: u16, rows: u16) -> Put
-    ensures { λ r. ⌜ r ≡ putOf (now (out .entry)) at (listingLine start end span rows) ⌝ }
-    ensures { λ r. ⌜ now (out .exit) ≡ written r (now (out .entry)) at (listingLine start end span rows) ⌝ }
+    ensures { λ r. ⌜ Puts (now (out .entry)) at (listingLine start end span rows) r (now (out .exit)) ⌝ }
 {
     if !has_room(out.len(), at, ENTRY_BYTES) {
         return Put::NoRoom;
@@ -147,8 +144,7 @@ pub fn put_line(out: &mut [u8], at: usize, start: u16, end: u16, span: u16, rows
 
 // The line of a refusal, at the start.
 pub fn put_refused(out: &mut [u8], number: u16, line: u16) -> Put
-    ensures { λ r. ⌜ r ≡ putOf (now (out .entry)) 0 (refusedLine number line) ⌝ }
-    ensures { λ r. ⌜ now (out .exit) ≡ written r (now (out .entry)) 0 (refusedLine number line) ⌝ }
+    ensures { λ r. ⌜ Puts (now (out .entry)) 0 (refusedLine number line) r (now (out .exit)) ⌝ }
 {
     if !has_room(out.len(), 0, REFUSED_BYTES) {
         return Put::NoRoom;

@@ -1,8 +1,8 @@
 // The line reader: a thin struct that keeps the text and the line reached, and steps line by line. The borrow checker covers no function over such a
 // struct, so these are proved by hand. They leave the work to `step_from`, and `read_line`, whose parameters are plain, serves every loop.
 ghost use mathlib.Core.Path.{_≡_};
-ghost use Prim.Native.Nat.{_+_};
-ghost use Rattle.text.specs.Line.{stepAt, passed, stepFrom};
+ghost use Rattle.text.specs.Line.{stepFrom};
+ghost use Rattle.text.specs.Reader.{ReaderAt, Stepped};
 use crate::lines::Line;
 use crate::lines::Step;
 use crate::lines::step_from;
@@ -14,7 +14,7 @@ pub struct LineReader<'a> {
 
 // A reader at a line of a text; the first is line 0.
 pub fn at<'a>(text: &'a [u8], line: usize) -> LineReader<'a>
-    ensures { λ r. ⌜ (r .text ≡ text .entry) × (r .line ≡ line) ⌝ }
+    ensures { λ r. ⌜ ReaderAt r (text .entry) line ⌝ }
 {
     LineReader { text, line }
 }
@@ -22,10 +22,7 @@ pub fn at<'a>(text: &'a [u8], line: usize) -> LineReader<'a>
 // One step: it gives what stands at the line reached, and the reader goes on to the next one where that is a row. At the text's end and at a faulty
 // line it stays.
 pub fn step<'s, 'a>(r: &'s mut LineReader<'a>) -> Line
-    ensures { λ l. ⌜
-        (l ≡ stepAt (now (now (r .entry) .text)) (now (r .entry) .line))
-        × (now (r .exit) .text ≡ now (r .entry) .text)
-        × (now (r .exit) .line ≡ now (r .entry) .line + passed l) ⌝ }
+    ensures { λ l. ⌜ Stepped (now (r .entry)) (now (r .exit)) l ⌝ }
 {
     let s = step_from(r.text, r.line);
     r.line = s.line;

@@ -1,10 +1,8 @@
 // The table reader: one pass that judges every line, and a second that writes the columns, so that a refusal leaves them as they were.
 ghost use mathlib.Core.Path.{_≡_};
-ghost use Prim.Native.Nat.{_+_, _≤_, _<_, _^_, min};
-ghost use lib.ListN.{length, drop};
-ghost use mathlib.Core.List.{_++_};
+ghost use Prim.Native.Nat.{_+_, _<_, _^_, min};
 ghost use Rattle.text.specs.Line.{linesOf};
-ghost use Rattle.text.specs.Table.{dayOf, firstOf, secondOf, daysOf, firstsOf, secondsOf, faultOr, judgedFrom, tableReadOf, filled};
+ghost use Rattle.text.specs.Table.{dayOf, firstOf, secondOf, faultOr, judgedFrom, columns, RowsFit, RowsWritten, TableReads};
 use crate::lines::Line;
 use crate::reader::read_line;
 
@@ -85,14 +83,11 @@ fn check_lines(text: &[u8]) -> TableRead
 
 // The rows of a text whose every line is a row, into columns that have a place for each.
 fn write_rows(text: &[u8], days: &mut [u16], first: &mut [u16], second: &mut [u16])
-    requires { ⌜ judgedFrom 0 (linesOf (now text)) ≡ TableRead.Rows (length (linesOf (now text))) ⌝ }
-    requires { ⌜
-        (length (linesOf (now text)) ≤ length (now days))
-        × (length (linesOf (now text)) ≤ length (now first))
-        × (length (linesOf (now text)) ≤ length (now second)) ⌝ }
-    ensures { λ _. ⌜ now (days .exit) ≡ daysOf (now (text .entry)) ++ drop (length (linesOf (now (text .entry)))) (now (days .entry)) ⌝ }
-    ensures { λ _. ⌜ now (first .exit) ≡ firstsOf (now (text .entry)) ++ drop (length (linesOf (now (text .entry)))) (now (first .entry)) ⌝ }
-    ensures { λ _. ⌜ now (second .exit) ≡ secondsOf (now (text .entry)) ++ drop (length (linesOf (now (text .entry)))) (now (second .entry)) ⌝ }
+    requires { ⌜ RowsFit (now text) (columns (now days) (now first) (now second)) ⌝ }
+    ensures { λ _.
+        let old = columns (now (days .entry)) (now (first .entry)) (now (second .entry)) in
+        let new = columns (now (days .exit)) (now (first .exit)) (now (second .exit)) in
+        ⌜ RowsWritten (now (text .entry)) old new ⌝ }
 {
     let mut i: usize = 0;
     loop {
@@ -125,10 +120,10 @@ fn least(a: usize, b: usize, c: usize) -> usize
 
 // Reads a table's text into three columns, all of it or nothing.
 pub fn read_table(text: &[u8], days: &mut [u16], first: &mut [u16], second: &mut [u16]) -> TableRead
-    ensures { λ r. ⌜ r ≡ tableReadOf (now (text .entry)) (length (now (days .entry))) (length (now (first .entry))) (length (now (second .entry))) ⌝ }
-    ensures { λ r. ⌜ now (days .exit) ≡ filled r (daysOf (now (text .entry))) (now (days .entry)) ⌝ }
-    ensures { λ r. ⌜ now (first .exit) ≡ filled r (firstsOf (now (text .entry))) (now (first .entry)) ⌝ }
-    ensures { λ r. ⌜ now (second .exit) ≡ filled r (secondsOf (now (text .entry))) (now (second .entry)) ⌝ }
+    ensures { λ r.
+        let old = columns (now (days .entry)) (now (first .entry)) (now (second .entry)) in
+        let new = columns (now (days .exit)) (now (first .exit)) (now (second .exit)) in
+        ⌜ TableReads (now (text .entry)) old r new ⌝ }
 {
     let judged = check_lines(text);
     match judged {

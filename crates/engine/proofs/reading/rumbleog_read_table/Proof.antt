@@ -26,8 +26,8 @@ returns c =
     let read-table = c .before .before .before .before .before .before .before .read-table in
     let args = c .before .before .before .before .before .before .before .before .before .before .before .before .before .before .before .args in
     read-told (daysOf (args .text .now)) (firstsOf (args .text .now)) (secondsOf (args .text .now)) (args .days .now)
-    (args .first .now) (args .second .now) (read-table .ensures .0) (read-table .ensures .1 .0)
-    (read-table .ensures .1 .1 .0) (read-table .ensures .1 .1 .1) (c .of-read .ensures)
+    (args .first .now) (args .second .now) (read-table .ensures .answers) (read-table .ensures .days-hold)
+    (read-table .ensures .first-hold) (read-table .ensures .second-hold) (c .of-read .ensures)
 
 pub rumbleog-read-table-spec : {M : Type 1} → statement M
 rumbleog-read-table-spec =

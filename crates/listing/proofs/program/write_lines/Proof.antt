@@ -98,7 +98,7 @@ loop-again c =
     let put-line = put-line′ in (
       omega (arith, loop-test .taken),
       print-next (a .starts .now) (a .ends .now) (a .rows .now) (loop .inv .1) (loop-test .taken) (pre .1)
-          (put-line .ensures .0) (put-line .ensures .1),
+          (put-line .ensures .answers) (put-line .ensures .holds),
     )
 
 same-length : tie.Need-same-length Inv-loop μ-loop

@@ -35,7 +35,7 @@ returns-2 c =
     let if1 = if1′ in
     let put-header = put-header′ in
     text-done (a .starts .now) (a .ends .now) (a .rows .now) (a .output .now) (a .count) (if1 .left)
-    (put-header .ensures .0) (put-header .ensures .1) (write-lines .ensures)
+    (put-header .ensures .answers) (put-header .ensures .holds) (write-lines .ensures)
 
 pub write-listing-spec : {M : Type 1} → statement M
 write-listing-spec =

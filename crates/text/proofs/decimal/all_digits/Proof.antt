@@ -23,18 +23,20 @@ shared-slice-read-if1 c = omega arith
 
 returns : tie.Need-returns Inv-loop μ-loop
 returns c =
-    let loop = c .before .before .before .loop in
-    let args = c .before .before .before .before .args in
-    let a = args in let l = loop in sym (digits-low (a .f .now) (l .i) (omega arith) (c .if1 .taken)) ∙ l .inv .1
+    let at-loop = c .before .before .before in
+    let f = at-loop .before .args .f .now in
+    let l = at-loop .loop in
+    sym (digits-low f (l .i) (omega arith) (c .if1 .taken)) ∙ l .inv .1
 
 shared-slice-read-if2 : tie.Need-shared-slice-read-if2 Inv-loop μ-loop
 shared-slice-read-if2 c = omega arith
 
 returns-2 : tie.Need-returns-2 Inv-loop μ-loop
 returns-2 c =
-    let loop = c .before .before .before .before .before .loop in
-    let args = c .before .before .before .before .before .before .args in
-    let a = args in let l = loop in sym (digits-high (a .f .now) (l .i) (omega arith) (c .if2 .taken)) ∙ l .inv .1
+    let at-loop = c .before .before .before .before .before in
+    let f = at-loop .before .args .f .now in
+    let l = at-loop .loop in
+    sym (digits-high f (l .i) (omega arith) (c .if2 .taken)) ∙ l .inv .1
 
 add-i : tie.Need-add-i Inv-loop μ-loop
 add-i c = omega arith
@@ -44,19 +46,17 @@ loop-less c = omega arith
 
 loop-again : tie.Need-loop-again Inv-loop μ-loop
 loop-again c =
-    let if1′ = c .before .before .if1 in
-    let loop = c .before .before .before .before .before .loop in
-    let args = c .before .before .before .before .before .before .args in
-    let a = args in
-    let l = loop in
-    let if1 = if1′ in
-    (omega arith, sym (digits-next (a .f .now) (l .i) (omega arith) (if1 .left) (c .if2 .left)) ∙ l .inv .1)
+    let not-low = c .before .before in
+    let at-loop = not-low .before .before .before in
+    let f = at-loop .before .args .f .now in
+    let l = at-loop .loop in
+    (omega arith, sym (digits-next f (l .i) (omega arith) (not-low .if1 .left) (c .if2 .left)) ∙ l .inv .1)
 
 returns-3 : tie.Need-returns-3 Inv-loop μ-loop
 returns-3 c =
-    let loop = c .before .loop in
-    let args = c .before .before .args in
-    sym (digits-end (args .f .now) (loop .i) (omega arith)) ∙ loop .inv .1
+    let at-loop = c .before in
+    let l = at-loop .loop in
+    sym (digits-end (at-loop .before .args .f .now) (l .i) (omega arith)) ∙ l .inv .1
 
 pub all-digits-spec : {M : Type 1} → statement M
 all-digits-spec =

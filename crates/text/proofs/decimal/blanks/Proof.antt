@@ -23,10 +23,10 @@ shared-slice-read-if1 c = omega arith
 
 returns : tie.Need-returns Inv-loop μ-loop
 returns c =
-    let loop = c .before .before .before .loop in
-    let args = c .before .before .before .before .args in
-    let a = args in
-    let l = loop in (omega arith, unblank-no (a .f .now) (l .i) (omega arith) (c .if1 .taken) ∙ l .inv .1)
+    let at-loop = c .before .before .before in
+    let f = at-loop .before .args .f .now in
+    let l = at-loop .loop in
+    record { within = omega arith; rest = unblank-no f (l .i) (omega arith) (c .if1 .taken) ∙ l .inv .1 }
 
 add-i : tie.Need-add-i Inv-loop μ-loop
 add-i c = omega arith
@@ -36,16 +36,16 @@ loop-less c = omega arith
 
 loop-again : tie.Need-loop-again Inv-loop μ-loop
 loop-again c =
-    let loop = c .before .before .before .loop in
-    let args = c .before .before .before .before .args in
-    let a = args in
-    let l = loop in (omega arith, sym (unblank-yes (a .f .now) (l .i) (omega arith) (c .if1 .left)) ∙ l .inv .1)
+    let at-loop = c .before .before .before in
+    let f = at-loop .before .args .f .now in
+    let l = at-loop .loop in
+    (omega arith, sym (unblank-yes f (l .i) (omega arith) (c .if1 .left)) ∙ l .inv .1)
 
 returns-2 : tie.Need-returns-2 Inv-loop μ-loop
 returns-2 c =
-    let loop = c .before .loop in
-    let args = c .before .before .args in
-    (omega arith, unblank-end (args .f .now) (loop .i) (omega arith) ∙ loop .inv .1)
+    let at-loop = c .before in
+    let l = at-loop .loop in
+    record { within = omega arith; rest = unblank-end (at-loop .before .args .f .now) (l .i) (omega arith) ∙ l .inv .1 }
 
 pub blanks-spec : {M : Type 1} → statement M
 blanks-spec =

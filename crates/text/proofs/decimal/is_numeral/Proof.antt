@@ -9,34 +9,32 @@ use Rattle.text.proofs.decimal.is_numeral.Tie as tie
 
 returns : tie.Need-returns
 returns c =
-    let args = c .before .before .args in
-    sym (numeral-none (args .f .now) (c .if1 .taken))
+    sym (numeral-none (c .before .before .args .f .now) (c .if1 .taken))
 
 all-digits-requires : tie.Need-all-digits-requires
 all-digits-requires c κs = tt
 
 returns-2 : tie.Need-returns-2
 returns-2 c =
-    let if2 = c .before .if2 in
-    let args = c .before .before .before .before .args in
-    c .all-digits .ensures ∙ sym (numeral-one (args .f .now) (if2 .taken))
+    let one = c .before in
+    c .all-digits .ensures ∙ sym (numeral-one (one .before .before .before .args .f .now) (one .if2 .taken))
 
 shared-slice-read-if3 : tie.Need-shared-slice-read-if3
 shared-slice-read-if3 c = search needs
 
 returns-3 : tie.Need-returns-3
 returns-3 c =
-    let args = c .before .before .before .before .before .args in
-    sym (numeral-zero (args .f .now) (omega arith) (c .if3 .taken))
+    let a = c .before .before .before .before .before .args in
+    sym (numeral-zero (a .f .now) (omega arith) (c .if3 .taken))
 
 all-digits-requires-2 : tie.Need-all-digits-requires-2
 all-digits-requires-2 c κs = tt
 
 returns-4 : tie.Need-returns-4
 returns-4 c =
-    let if3 = c .before .if3 in
-    let args = c .before .before .before .before .before .before .args in
-    c .all-digits2 .ensures ∙ sym (numeral-more (args .f .now) (omega arith) (if3 .left))
+    let no-zero = c .before in
+    let a = no-zero .before .before .before .before .before .args in
+    c .all-digits2 .ensures ∙ sym (numeral-more (a .f .now) (omega arith) (no-zero .if3 .left))
 
 pub is-numeral-spec : {M : Type 1} → statement M
 is-numeral-spec =

@@ -29,7 +29,7 @@ returns c =
     let skipped = tested .before .before in
     let a = skipped .before .before .args in
     let blanks = skipped .blanks in
-    tail-broken (a .limit) (a .f .now) (blanks .result) (blanks .ensures .1)
+    tail-broken (a .limit) (a .f .now) (blanks .result) (blanks .ensures .rest)
     (negated-true (tested .is-numeral .ensures) (c .if1 .taken))
 
 returns-2 : tie.Need-returns-2
@@ -39,14 +39,15 @@ returns-2 c =
     let skipped = tested .before .before in
     let a = skipped .before .before .args in
     let blanks = skipped .blanks in
-    tail-large (a .limit) (a .f .now) (blanks .result) (blanks .ensures .1) mostDigits
+    tail-large (a .limit) (a .f .now) (blanks .result) (blanks .ensures .rest) mostDigits
     (negated-false (tested .is-numeral .ensures) (numeral .if1 .left)) (lit< tt) (c .if2 .taken) (omega arith)
 
 value-of-requires : tie.Need-value-of-requires
 value-of-requires c κs =
     let numeral = c .before in
     let tested = numeral .before in
-    (c .if2 .left, numeral-digits _ (negated-false (tested .is-numeral .ensures) (numeral .if1 .left)))
+    let digits = numeral-digits _ (negated-false (tested .is-numeral .ensures) (numeral .if1 .left)) in
+    record { few = c .if2 .left; digits = digits }
 
 returns-3 : tie.Need-returns-3
 returns-3 c =
@@ -56,7 +57,7 @@ returns-3 c =
     let skipped = tested .before .before in
     let a = skipped .before .before .args in
     let blanks = skipped .blanks in
-    tail-high (a .limit) (a .f .now) (blanks .result) (blanks .ensures .1)
+    tail-high (a .limit) (a .f .now) (blanks .result) (blanks .ensures .rest)
     (negated-false (tested .is-numeral .ensures) (numeral .if1 .left)) (valued .value-of .ensures) (c .if3 .taken)
 
 cast-t12 : tie.Need-cast-t12
@@ -70,7 +71,7 @@ returns-4 c =
     let skipped = tested .before .before in
     let a = skipped .before .before .args in
     let blanks = skipped .blanks in
-    tail-number (a .limit) (a .f .now) (blanks .result) (blanks .ensures .1)
+    tail-number (a .limit) (a .f .now) (blanks .result) (blanks .ensures .rest)
     (negated-false (tested .is-numeral .ensures) (numeral .if1 .left)) (valued .value-of .ensures) (c .if3 .left)
 
 pub read-field-spec : {M : Type 1} → statement M

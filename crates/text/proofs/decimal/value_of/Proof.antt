@@ -5,7 +5,7 @@ use mathlib.Core.Path.{_≡_}
 use native.Mathlib.Omega.{arith}
 use lib.ListN.{length, drop}
 use Rattle.text.specs.Decimal.{value}
-use Rattle.text.proofs.FieldLaws.{digit-at, value-next, value-sum, value-end}
+use Rattle.text.proofs.FieldLaws.{digit-at, value-few, value-next, value-end}
 use Rattle.text.proofs.decimal.value_of.Statement.{statement}
 use Rattle.text.proofs.decimal.value_of.Tie as tie
 
@@ -22,16 +22,13 @@ shared-slice-read-digit : tie.Need-shared-slice-read-digit Inv-loop μ-loop
 shared-slice-read-digit c = omega arith
 
 cast-digit : tie.Need-cast-digit Inv-loop μ-loop
-cast-digit c =
-    let loop = c .before .before .loop in
-    omega (arith, c .shared-slice-known2 .given (loop .i))
+cast-digit c = omega (arith, c .shared-slice-known2 .given (c .before .before .loop .i))
 
 sub-digit : tie.Need-sub-digit Inv-loop μ-loop
 sub-digit c =
-    let loop = c .before .before .loop in
-    let args = c .before .before .before .before .args in
-    let pre = c .before .before .before .before .pre in
-    digit-at (args .f .now) (loop .i) (pre .1) (omega arith) .0
+    let at-loop = c .before .before in
+    let start = at-loop .before .before in
+    digit-at (start .args .f .now) (at-loop .loop .i) (start .pre .digits) (omega arith) .0
 
 sub-place : tie.Need-sub-place Inv-loop μ-loop
 sub-place c = omega arith
@@ -44,33 +41,19 @@ place-requires c κs = omega arith
 
 mul-sum : tie.Need-mul-sum Inv-loop μ-loop
 mul-sum c =
-    let loop = c .before .before .before .loop in
-    let args = c .before .before .before .before .before .args in
-    let pre′ = c .before .before .before .before .before .pre in
-    let a = args in
-    let pre = pre′ in
-    let l = loop in
-    let place = c .place in
-    omega (
-      arith,
-      value-sum (a .f .now) (l .i) (place .result) (l .sum) (omega arith) (place .ensures) (pre .1) (pre .0)
-          (l .inv .1),
-    )
+    let at-loop = c .before .before .before in
+    let start = at-loop .before .before in
+    let l = at-loop .loop in
+    let next = value-next (start .args .f .now) (l .i) (c .place .result) (omega arith) (c .place .ensures) in
+    omega (arith, value-few (start .pre), next)
 
 add-sum : tie.Need-add-sum Inv-loop μ-loop
 add-sum c =
-    let loop = c .before .before .before .loop in
-    let args = c .before .before .before .before .before .args in
-    let pre′ = c .before .before .before .before .before .pre in
-    let a = args in
-    let pre = pre′ in
-    let l = loop in
-    let place = c .place in
-    omega (
-      arith,
-      value-sum (a .f .now) (l .i) (place .result) (l .sum) (omega arith) (place .ensures) (pre .1) (pre .0)
-          (l .inv .1),
-    )
+    let at-loop = c .before .before .before in
+    let start = at-loop .before .before in
+    let l = at-loop .loop in
+    let next = value-next (start .args .f .now) (l .i) (c .place .result) (omega arith) (c .place .ensures) in
+    omega (arith, value-few (start .pre), next)
 
 add-i : tie.Need-add-i Inv-loop μ-loop
 add-i c = omega arith
@@ -80,18 +63,15 @@ loop-less c = omega arith
 
 loop-again : tie.Need-loop-again Inv-loop μ-loop
 loop-again c =
-    let loop = c .before .before .before .loop in
-    let args = c .before .before .before .before .before .args in
-    let a = args in
-    let l = loop in
-    let place = c .place in
-    (omega arith, omega (arith, value-next (a .f .now) (l .i) (place .result) (omega arith) (place .ensures)))
+    let at-loop = c .before .before .before in
+    let f = at-loop .before .before .args .f .now in
+    let next = value-next f (at-loop .loop .i) (c .place .result) (omega arith) (c .place .ensures) in
+    (omega arith, omega (arith, next))
 
 returns : tie.Need-returns Inv-loop μ-loop
 returns c =
-    let loop = c .before .loop in
-    let args = c .before .before .before .args in
-    omega (arith, value-end (args .f .now) (loop .i) (omega arith))
+    let at-loop = c .before in
+    omega (arith, value-end (at-loop .before .before .args .f .now) (at-loop .loop .i) (omega arith))
 
 pub value-of-spec : {M : Type 1} → statement M
 value-of-spec =

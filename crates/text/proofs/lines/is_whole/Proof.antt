@@ -17,8 +17,8 @@ abbrev μ-loop : tie.MeasureT-loop
 
 returns : tie.Need-returns Inv-loop μ-loop
 returns c =
-    let args = c .before .args in
-    sym (short-line (args .s .now) (args .width) (c .if1 .taken))
+    let a = c .before .args in
+    sym (short-line (a .s .now) (a .width) (c .if1 .taken))
 
 sub-last : tie.Need-sub-last Inv-loop μ-loop
 sub-last c = omega arith
@@ -31,10 +31,9 @@ shared-slice-read-if2 c = omega arith
 
 returns-2 : tie.Need-returns-2 Inv-loop μ-loop
 returns-2 c =
-    let loop = c .before .before .before .loop in
-    let args = c .before .before .before .before .before .args in
-    let a = args in
-    let l = loop in sym (early-end (a .s .now) (a .width) (l .i) (omega arith) (omega arith) (c .if2 .taken))
+    let at-loop = c .before .before .before in
+    let a = at-loop .before .before .args in
+    sym (early-end (a .s .now) (a .width) (at-loop .loop .i) (omega arith) (omega arith) (c .if2 .taken))
 
 add-i : tie.Need-add-i Inv-loop μ-loop
 add-i c = omega arith
@@ -44,18 +43,17 @@ loop-less c = omega arith
 
 loop-again : tie.Need-loop-again Inv-loop μ-loop
 loop-again c =
-    let loop = c .before .before .before .loop in
-    (omega arith, omega arith, below-more _ _ (loop .inv .2) (c .if2 .left))
+    (omega arith, omega arith, below-more _ _ (c .before .before .before .loop .inv .2) (c .if2 .left))
 
 shared-slice-read-result : tie.Need-shared-slice-read-result Inv-loop μ-loop
 shared-slice-read-result c = omega arith
 
 returns-3 : tie.Need-returns-3 Inv-loop μ-loop
 returns-3 c =
-    let loop = c .before .before .loop in
-    let args = c .before .before .before .before .args in
-    let a = args in
-    let l = loop in sym (line-ends (a .s .now) (a .width) (l .i) (omega arith) (omega arith) (omega arith) (l .inv .2))
+    let at-loop = c .before .before in
+    let a = at-loop .before .before .args in
+    let l = at-loop .loop in
+    sym (line-ends (a .s .now) (a .width) (l .i) (omega arith) (omega arith) (omega arith) (l .inv .2))
 
 pub is-whole-spec : {M : Type 1} → statement M
 is-whole-spec =

@@ -28,33 +28,24 @@ enum-told-4 c = search needs
 returns : tie.Need-returns
 unfolding queryOf
 returns c =
-    let k = c .before .k in
-    let first-as = c .before .before .before .first-as in
-    ap queryFrom (sym (k .given .1) ∙ first-as .ensures)
+    let row = c .before in
+    ap queryFrom (sym (row .k .given .1) ∙ row .before .before .first-as .ensures)
 
 returns-2 : tie.Need-returns-2
 unfolding queryOf
-returns-2 c =
-    let first-as = c .before .before .first-as in
-    ap queryFrom (sym (c .enum-told .given .1) ∙ first-as .ensures)
+returns-2 c = ap queryFrom (sym (c .enum-told .given .1) ∙ c .before .before .first-as .ensures)
 
 returns-3 : tie.Need-returns-3
 unfolding queryOf
-returns-3 c =
-    let first-as = c .before .before .first-as in
-    ap queryFrom (sym (c .enum-told2 .given .1) ∙ first-as .ensures)
+returns-3 c = ap queryFrom (sym (c .enum-told2 .given .1) ∙ c .before .before .first-as .ensures)
 
 returns-4 : tie.Need-returns-4
 unfolding queryOf
-returns-4 c =
-    let first-as = c .before .before .first-as in
-    ap queryFrom (sym (c .enum-told3 .given .1) ∙ first-as .ensures)
+returns-4 c = ap queryFrom (sym (c .enum-told3 .given .1) ∙ c .before .before .first-as .ensures)
 
 returns-5 : tie.Need-returns-5
 unfolding queryOf
-returns-5 c =
-    let first-as = c .before .before .first-as in
-    ap queryFrom (sym (c .enum-told4 .given .1) ∙ first-as .ensures)
+returns-5 c = ap queryFrom (sym (c .enum-told4 .given .1) ∙ c .before .before .first-as .ensures)
 
 pub read-query-spec : {M : Type 1} → statement M
 read-query-spec =

@@ -26,8 +26,8 @@ first-as-requires c κs = omega arith
 
 returns-2 : tie.Need-returns-2
 returns-2 c =
-    let args = c .before .before .before .before .args in
-    step-within (args .text .now) (args .line) (c .first-as .ensures)
+    let a = c .before .before .before .before .args in
+    step-within (a .text .now) (a .line) (c .first-as .ensures)
 
 pub step-at-spec : {M : Type 1} → statement M
 step-at-spec =

@@ -15,19 +15,18 @@ passed-requires c κs = search needs
 
 add-t5 : tie.Need-add-t5
 add-t5 c =
-    let step-at = c .before .step-at in
-    let args = c .before .before .before .args in
-    let a = args in
+    let found = c .before in
+    let a = found .before .before .args in
     record {
-      fits = rw (c .passed .ensures, step-at .ensures)
+      fits = rw (c .passed .ensures, found .step-at .ensures)
           (step-fits (a .text .now) (a .line) (2 ^ 64) (search needs) (search needs));
     }
 
 returns : tie.Need-returns
 returns c =
-    let step-at = c .before .step-at in
-    let args = c .before .before .before .args in
-    step-is _ _ (step-at .ensures) (ap (λ (k : ℕ). args .line + k) (c .passed .ensures))
+    let found = c .before in
+    let a = found .before .before .args in
+    step-is _ _ (found .step-at .ensures) (ap (λ (k : ℕ). a .line + k) (c .passed .ensures))
 
 pub step-from-spec : {M : Type 1} → statement M
 step-from-spec = tie.close (tie.spec step-at-requires passed-requires add-t5 returns)

@@ -18,26 +18,25 @@ add-result c = omega arith
 
 returns : tie.Need-returns
 returns c =
-    let args = c .before .args in
-    sym (ap (λ (k : ℕ). columnOf k (args .n)) (c .if1 .taken) ∙ column-unit (args .n))
+    let a = c .before .args in
+    sym (ap (λ (k : ℕ). columnOf k (a .n)) (c .if1 .taken) ∙ column-unit (a .n))
 
 returns-2 : tie.Need-returns-2
 returns-2 c =
-    let args = c .before .before .args in
-    let a = args in sym (column-blank (a .k) (a .n) (omega arith) (above (a .k) (a .n) (c .if2 .taken) (omega arith)))
+    let a = c .before .before .args in
+    sym (column-blank (a .k) (a .n) (omega arith) (above (a .k) (a .n) (c .if2 .taken) (omega arith)))
 
 place-requires : tie.Need-place-requires
 place-requires c κs = omega arith
 
 returns-3 : tie.Need-returns-3
 returns-3 c =
-    let args = c .before .before .before .before .args in
-    sym (column-blank (args .k) (args .n) (omega arith) (omega arith))
+    let a = c .before .before .before .before .args in
+    sym (column-blank (a .k) (a .n) (omega arith) (omega arith))
 
 div-result : tie.Need-div-result
 div-result c =
-    let args = c .before .before .before .before .args in
-    omega (arith, one-le-pow (args .k) 10 (lit< tt))
+    omega (arith, one-le-pow (c .before .before .before .before .args .k) 10 (lit< tt))
 
 cast-result-2 : tie.Need-cast-result-2
 cast-result-2 c = omega arith
@@ -47,9 +46,9 @@ add-result-2 c = omega arith
 
 returns-4 : tie.Need-returns-4
 returns-4 c =
-    let place = c .before .place in
-    let args = c .before .before .before .before .args in
-    let a = args in rw (place .ensures) (sym (column-digit (a .k) (a .n) (omega arith)))
+    let placed = c .before in
+    let a = placed .before .before .before .args in
+    rw (placed .place .ensures) (sym (column-digit (a .k) (a .n) (omega arith)))
 
 pub column-spec : {M : Type 1} → statement M
 column-spec =

@@ -10,21 +10,21 @@ use Rattle.text.proofs.print.fits_in.Tie as tie
 
 returns : tie.Need-returns
 returns c =
-    let args = c .before .args in
-    sym (ap (λ (w : ℕ). fits w (args .n)) (c .if1 .taken) ∙ fits-none (args .n))
+    let a = c .before .args in
+    sym (ap (λ (w : ℕ). fits w (a .n)) (c .if1 .taken) ∙ fits-none (a .n))
 
 returns-2 : tie.Need-returns-2
 returns-2 c =
-    let args = c .before .before .args in
-    sym (fits-wide (args .width) (args .n) (c .if2 .taken) (omega arith))
+    let a = c .before .before .args in
+    sym (fits-wide (a .width) (a .n) (c .if2 .taken) (omega arith))
 
 place-requires : tie.Need-place-requires
 place-requires c κs = omega arith
 
 returns-3 : tie.Need-returns-3
 returns-3 c =
-    let args = c .before .before .before .args in
-    rw (c .place .ensures) (sym (fits-place (args .width) (args .n) (omega arith)))
+    let a = c .before .before .before .args in
+    rw (c .place .ensures) (sym (fits-place (a .width) (a .n) (omega arith)))
 
 pub fits-in-spec : {M : Type 1} → statement M
 fits-in-spec = tie.close (tie.spec returns returns-2 place-requires returns-3)

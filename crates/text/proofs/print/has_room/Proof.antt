@@ -7,13 +7,13 @@ use Rattle.text.proofs.print.has_room.Tie as tie
 
 returns : tie.Need-returns
 returns c =
-    let args = c .before .args in
-    sym (room-short (args .len) (args .at) (args .size) (c .if1 .taken))
+    let a = c .before .args in
+    sym (room-short (a .len) (a .at) (a .size) (c .if1 .taken))
 
 returns-2 : tie.Need-returns-2
 returns-2 c =
-    let args = c .before .args in
-    sym (room-left (args .len) (args .at) (args .size) (c .if1 .left))
+    let a = c .before .args in
+    sym (room-left (a .len) (a .at) (a .size) (c .if1 .left))
 
 pub has-room-spec : {M : Type 1} → statement M
 has-room-spec = tie.close (tie.spec returns returns-2)

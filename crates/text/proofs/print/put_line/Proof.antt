@@ -1,10 +1,10 @@
 -- `text::print::put_line` meets its contract: the answer by the test, and what `write_line` ensures.
 -- Assumes nothing.
-use mathlib.Core.Path.{refl}
 use lib.ListN.{length}
 use borrow.Author.Needs.{needs}
+use Rattle.text.specs.Layout.{entryBytes}
 use Rattle.text.specs.Print.{listingLine}
-use Rattle.text.proofs.PrintLaws.{room-for, put-none, put-wrote, line-length}
+use Rattle.text.proofs.PrintLaws.{room-for, puts-none, puts-all, line-length}
 use Rattle.text.proofs.print.put_line.Statement.{statement}
 use Rattle.text.proofs.print.put_line.Tie as tie
 
@@ -13,39 +13,28 @@ has-room-requires c κs = tt
 
 returns : tie.Need-returns
 returns c =
-    let has-room = c .before .has-room in
-    let args = c .before .before .before .args in
-    let a = args in (
-      put-none (a .out .now) (a .at) (listingLine (a .start) (a .end) (a .span) (a .rows)) (line-length _ _ _ _)
-          (has-room .ensures) (c .if1 .taken),
-      refl,
-    )
+    let tested = c .before in
+    let a = tested .before .before .args in
+    puts-none (a .out .now) (a .at) (listingLine (a .start) (a .end) (a .span) (a .rows)) (line-length _ _ _ _) (tested .has-room .ensures) (c .if1 .taken)
 
 write-line-requires : tie.Need-write-line-requires
 write-line-requires c κs =
-    let if1 = c .before .if1 in
-    let has-room′ = c .before .before .has-room in
-    let args = c .before .before .before .before .args in
-    let a = args in
-    let has-room = has-room′ in room-for (length (a .out .now)) (a .at) 22 (has-room .ensures) (if1 .left)
+    let room = c .before in
+    let tested = room .before in
+    let a = tested .before .before .args in
+    room-for (length (a .out .now)) (a .at) entryBytes (tested .has-room .ensures) (room .if1 .left)
 
 same-length : tie.Need-same-length
 same-length c = search needs
 
 returns-2 : tie.Need-returns-2
 returns-2 c =
-    let write-line′ = c .before .before .write-line in
-    let if1′ = c .before .before .before .before .if1 in
-    let has-room′ = c .before .before .before .before .before .has-room in
-    let args = c .before .before .before .before .before .before .before .args in
-    let a = args in
-    let has-room = has-room′ in
-    let if1 = if1′ in
-    let write-line = write-line′ in (
-      put-wrote (a .out .now) (a .at) (listingLine (a .start) (a .end) (a .span) (a .rows)) (line-length _ _ _ _)
-          (has-room .ensures) (if1 .left) (write-line .ensures .0),
-      write-line .ensures .1,
-    )
+    let wrote = c .before .before in
+    let room = wrote .before .before in
+    let tested = room .before in
+    let a = tested .before .before .args in
+    puts-all (a .out .now) (a .at) (listingLine (a .start) (a .end) (a .span) (a .rows)) (line-length _ _ _ _) (tested .has-room .ensures) (room .if1 .left)
+    (wrote .write-line .ensures)
 
 pub put-line-spec : {M : Type 1} → statement M
 put-line-spec =

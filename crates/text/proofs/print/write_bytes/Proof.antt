@@ -34,22 +34,19 @@ loop-less c = omega arith
 
 loop-again : tie.Need-loop-again Inv-loop μ-loop
 loop-again c =
-    let loop-test = c .before .loop-test in
-    let loop = c .before .before .loop in
-    pasting-more _ _ (loop .inv) (loop-test .taken) refl refl
+    let on = c .before in
+    pasting-more _ _ (on .before .loop .inv) (on .loop-test .taken) refl refl
 
 add-result : tie.Need-add-result Inv-loop μ-loop
 add-result c = omega arith
 
 same-length : tie.Need-same-length Inv-loop μ-loop
 same-length c =
-    let loop = c .before .loop in
-    loop .inv .long
+    c .before .loop .inv .long
 
 returns : tie.Need-returns Inv-loop μ-loop
 returns c =
-    let loop = c .before .loop in
-    (omega arith, pasting-all (loop .inv) (c .loop-test .left))
+    record { behind = omega arith; holds = pasting-all (c .before .loop .inv) (c .loop-test .left) }
 
 pub write-bytes-spec : {M : Type 1} → statement M
 write-bytes-spec =

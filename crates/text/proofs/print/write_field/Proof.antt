@@ -17,9 +17,8 @@ abbrev μ-loop : tie.MeasureT-loop
 
 loop-holds : tie.Need-loop-holds Inv-loop μ-loop
 loop-holds c =
-    let args = c .before .args in
-    let pre = c .before .pre in
-    pasting-none _ _ _ _ (printed-length (args .width) (args .n)) (pre)
+    let start = c .before in
+    pasting-none _ _ _ _ (printed-length (start .args .width) (start .args .n)) (start .pre)
 
 sub-column : tie.Need-sub-column Inv-loop μ-loop
 sub-column c = omega arith
@@ -44,27 +43,22 @@ loop-less c = omega arith
 
 loop-again : tie.Need-loop-again Inv-loop μ-loop
 loop-again c =
-    let loop-test = c .before .loop-test in
-    let loop = c .before .before .loop in
-    let args = c .before .before .before .before .args in
-    let a = args in
-    let l = loop in
-    let test = loop-test in
-    pasting-more _ _ (l .inv) (test .taken) refl
-    (c .column .ensures ∙ sym (printed-at (a .width) (a .n) (l .j) (test .taken)))
+    let on = c .before in
+    let at-loop = on .before in
+    let a = at-loop .before .before .args in
+    pasting-more _ _ (at-loop .loop .inv) (on .loop-test .taken) refl
+    (c .column .ensures ∙ sym (printed-at (a .width) (a .n) (at-loop .loop .j) (on .loop-test .taken)))
 
 add-result : tie.Need-add-result Inv-loop μ-loop
 add-result c = omega arith
 
 same-length : tie.Need-same-length Inv-loop μ-loop
 same-length c =
-    let loop = c .before .loop in
-    loop .inv .long
+    c .before .loop .inv .long
 
 returns : tie.Need-returns Inv-loop μ-loop
 returns c =
-    let loop = c .before .loop in
-    (omega arith, pasting-all (loop .inv) (c .loop-test .left))
+    record { behind = omega arith; holds = pasting-all (c .before .loop .inv) (c .loop-test .left) }
 
 pub write-field-spec : {M : Type 1} → statement M
 write-field-spec =

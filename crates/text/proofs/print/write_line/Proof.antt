@@ -29,22 +29,15 @@ same-length c = search needs
 
 returns : tie.Need-returns
 returns c =
-    let write-bytes′ = c .before .before .write-bytes in
-    let write-field4′ = c .before .before .before .before .before .before .before .write-field4 in
-    let write-field3′ = c .before .before .before .before .before .before .before .before .before .before .before .write-field3 in
-    let write-field2′ = c .before .before .before .before .before .before .before .before .before .before .before .before .before .before .before .write-field2 in
-    let write-field′ = c .before .before .before .before .before .before .before .before .before .before .before .before .before .before .before .before .before .before .before .write-field in
-    let args = c .before .before .before .before .before .before .before .before .before .before .before .before .before .before .before .before .before .before .before .before .before .before .args in
-    let pre′ = c .before .before .before .before .before .before .before .before .before .before .before .before .before .before .before .before .before .before .before .before .before .before .pre in
-    let a = args in
-    let pre = pre′ in
-    let write-field = write-field′ in
-    let write-field2 = write-field2′ in
-    let write-field3 = write-field3′ in
-    let write-field4 = write-field4′ in
-    let write-bytes = write-bytes′ in
-    line-pieces (a .out .now) (a .at) (a .start) (a .end) (a .span) (a .rows) (pre) (write-field .ensures)
-    (write-field2 .ensures) (write-field3 .ensures) (write-field4 .ensures) (write-bytes .ensures)
+    let ended = c .before .before in
+    let rows = ended .before .before .before .before .before in
+    let span = rows .before .before .before .before in
+    let end = span .before .before .before .before in
+    let start = end .before .before .before .before in
+    let entry = start .before .before .before in
+    let a = entry .args in
+    line-pieces (a .out .now) (a .at) (a .start) (a .end) (a .span) (a .rows) (entry .pre) (start .write-field .ensures)
+    (end .write-field2 .ensures) (span .write-field3 .ensures) (rows .write-field4 .ensures) (ended .write-bytes .ensures)
 
 pub write-line-spec : {M : Type 1} → statement M
 write-line-spec =

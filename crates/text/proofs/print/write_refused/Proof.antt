@@ -29,20 +29,14 @@ same-length c = search needs
 
 returns : tie.Need-returns
 returns c =
-    let write-bytes2′ = c .before .before .write-bytes2 in
-    let write-field2′ = c .before .before .before .before .before .before .before .write-field2 in
-    let write-field′ = c .before .before .before .before .before .before .before .before .before .before .before .write-field in
-    let write-bytes′ = c .before .before .before .before .before .before .before .before .before .before .before .before .before .before .before .write-bytes in
-    let args = c .before .before .before .before .before .before .before .before .before .before .before .before .before .before .before .before .before .before .before .args in
-    let pre′ = c .before .before .before .before .before .before .before .before .before .before .before .before .before .before .before .before .before .before .before .pre in
-    let a = args in
-    let pre = pre′ in
-    let write-bytes = write-bytes′ in
-    let write-field = write-field′ in
-    let write-field2 = write-field2′ in
-    let write-bytes2 = write-bytes2′ in
-    refused-pieces (a .out .now) (a .number) (a .line) (pre) (write-bytes .ensures) (write-field .ensures)
-    (write-field2 .ensures) (write-bytes2 .ensures)
+    let ended = c .before .before in
+    let line = ended .before .before .before .before .before in
+    let number = line .before .before .before .before in
+    let word = number .before .before .before .before in
+    let entry = word .before .before .before .before in
+    let a = entry .args in
+    refused-pieces (a .out .now) (a .number) (a .line) (entry .pre) (word .write-bytes .ensures)
+    (number .write-field .ensures) (line .write-field2 .ensures) (ended .write-bytes2 .ensures)
 
 pub write-refused-spec : {M : Type 1} → statement M
 write-refused-spec =

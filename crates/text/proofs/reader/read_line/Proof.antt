@@ -46,7 +46,8 @@ use denote.Triple.Table.{entered, cited}
 use denote.Triple.Walked.{says, Stays, stay-none, stay-none-slice, walkOf, goes-none, goes-none-slice, Walks, ends-at, walked, walk-meets}
 use denote.Exit.{yes}
 use denote.Triple.Clauses.{ensured, lasts}
-use Rattle.text.specs.Line.{stepAt, passed, stepFrom}
+use Rattle.text.specs.Line.{stepFrom}
+use Rattle.text.specs.Reader.{ReaderAt, Stepped}
 use Rattle.text.specs.declared.reader.LineReader.{LineReader}
 use Rattle.text.specs.declared.lines.Line.{Line}
 use Rattle.text.specs.declared.lines.Step.{Step}
@@ -136,8 +137,8 @@ module _ {M : Type 1} (𝓤 : URA M) (H : Heap 𝓤) (A : Atoms 𝓤) (W : Given
       move ! (1 ∷ []) $ fsplit ! $ use1 W (‵ Own ⊛ ‵ Own) (shr-slice-copy 𝓤 H A W (named 0) κ u8 .twice s (v ∷ [])) $ split ! $
       move ! (0 ∷ 2 ∷ []) $ fjoin ! $ move ! (2 ∷ 0 ∷ []) $ use2 W (raw (At 𝓤 H A at-mem run .pre to-at)) (qed W ((‵ (flft κ q) ⊛ ‵ ftrue) ∷ ‵ (owns (ShrSlice (named 0) κ u8 ∷ usize ∷ []) (s, (n, tt)) vals) ∷ []) ∵ join ! $ frame ! $ done !) $ frame ! $ done !
 
-  at-said : (r : LineReader) → ent 𝓤 (ensured 𝓤 H A at.ended (at.clauses 𝓤 H A at-mem run) (κ, tt) (s, (n, tt)) tt r) (fact 𝓤 ((r .text ≡ s) × (r .line ≡ n)))
-  at-said r = exE 𝓤 _ (λ ws. snd∗ 𝓤 (sem 𝓤 H A (lasts at.ended (κ, tt) (s, (n, tt)) ws)) (fact 𝓤 ((r .text ≡ s) × (r .line ≡ n))))
+  at-said : (r : LineReader) → ent 𝓤 (ensured 𝓤 H A at.ended (at.clauses 𝓤 H A at-mem run) (κ, tt) (s, (n, tt)) tt r) (fact 𝓤 (ReaderAt r s n))
+  at-said r = exE 𝓤 _ (λ ws. snd∗ 𝓤 (sem 𝓤 H A (lasts at.ended (κ, tt) (s, (n, tt)) ws)) (fact 𝓤 (ReaderAt r s n)))
 
   -- a reader in a local lies in memory, and back
   laid : (l : ℕ) → ent 𝓤 (⋆ 𝓤 H A (‵ (fat fullShare (T′.mir erased) l 0 (T′.lowered h₀)) ∷ ‵ (R .own h₀ (T′.lowered h₀ ∷ [])) ∷ [])) (sem 𝓤 H A (partAt R fullShare h₀ l 0))
@@ -176,7 +177,7 @@ module _ {M : Type 1} (𝓤 : URA M) (H : Heap 𝓤) (A : Atoms 𝓤) (W : Given
 
   -- what `step` says, at the reader z that it leaves
   abbrev Said : Line → LineReader → Type 0
-  Said r z = (r ≡ stepAt (now s) n) × (z .text ≡ s) × (z .line ≡ n + passed r)
+  Said r z = Stepped h₀ z r
 
   exits : (r : Step) → r ≡ found → Is P.the-row r (P′.lowered r ∷ []) → ent 𝓤 (⋆ 𝓤 H A (‵ (flft κ q) ∷ ‵ ftrue ∷ ‵ Own ∷ [])) (Post (P′.lowered r))
   exits r e is =
@@ -195,8 +196,8 @@ module _ {M : Type 1} (𝓤 : URA M) (H : Heap 𝓤) (A : Atoms 𝓤) (W : Given
         move ! (16 ∷ []) $ use1 W (raw (At 𝓤 H A at-mem run .pre to-at) ⊛ ‵ Own) goes-at $ split ! $
         calls-at ! fm (At 𝓤 H A at-mem run) known-at to-at (and-then ! (load ! (from ! (stop !)) (look ! 14 refl)) (and-then ! (load ! (from ! (stop !)) (look ! 12 refl)) (no-more !))) (λ u.
         use1 W (later (some (λ (r : LineReader). ((‵ (flft κ q) ⊛ ‵ ftrue) ⊛ ‵ (B .own r (u ∷ []))) ⊛ raw (ensured 𝓤 H A at.ended (at.clauses 𝓤 H A at-mem run) (κ, tt) (s, (n, tt)) tt r)))) (id⊢ 𝓤 _) $ await ! tt $ pick ! (λ r.
-        split ! $ move ! (1 ∷ []) $ use1 W (raw (fact 𝓤 ((r .text ≡ s) × (r .line ≡ n)))) (at-said r) $ heard ! ((r .text ≡ s) × (r .line ≡ n)) (λ e₀. split ! $ move ! (1 ∷ []) $
-        rewrite ! 0 (λ (h : LineReader). ‵ (B .own h (u ∷ []))) (λ i. record { text = e₀ .0 i; line = e₀ .1 i }) refl $
+        split ! $ move ! (1 ∷ []) $ use1 W (raw (fact 𝓤 (ReaderAt r s n))) (at-said r) $ heard ! (ReaderAt r s n) (λ e₀. split ! $ move ! (1 ∷ []) $
+        rewrite ! 0 (λ (h : LineReader). ‵ (B .own h (u ∷ []))) (λ i. record { text = e₀ .keeps i; line = e₀ .reached i }) refl $
         -- [what the reader owns; the token; what s owns; room for _7; …; room for _6; …; room for _5; …; room for _4; …; room for _3; …; _2; …; _1; …; room for _0; …]
         peeks ! R (Is R) (shows 𝓤 H A R) h₀ (u ∷ []) (λ is₀.
         land ! (from ! (stop !)) (init ! 7 refl (LL.lawful D L 𝓤 H A W .typed h₀ _ is₀ .0)) $
@@ -228,7 +229,7 @@ module _ {M : Type 1} (𝓤 : URA M) (H : Heap 𝓤) (A : Atoms 𝓤) (W : Given
         assigns ! (agg ! (and-then ! (load ! (from ! (stop !)) (look ! 13 refl)) (and-then ! (load ! (from ! (stop !)) (look ! 7 refl)) (no-more !)))) (from ! (stop !)) (init ! 20 refl (LL.lawful P.the-type P′.the-laws 𝓤 H A W .typed (record { found = l; line = zs .0 .line }) _ (step-row l w (zs .0 .line) is (LL.owed D L (zs .0) _ g .1 .0 .1)) .0)) $
         returns ! (look ! 20 refl) $ forget ! 1 refl $ forget ! 7 refl $ forget ! 9 refl $ forget ! 11 refl $ forget ! 13 refl $ forget ! 16 refl $ forget ! 18 refl $ forget ! 20 refl $
         move ! (20 ∷ 21 ∷ []) $ free1 ! $ move ! (18 ∷ 19 ∷ []) $ free1 ! $ move ! (16 ∷ 17 ∷ []) $ free1 ! $ move ! (1 ∷ 15 ∷ []) $ free1 ! $ move ! (12 ∷ 13 ∷ []) $ free1 ! $ move ! (10 ∷ 11 ∷ []) $ free1 ! $ move ! (8 ∷ 9 ∷ []) $ free1 ! $ move ! (6 ∷ 7 ∷ []) $ free1 ! $ free0 ! $
-        keep ! (1 ∷ 2 ∷ 5 ∷ []) $ by ! (exits (record { found = l; line = zs .0 .line }) (step-is (now s) n (e .0) (e .2)) (step-row l w (zs .0 .line) is (LL.owed D L (zs .0) _ g .1 .0 .1)))))))))))))))))))))))
+        keep ! (1 ∷ 2 ∷ 5 ∷ []) $ by ! (exits (record { found = l; line = zs .0 .line }) (step-is (now s) n (e .finds) (e .reached)) (step-row l w (zs .0 .line) is (LL.owed D L (zs .0) _ g .1 .0 .1)))))))))))))))))))))))
 
 module _ {M : Type 1} (𝓤 : URA M) (H : Heap 𝓤) (A : Atoms 𝓤) (W : Given 𝓤 H A) (mem : Memory → SProp 𝓤) (run : Routine → Fun 𝓤) where
   read-line-walks : (C : Calls 𝓤 H) (Λ : Loops 𝓤 H) → FmC 𝓤 H (W .laws) C → Triple 𝓤 (C #at) (At 𝓤 H A mem run) → Triple 𝓤 (C #step) (StepC 𝓤 H A mem run)

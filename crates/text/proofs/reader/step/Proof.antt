@@ -157,7 +157,7 @@ module _ {M : Type 1} (𝓤 : URA M) (H : Heap 𝓤) (A : Atoms 𝓤) (W : Given
   exits r e is =
       qed W (‵ (fobs γ (R .coded .code (h′ (r .line)))) ∷ ‵ (fbor κ (Body (mem R) b o γ)) ∷ ‵ (flft κ q) ∷ (‵ (flft κ′ q′) ⊛ ‵ ftrue) ∷ []) ∵
       suffices ! _ (ends-at 𝓤 H A step.ended stayed (step.clauses 𝓤 H A at-mem run) W (((κ, (κ′, tt)), (q, (q′, tt)), bounds, x, vals), tt) (S′.lowered (r .found)) (r .found) (h′ (r .line), tt) (tt, tt)) $
-      says ! (step-found (now (h .text)) (h .line) e, refl, step-line (now (h .text)) (h .line) e) $ move ! (2 ∷ 3 ∷ []) $ join ! $ frame ! $
+      says ! (record { finds = step-found (now (h .text)) (h .line) e; keeps = refl; reached = step-line (now (h .text)) (h .line) e }) $ move ! (2 ∷ 3 ∷ []) $ join ! $ frame ! $
       feqI ! (List Val) (vptr b o ∷ []) (vptr b o ∷ []) refl $ fjoin3 ! $ nothing ! $ move ! (1 ∷ 0 ∷ []) $ fjoin ! $
       owned ! S.the-row (Is S.the-row) (EL.makes S.the-type S′.the-plain 𝓤 H A) (r .found) _ is $ move ! (1 ∷ 0 ∷ []) $ done !
 

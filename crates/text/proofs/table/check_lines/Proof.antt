@@ -4,6 +4,7 @@ use Prim.Native.Nat.{_≤_, _-_, _*_}
 use mathlib.Core.Path.{_≡_, refl, _∙_}
 use native.Mathlib.Omega.{arith}
 use lib.ListN.{length, drop}
+use Rattle.text.specs.Layout.{lineBytes}
 use Rattle.text.specs.Table.{judgedFrom}
 use Rattle.text.specs.Line.{linesOf}
 use Rattle.text.proofs.TableLaws.{stays, moves}
@@ -11,7 +12,8 @@ use Rattle.text.proofs.table.check_lines.Statement.{statement}
 use Rattle.text.proofs.table.check_lines.Tie as tie
 
 abbrev Inv-loop : tie.InvT-loop
-Inv-loop text line₀ line = (18 * line ≤ length text) × (judgedFrom line (linesOf (drop (18 * line) text)) ≡ judgedFrom 0 (linesOf text))
+Inv-loop text line₀ line =
+    (lineBytes * line ≤ length text) × (judgedFrom line (linesOf (drop (lineBytes * line) text)) ≡ judgedFrom 0 (linesOf text))
 
 abbrev μ-loop : tie.MeasureT-loop
 μ-loop text line₀ line = length text - line
@@ -27,32 +29,30 @@ ended-requires c κs = omega arith
 
 returns : tie.Need-returns Inv-loop μ-loop
 returns c =
-    let if1 = c .before .if1 in
-    let read-line = c .before .before .before .read-line in
-    let loop = c .before .before .before .before .loop in
-    let args = c .before .before .before .before .before .before .args in
-    let a = args in
-    let l = loop in
-    let step = read-line in c .ended .ensures ∙ stays (a .text .now) (l .line) (l .inv .1) (step .ensures) (if1 .taken)
+    let stayed = c .before in
+    let found = stayed .before .before in
+    let at-loop = found .before in
+    let a = at-loop .before .before .args in
+    let l = at-loop .loop in
+    c .ended .ensures ∙ stays (a .text .now) (l .line) (l .inv .1) (found .read-line .ensures) (stayed .if1 .taken)
 
 loop-less : tie.Need-loop-less Inv-loop μ-loop
 loop-less c =
-    let read-line = c .before .before .read-line in
-    let loop = c .before .before .before .loop in
-    let args = c .before .before .before .before .before .args in
-    let a = args in
-    let l = loop in
-    let on = moves (a .text .now) (l .line) (l .inv .1) (read-line .ensures) (c .if1 .left) in omega
-    (arith, on .next, on .within)
+    let found = c .before .before in
+    let at-loop = found .before in
+    let a = at-loop .before .before .args in
+    let l = at-loop .loop in
+    let on = moves (a .text .now) (l .line) (l .inv .1) (found .read-line .ensures) (c .if1 .left) in
+    omega (arith, on .next, on .within)
 
 loop-again : tie.Need-loop-again Inv-loop μ-loop
 loop-again c =
-    let read-line = c .before .before .read-line in
-    let loop = c .before .before .before .loop in
-    let args = c .before .before .before .before .before .args in
-    let a = args in
-    let l = loop in
-    let on = moves (a .text .now) (l .line) (l .inv .1) (read-line .ensures) (c .if1 .left) in (on .within, on .rest)
+    let found = c .before .before in
+    let at-loop = found .before in
+    let a = at-loop .before .before .args in
+    let l = at-loop .loop in
+    let on = moves (a .text .now) (l .line) (l .inv .1) (found .read-line .ensures) (c .if1 .left) in
+    (on .within, on .rest)
 
 pub check-lines-spec : {M : Type 1} → statement M
 check-lines-spec =

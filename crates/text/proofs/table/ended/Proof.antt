@@ -37,29 +37,19 @@ add-t6 : tie.Need-add-t6
 add-t6 c = search needs
 
 returns : tie.Need-returns
-returns c =
-    let args = c .before .before .args in
-    by (args .line) (c .enum-told .given .1)
+returns c = by (c .before .before .args .line) (c .enum-told .given .1)
 
 returns-2 : tie.Need-returns-2
-returns-2 c =
-    let args = c .before .before .args in
-    by (args .line) (c .enum-told2 .given .1)
+returns-2 c = by (c .before .before .args .line) (c .enum-told2 .given .1)
 
 returns-3 : tie.Need-returns-3
-returns-3 c =
-    let args = c .before .before .args in
-    by (args .line) (c .enum-told3 .given .1)
+returns-3 c = by (c .before .before .args .line) (c .enum-told3 .given .1)
 
 returns-4 : tie.Need-returns-4
-returns-4 c =
-    let args = c .before .before .args in
-    by (args .line) (c .enum-told4 .given .1)
+returns-4 c = by (c .before .before .args .line) (c .enum-told4 .given .1)
 
 returns-5 : tie.Need-returns-5
-returns-5 c =
-    let args = c .before .before .args in
-    by (args .line) (c .enum-told5 .given .1)
+returns-5 c = by (c .before .before .args .line) (c .enum-told5 .given .1)
 
 pub ended-spec : {M : Type 1} → statement M
 ended-spec =

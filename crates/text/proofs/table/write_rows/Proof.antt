@@ -1,194 +1,118 @@
--- `text::table::write_rows` meets its contract: the first i places of each column hold the text's; every line is a row, so the reader finds it in its place, and stays behind the last.
+-- `text::table::write_rows` meets its contract: the first i rows stand in the columns; every line is a row, so the reader finds it in its place, and
+-- stays behind the last.
 -- Assumes nothing.
-use Prim.Native.Nat.{_-_}
-use mathlib.Core.Path.{refl, _∙_}
+use Prim.Native.Nat.{_-_, _<_}
 use native.Mathlib.Omega.{arith}
 use lib.ListN.{length}
 use Rattle.text.specs.Line.{linesOf}
-use Rattle.text.specs.Table.{dayOf, firstOf, secondOf, daysOf, firstsOf, secondsOf}
-use Rattle.text.proofs.LineLaws.{step-found}
-use Rattle.text.proofs.PasteLaws.{Pasting, pasting-none, pasting-on, pasting-all, pasted-start}
-use Rattle.text.proofs.TableLaws.{cell, column-length, line-on, on-row, no-row-left}
+use Rattle.text.specs.Table.{columns}
+use Rattle.text.proofs.TableLaws.{Writing, writing-none, writing-row, writing-more, writing-all, line-on}
+use Rattle.text.proofs.reader.read_line.Reads as read-line
+use Rattle.text.proofs.table.day_of.Reads as day-of
+use Rattle.text.proofs.table.first_of.Reads as first-of
+use Rattle.text.proofs.table.second_of.Reads as second-of
+use Rattle.text.proofs.table.write_rows.Reads as reads
+use Rattle.text.proofs.table.write_rows.Lts as lts
 use Rattle.text.proofs.table.write_rows.Statement.{statement}
 use Rattle.text.proofs.table.write_rows.Tie as tie
 
 abbrev Inv-loop : tie.InvT-loop
 Inv-loop text days₀ first₀ second₀ i₀ days first second i =
-    Pasting (daysOf text) days₀ days 0 (length (linesOf text)) i
-    × Pasting (firstsOf text) first₀ first 0 (length (linesOf text)) i
-    × Pasting (secondsOf text) second₀ second 0 (length (linesOf text)) i
+    Writing text (columns days₀ first₀ second₀) (columns days first second) i
 
 abbrev μ-loop : tie.MeasureT-loop
 μ-loop text days₀ first₀ second₀ i₀ days first second i = length (linesOf text) - i
 
+-- where the reader has moved
+abbrev Moved : Type 0
+Moved =
+    lts.Else1 (
+      read-line.Asked,
+      read-line.Learnt,
+      day-of.Asked,
+      day-of.Learnt,
+      first-of.Asked,
+      first-of.Learnt,
+      second-of.Asked,
+      second-of.Learnt,
+    ) reads.Pre reads.Post Inv-loop μ-loop
+
+-- there is a row
+row : (m : Moved) → m .before .before .before .loop .i < length (linesOf (m .before .before .before .before .before .before .before .before .args .text .now))
+row m =
+    let found = m .before .before in
+    let at-loop = found .before in
+    let start = at-loop .before .before .before .before .before in
+    writing-row (start .pre) (at-loop .loop .inv) (found .read-line .ensures) (m .if1 .left)
+
 loop-holds : tie.Need-loop-holds Inv-loop μ-loop
-unfolding daysOf firstsOf secondsOf
-loop-holds c =
-    let args = c .before .before .before .before .args in
-    let pre′ = c .before .before .before .before .pre in
-    let a = args in
-    let pre = pre′ in (
-      pasting-none _ _ _ _ (column-length (a .text .now) _ (pre .0) dayOf) (omega arith),
-      pasting-none _ _ _ _ (column-length (a .text .now) _ (pre .0) firstOf) (omega arith),
-      pasting-none _ _ _ _ (column-length (a .text .now) _ (pre .0) secondOf) (omega arith),
-    )
+loop-holds c = writing-none (c .before .before .before .before .pre)
 
 read-line-requires : tie.Need-read-line-requires Inv-loop μ-loop
 read-line-requires c κs = tt
 
 same-length : tie.Need-same-length Inv-loop μ-loop
-same-length c =
-    let loop = c .before .before .before .loop in
-    loop .inv .0 .long
+same-length c = c .before .before .before .loop .inv .days-hold .long
 
 same-length-2 : tie.Need-same-length-2 Inv-loop μ-loop
-same-length-2 c =
-    let loop = c .before .before .before .loop in
-    loop .inv .1 .long
+same-length-2 c = c .before .before .before .loop .inv .first-hold .long
 
 same-length-3 : tie.Need-same-length-3 Inv-loop μ-loop
-same-length-3 c =
-    let loop = c .before .before .before .loop in
-    loop .inv .2 .long
+same-length-3 c = c .before .before .before .loop .inv .second-hold .long
 
 returns : tie.Need-returns Inv-loop μ-loop
 returns c =
-    let read-line = c .before .before .read-line in
-    let loop = c .before .before .before .loop in
-    let args = c .before .before .before .before .before .before .before .before .args in
-    let pre′ = c .before .before .before .before .before .before .before .before .pre in
-    let a = args in
-    let pre = pre′ in
-    let l = loop in
-    let step = read-line in
-    let all = no-row-left (a .text .now) _ (pre .0) (l .i) (l .inv .0 .within) (step .ensures) (c .if1 .taken) in (
-      pasting-all (l .inv .0) all ∙ pasted-start _ _ _ (l .inv .0 .size),
-      (pasting-all (l .inv .1) all ∙ pasted-start _ _ _ (l .inv .1 .size), pasting-all (l .inv .2) all ∙ pasted-start _ _ _ (l .inv .2 .size)),
-    )
+    let found = c .before .before in
+    let at-loop = found .before in
+    let start = at-loop .before .before .before .before .before in
+    writing-all (start .pre) (at-loop .loop .inv) (found .read-line .ensures) (c .if1 .taken)
 
 day-of-requires : tie.Need-day-of-requires Inv-loop μ-loop
 day-of-requires c κs = tt
 
 mul-days : tie.Need-mul-days Inv-loop μ-loop
-mul-days c =
-    let if1 = c .before .if1 in
-    let read-line = c .before .before .before .read-line in
-    let loop = c .before .before .before .before .loop in
-    let args = c .before .before .before .before .before .before .before .before .before .args in
-    let pre′ = c .before .before .before .before .before .before .before .before .before .pre in
-    let a = args in
-    let pre = pre′ in
-    let l = loop in
-    let row = on-row (a .text .now) _ (pre .0) (l .i) (l .inv .0 .within) (read-line .ensures) (if1 .left) in omega
-    (arith, row)
+mul-days c = omega (arith, row (c .before))
 
 slice-write-days : tie.Need-slice-write-days Inv-loop μ-loop
-slice-write-days c =
-    let if1 = c .before .if1 in
-    let read-line = c .before .before .before .read-line in
-    let loop = c .before .before .before .before .loop in
-    let args = c .before .before .before .before .before .before .before .before .before .args in
-    let pre′ = c .before .before .before .before .before .before .before .before .before .pre in
-    let a = args in
-    let pre = pre′ in
-    let l = loop in
-    let row = on-row (a .text .now) _ (pre .0) (l .i) (l .inv .0 .within) (read-line .ensures) (if1 .left) in omega
-    (arith, row)
+slice-write-days c = omega (arith, row (c .before))
 
 first-of-requires : tie.Need-first-of-requires Inv-loop μ-loop
 first-of-requires c κs = tt
 
 mul-first : tie.Need-mul-first Inv-loop μ-loop
-mul-first c =
-    let if1 = c .before .before .if1 in
-    let read-line = c .before .before .before .before .read-line in
-    let loop = c .before .before .before .before .before .loop in
-    let args = c .before .before .before .before .before .before .before .before .before .before .args in
-    let pre′ = c .before .before .before .before .before .before .before .before .before .before .pre in
-    let a = args in
-    let pre = pre′ in
-    let l = loop in
-    let row = on-row (a .text .now) _ (pre .0) (l .i) (l .inv .0 .within) (read-line .ensures) (if1 .left) in omega
-    (arith, row)
+mul-first c = omega (arith, row (c .before .before))
 
 slice-write-first : tie.Need-slice-write-first Inv-loop μ-loop
-slice-write-first c =
-    let if1 = c .before .before .if1 in
-    let read-line = c .before .before .before .before .read-line in
-    let loop = c .before .before .before .before .before .loop in
-    let args = c .before .before .before .before .before .before .before .before .before .before .args in
-    let pre′ = c .before .before .before .before .before .before .before .before .before .before .pre in
-    let a = args in
-    let pre = pre′ in
-    let l = loop in
-    let row = on-row (a .text .now) _ (pre .0) (l .i) (l .inv .0 .within) (read-line .ensures) (if1 .left) in omega
-    (arith, row)
+slice-write-first c = omega (arith, row (c .before .before))
 
 second-of-requires : tie.Need-second-of-requires Inv-loop μ-loop
 second-of-requires c κs = tt
 
 mul-second : tie.Need-mul-second Inv-loop μ-loop
-mul-second c =
-    let if1 = c .before .before .before .if1 in
-    let read-line = c .before .before .before .before .before .read-line in
-    let loop = c .before .before .before .before .before .before .loop in
-    let args = c .before .before .before .before .before .before .before .before .before .before .before .args in
-    let pre′ = c .before .before .before .before .before .before .before .before .before .before .before .pre in
-    let a = args in
-    let pre = pre′ in
-    let l = loop in
-    let row = on-row (a .text .now) _ (pre .0) (l .i) (l .inv .0 .within) (read-line .ensures) (if1 .left) in omega
-    (arith, row)
+mul-second c = omega (arith, row (c .before .before .before))
 
 slice-write-second : tie.Need-slice-write-second Inv-loop μ-loop
-slice-write-second c =
-    let if1 = c .before .before .before .if1 in
-    let read-line = c .before .before .before .before .before .read-line in
-    let loop = c .before .before .before .before .before .before .loop in
-    let args = c .before .before .before .before .before .before .before .before .before .before .before .args in
-    let pre′ = c .before .before .before .before .before .before .before .before .before .before .before .pre in
-    let a = args in
-    let pre = pre′ in
-    let l = loop in
-    let row = on-row (a .text .now) _ (pre .0) (l .i) (l .inv .0 .within) (read-line .ensures) (if1 .left) in omega
-    (arith, row)
+slice-write-second c = omega (arith, row (c .before .before .before))
 
 loop-less : tie.Need-loop-less Inv-loop μ-loop
 loop-less c =
-    let if1 = c .before .before .before .if1 in
-    let read-line = c .before .before .before .before .before .read-line in
-    let loop = c .before .before .before .before .before .before .loop in
-    let args = c .before .before .before .before .before .before .before .before .before .before .before .args in
-    let pre′ = c .before .before .before .before .before .before .before .before .before .before .before .pre in
-    let a = args in
-    let pre = pre′ in
-    let l = loop in
-    let row = on-row (a .text .now) _ (pre .0) (l .i) (l .inv .0 .within) (read-line .ensures) (if1 .left) in omega
-    (arith, row, line-on (a .text .now) _ (pre .0) (l .i) row (read-line .ensures))
+    let moved = c .before .before .before in
+    let found = moved .before .before in
+    let at-loop = found .before in
+    let start = at-loop .before .before .before .before .before in
+    let on = line-on (start .args .text .now) _ (start .pre .rows) (at-loop .loop .i) (row moved) (found .read-line .ensures) in
+    omega (arith, row moved, on)
 
 loop-again : tie.Need-loop-again Inv-loop μ-loop
-unfolding daysOf firstsOf secondsOf
 loop-again c =
-    let first-of = c .before .first-of in
-    let day-of = c .before .before .day-of in
-    let if1 = c .before .before .before .if1 in
-    let read-line = c .before .before .before .before .before .read-line in
-    let loop = c .before .before .before .before .before .before .loop in
-    let args = c .before .before .before .before .before .before .before .before .before .before .before .args in
-    let pre′ = c .before .before .before .before .before .before .before .before .before .before .before .pre in
-    let a = args in
-    let pre = pre′ in
-    let l = loop in
-    let row = on-row (a .text .now) _ (pre .0) (l .i) (l .inv .0 .within) (read-line .ensures) (if1 .left) in let step =
-    read-line in let is = step-found (a .text .now) (l .i) (step .ensures) in let on = line-on (a .text .now) _
-    (pre .0) (l .i) row (step .ensures) in (
-      pasting-on _ _ on (l .inv .0) row (omega arith)
-          (cell (a .text .now) _ (pre .0) dayOf refl (l .i) row is (day-of .ensures)),
-      pasting-on _ _ on (l .inv .1) row (omega arith)
-          (cell (a .text .now) _ (pre .0) firstOf refl (l .i) row is (first-of .ensures)),
-      pasting-on _ _ on (l .inv .2) row (omega arith)
-          (cell (a .text .now) _ (pre .0) secondOf refl (l .i) row is (c .second-of .ensures)),
-    )
+    let first = c .before in
+    let day = first .before in
+    let moved = day .before in
+    let found = moved .before .before in
+    let at-loop = found .before in
+    let start = at-loop .before .before .before .before .before in
+    writing-more (start .pre) (at-loop .loop .inv) (row moved) (found .read-line .ensures) (day .day-of .ensures)
+    (first .first-of .ensures) (c .second-of .ensures)
 
 pub write-rows-spec : {M : Type 1} → statement M
 write-rows-spec =
