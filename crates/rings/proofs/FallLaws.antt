@@ -19,8 +19,9 @@ use Rattle.rings.specs.Ring.{joins, neighbour, names, degree, touches, m
 use Rattle.rings.specs.CoreTimes.{never, accountTime}
 use Rattle.rings.specs.Inner.Links.{otherOf, fresh}
 use Rattle.rings.specs.Inner.Support.{supports, supporters}
-use Rattle.rings.specs.Inner.Peeling.{Lost, Setting, Fell, Here, Rows, Place, fallen, Queue, guess, Times, Fall, nothing, passing, Walk}
+use Rattle.rings.specs.Inner.Peeling.{Losable, Lost, Setting, Fell, Here, Rows, Place, fallen, Queue, guess, Times, Fall, nothing, passing, Walk}
 use Rattle.rings.specs.declared.Query.{Query}
+use Rattle.rings.specs.declared.frame.Frame.{Frame}
 use Rattle.rings.proofs.WordLaws.{look, clash, and-i, and-l, and-r, or-l, or-r, or-e, no-i, no-e, same-truth, count-mono, count-less, count-same, count-le, count-none, same-or}
 use Rattle.rings.proofs.RingLaws.{joins-touch, touch-cases, touch-first, touch-second, met-i, met-e, neighbour-e, ring-degree, in-marked}
 use Rattle.rings.proofs.OthersLaws.{touch-named}
@@ -110,16 +111,14 @@ rows-pass {t} {lo} {r} {passed} {passed′} {walked} {live} j v p R =
     }
 
 -- the same state under other names
-moved : {t : Table} {q : Query} {s hi lo b e r head tail tail′ : ℕ} {passed : ℕ → ℕ → Bool} {x d w x′ d′ w′ : List ℕ} → x′ ≡ x → d′ ≡ d → w′ ≡ w → tail′ ≡ tail → Fall t q s hi lo b e r head tail passed x d w → Fall t q s hi lo b e r head tail′ passed x′ d′ w′
+moved : {t : Table} {frame : Frame} {b e r head tail tail′ : ℕ} {passed : ℕ → ℕ → Bool} {x d w x′ d′ w′ : List ℕ} → x′ ≡ x → d′ ≡ d → w′ ≡ w → tail′ ≡ tail → Fall t frame b e r head tail passed x d w → Fall t frame b e r head tail′ passed x′ d′ w′
 moved ex ed ew et F = rw (ex, ed, ew, et) F
 
 -- the same pairs, passed under another name
-renamed : {t : Table} {q : Query} {s hi lo b e r head tail : ℕ} {passed : ℕ → ℕ → Bool} {x d w : List ℕ} → Fall t q s hi lo b e r head tail nothing x d w → ((j v : ℕ) → passed j v ≡ false) → Fall t q s hi lo b e r head tail passed x d w
+renamed : {t : Table} {frame : Frame} {b e r head tail : ℕ} {passed : ℕ → ℕ → Bool} {x d w : List ℕ} → Fall t frame b e r head tail nothing x d w → ((j v : ℕ) → passed j v ≡ false) → Fall t frame b e r head tail passed x d w
 renamed F none =
     record {
-      len-x = F .len-x;
-      len-d = F .len-d;
-      len-w = F .len-w;
+      buffers = F .buffers;
       walked = F .walked;
       live = F .live;
       queue = F .queue;
@@ -151,6 +150,19 @@ module _ (t : Table) (q : Query) (s hi lo : ℕ) (S : Setting t q s hi lo) where
   pub other-small : (j u : ℕ) → j < size t → touches t j u ≡ true → otherOf t j u < 4096
   other-small j u l h = touch-small j (otherOf t j u) l (joins-touch t j u (otherOf t j u) (joins-other t j u (S .accounts j l) h) .1)
 
+module _ (t : Table) (frame : Frame) (S : Setting t (frame .query) (frame .start) (frame .stop) (frame .lo)) where
+  abbrev q : Query
+  q = frame .query
+
+  abbrev s : ℕ
+  s = frame .start
+
+  abbrev hi : ℕ
+  hi = frame .stop
+
+  abbrev lo : ℕ
+  lo = frame .lo
+
   -- ---- an account with fewer than k rows that count is met in no ring before e
   module _ {e r : ℕ} {passed : ℕ → ℕ → Bool} {walked : ℕ → Bool} {live : ℕ → ℕ → Bool} {x : List ℕ}
       (R : Rows t lo r passed walked live) (fell : (u : ℕ) → walked u ≡ true → (u < 4096) × Fell x u) (T : Times t q s hi e x)
@@ -165,12 +177,12 @@ module _ (t : Table) (q : Query) (s hi lo : ℕ) (S : Setting t q s hi lo) where
         let y = neighbour-e t (ring t q s c) v w n in
         let i = y .row in
         let w-met = met-i t (ring t q s c) i w (y .below) (y .has) (joins-touch t i v w (y .join) .1) in
-        let w-small = touch-small i w (y .below) (joins-touch t i v w (y .join) .1) in
+        let w-small = touch-small t q s hi lo S i w (y .below) (joins-touch t i v w (y .join) .1) in
         let f = open-lead t q s hi lo S i v w c (y .below) (y .join) (ring-opens t q s c i (in-marked t q s c i (y .has))) in
         let j = f .row in
         let below = f .below in
         let day = f .by in
-        let other : otherOf t j v ≡ w = other-joins j v w below (f .join) in
+        let other : otherOf t j v ≡ w = other-joins t q s hi lo S j v w below (f .join) in
         record {
           it = j;
           below = below;
@@ -297,7 +309,7 @@ module _ (t : Table) (q : Query) (s hi lo : ℕ) (S : Setting t q s hi lo) where
   counts-kept live x d j v f D u k g =
       D u k g ∙ sym (count-same (λ i. without live j v i u) (λ i. live i u) (size t) (λ i o. without-other live j v i u (λ e. f (ap (λ (c : ℕ). getD x c 0) (sym (e .1)) ∙ g))))
 
-  module _ {e r head tail : ℕ} {passed passed′ : ℕ → ℕ → Bool} {x d w : List ℕ} (F : Fall t q s hi lo 4096 e r head tail passed x d w) (j v : ℕ)
+  module _ {e r head tail : ℕ} {passed passed′ : ℕ → ℕ → Bool} {x d w : List ℕ} (F : Fall t frame 4096 e r head tail passed x d w) (j v : ℕ)
       (k : v < 4096) (here : Here t lo r j v) (fresh-other : F .walked (otherOf t j v) ≡ false) (new : passed j v ≡ false) (P : Pass passed passed′ j v)
       (why : ((otherOf t j v < 4096) × Fell x (otherOf t j v)) ⊎ (e ≤ dayOf t j)) where
     counted : F .live j v ≡ true
@@ -310,18 +322,21 @@ module _ (t : Table) (q : Query) (s hi lo : ℕ) (S : Setting t q s hi lo) where
     most-live = ⊎-elim (λ z. let a : getD d v 0 ≡ count (λ i. F .live i v) (size t) = F .counts .degrees v k z in omega arith) (λ f. F .counts .many v k f) (fell-look x v)
 
     -- v has a neighbour to lose
-    pub lose-one : 0 < getD d v 0
+    lose-one : 0 < getD d v 0
     lose-one = let a = most-live in let c = one-fewer in omega arith
 
     -- with k left it has not fallen
     not-yet : getD d v 0 ≡ q .k → getD x v 0 ≡ 0
     not-yet h = ⊎-elim (λ z. z) (λ f. let a = F .counts .few v k f in absurd (omega arith)) (fell-look x v)
 
-    pub lose-room : getD d v 0 ≡ q .k → tail < 4096
+    lose-room : getD d v 0 ≡ q .k → tail < 4096
     lose-room h = subst (λ (a : ℕ). a < 4096) (sym (F .queue .tail-is)) (room x v k (not-yet h))
 
+    pub losable : Losable (q .k) tail v x d w
+    losable = record { buffers = F .buffers; small = k; some = lose-one; room = lose-room }
+
     now-less : getD (set d v (getD d v 0 - 1)) v 0 ≡ getD d v 0 - 1
-    now-less = getD-set-same d v (getD d v 0 - 1) 0 (let n = F .len-d in omega arith)
+    now-less = getD-set-same d v (getD d v 0 - 1) 0 (let n = F .buffers .left in omega arith)
 
     -- of v, and of those who have fallen
     many-now : (u : ℕ) → u < 4096 → (u ≡ v) ⊎ Fell x u → count (λ i. without (F .live) j v i u) (size t) ≤ getD (set d v (getD d v 0 - 1)) u 0
@@ -342,12 +357,10 @@ module _ (t : Table) (q : Query) (s hi lo : ℕ) (S : Setting t q s hi lo) where
         (λ a. F .passed-why i u l (sym (P .rest i u (λ e. a (e .0))) ∙ h)) (same-or i j)
 
     -- the three outcomes of a loss
-    kept-state : Fell x v → Fall t q s hi lo 4096 e r head tail passed′ x (set d v (getD d v 0 - 1)) w
+    kept-state : Fell x v → Fall t frame 4096 e r head tail passed′ x (set d v (getD d v 0 - 1)) w
     kept-state f =
         record {
-          len-x = F .len-x;
-          len-d = length-set d v (getD d v 0 - 1) ∙ F .len-d;
-          len-w = F .len-w;
+          buffers = record { times = F .buffers .times; left = length-set d v (getD d v 0 - 1) ∙ F .buffers .left; queue = F .buffers .queue };
           walked = F .walked;
           live = without (F .live) j v;
           rows = rows-pass j v P (F .rows);
@@ -366,19 +379,17 @@ module _ (t : Table) (q : Query) (s hi lo : ℕ) (S : Setting t q s hi lo) where
         not-v : (u : ℕ) → getD x u 0 ≡ 0 → u ≡ v → ⊥
         not-v u g y = f (ap (λ (c : ℕ). getD x c 0) (sym y) ∙ g)
 
-    lower-state : getD x v 0 ≡ 0 → q .k < getD d v 0 → Fall t q s hi lo 4096 e r head tail passed′ x (set d v (getD d v 0 - 1)) w
+    lower-state : getD x v 0 ≡ 0 → q .k < getD d v 0 → Fall t frame 4096 e r head tail passed′ x (set d v (getD d v 0 - 1)) w
     lower-state z h =
         record {
-          len-x = F .len-x;
-          len-d = length-set d v (getD d v 0 - 1) ∙ F .len-d;
-          len-w = F .len-w;
+          buffers = record { times = F .buffers .times; left = length-set d v (getD d v 0 - 1) ∙ F .buffers .left; queue = F .buffers .queue };
           walked = F .walked;
           live = without (F .live) j v;
           rows = rows-pass j v P (F .rows);
           queue = F .queue;
           counts = record {
-            degrees = counts-lost (F .live) x d j v (here .below) k (F .len-d) counted z (F .counts .degrees);
-            enough = λ u a b g. ⊎-elim (λ y. subst (λ (c : ℕ). q .k ≤ getD (set d v (getD d v 0 - 1)) c 0) (sym y) (rw (getD-set-same d v (getD d v 0 - 1) 0 (let n = F .len-d in omega arith)) (omega arith))) (λ y. rw (getD-set-other d v u (getD d v 0 - 1) 0 y) (F .counts .enough u a b g)) (same-or u v);
+            degrees = counts-lost (F .live) x d j v (here .below) k (F .buffers .left) counted z (F .counts .degrees);
+            enough = λ u a b g. ⊎-elim (λ y. subst (λ (c : ℕ). q .k ≤ getD (set d v (getD d v 0 - 1)) c 0) (sym y) (rw (getD-set-same d v (getD d v 0 - 1) 0 (let n = F .buffers .left in omega arith)) (omega arith))) (λ y. rw (getD-set-other d v u (getD d v 0 - 1) 0 y) (F .counts .enough u a b g)) (same-or u v);
             many = λ u a g. many-now u a (_⊎_.inr g);
             few = λ u a g. few-now u a (λ y. absurd (g (ap (λ (c : ℕ). getD x c 0) y ∙ z))) (_⊎_.inr g);
           };
@@ -387,23 +398,21 @@ module _ (t : Table) (q : Query) (s hi lo : ℕ) (S : Setting t q s hi lo) where
           left-why = F .left-why;
         }
 
-    fall-state : getD x v 0 ≡ 0 → getD d v 0 ≤ q .k → Fall t q s hi lo 4096 e r head (tail + 1) passed′ (set x v e) (set d v (getD d v 0 - 1)) (set w tail v)
+    fall-state : getD x v 0 ≡ 0 → getD d v 0 ≤ q .k → Fall t frame 4096 e r head (tail + 1) passed′ (set x v e) (set d v (getD d v 0 - 1)) (set w tail v)
     fall-state z h =
         record {
-          len-x = length-set x v e ∙ F .len-x;
-          len-d = length-set d v (getD d v 0 - 1) ∙ F .len-d;
-          len-w = let a = length-set w tail v in let b = F .len-w in omega arith;
+          buffers = record { times = length-set x v e ∙ F .buffers .times; left = length-set d v (getD d v 0 - 1) ∙ F .buffers .left; queue = let a = length-set w tail v in let b = F .buffers .queue in omega arith };
           walked = F .walked;
           live = without (F .live) j v;
           rows = R;
-          queue = queue-fall (F .len-x) (F .times) v k z (F .len-w) (F .queue);
+          queue = queue-fall (F .buffers .times) (F .times) v k z (F .buffers .queue) (F .queue);
           counts = record {
-            degrees = λ u a g. ⊎-elim (λ y. absurd (fell-v u y g)) (λ y. D u a (sym (still (F .len-x) (F .times) v k z u y) ∙ g)) (same-or u v);
-            enough = λ u a b g. ⊎-elim (λ y. absurd (fell-v u y g)) (λ y. rw (getD-set-other d v u (getD d v 0 - 1) 0 y) (F .counts .enough u a b (sym (still (F .len-x) (F .times) v k z u y) ∙ g))) (same-or u v);
+            degrees = λ u a g. ⊎-elim (λ y. absurd (fell-v u y g)) (λ y. D u a (sym (still (F .buffers .times) (F .times) v k z u y) ∙ g)) (same-or u v);
+            enough = λ u a b g. ⊎-elim (λ y. absurd (fell-v u y g)) (λ y. rw (getD-set-other d v u (getD d v 0 - 1) 0 y) (F .counts .enough u a b (sym (still (F .buffers .times) (F .times) v k z u y) ∙ g))) (same-or u v);
             many = λ u a g. many-now u a (fell-now u g);
             few = λ u a g. few-now u a (λ y. h) (fell-now u g);
           };
-          times = times-fall (F .len-x) (F .times) v k z (fall-lower R (F .queue .walked-fell) (F .times) why-all (F .left-why) v few);
+          times = times-fall (F .buffers .times) (F .times) v k z (fall-lower R (F .queue .walked-fell) (F .times) why-all (F .left-why) v few);
           passed-why = λ i u l p. ⊎-elim (λ f. _⊎_.inl (f .0, keep-fell (otherOf t i u) (f .1))) _⊎_.inr (why-all i u l p);
           left-why = F .left-why;
         }
@@ -412,7 +421,7 @@ module _ (t : Table) (q : Query) (s hi lo : ℕ) (S : Setting t q s hi lo) where
         R = rows-pass j v P (F .rows)
 
         D : (u : ℕ) → u < 4096 → getD x u 0 ≡ 0 → getD (set d v (getD d v 0 - 1)) u 0 ≡ count (λ i. without (F .live) j v i u) (size t)
-        D = counts-lost (F .live) x d j v (here .below) k (F .len-d) counted z (F .counts .degrees)
+        D = counts-lost (F .live) x d j v (here .below) k (F .buffers .left) counted z (F .counts .degrees)
 
         fell-now : (u : ℕ) → Fell (set x v e) u → (u ≡ v) ⊎ Fell x u
         fell-now u g = ⊎-elim _⊎_.inl (λ y. _⊎_.inr (fell-other x u v e y g)) (same-or u v)
@@ -420,22 +429,22 @@ module _ (t : Table) (q : Query) (s hi lo : ℕ) (S : Setting t q s hi lo) where
         few : count (λ i. without (F .live) j v i v) (size t) < q .k
         few =
             let a : 0 < getD d v 0 = lose-one in
-            let c : getD (set d v (getD d v 0 - 1)) v 0 ≡ getD d v 0 - 1 = getD-set-same d v (getD d v 0 - 1) 0 (let n = F .len-d in omega arith) in
+            let c : getD (set d v (getD d v 0 - 1)) v 0 ≡ getD d v 0 - 1 = getD-set-same d v (getD d v 0 - 1) 0 (let n = F .buffers .left in omega arith) in
             let g : getD (set d v (getD d v 0 - 1)) v 0 ≡ count (λ i. without (F .live) j v i v) (size t) = D v k z in omega arith
 
         fell-v : (u : ℕ) → u ≡ v → getD (set x v e) u 0 ≡ 0 → ⊥
-        fell-v u y g = let p = F .times .e-pos in let a : getD (set x v e) u 0 ≡ e = ap (λ (c : ℕ). getD (set x v e) c 0) y ∙ now-e (F .len-x) (F .times) v k z in omega arith
+        fell-v u y g = let p = F .times .e-pos in let a : getD (set x v e) u 0 ≡ e = ap (λ (c : ℕ). getD (set x v e) c 0) y ∙ now-e (F .buffers .times) (F .times) v k z in omega arith
 
         keep-fell : (u : ℕ) → Fell x u → Fell (set x v e) u
-        keep-fell u f = ⊎-elim (λ y. fell-v u y) (λ y g. f (sym (still (F .len-x) (F .times) v k z u y) ∙ g)) (same-or u v)
+        keep-fell u f = ⊎-elim (λ y. fell-v u y) (λ y g. f (sym (still (F .buffers .times) (F .times) v k z u y) ∙ g)) (same-or u v)
 
     -- what `lose` leaves
-    pub lost-step : {x′ d′ w′ : List ℕ} {tail′ : ℕ} → Lost (q .k) e tail v x d w x′ d′ w′ tail′ → Fall t q s hi lo 4096 e r head tail′ passed′ x′ d′ w′
+    pub lost-step : {x′ d′ w′ : List ℕ} {tail′ : ℕ} → Lost (q .k) e tail v x d w x′ d′ w′ tail′ → Fall t frame 4096 e r head tail′ passed′ x′ d′ w′
     lost-step (Lost.stays h ex ed ew et) = moved ex ed ew et (⊎-elim (λ z. lower-state z (⊎-elim (λ y. absurd (h (sym y))) (λ y. y) (eq-or-lt-of-le (F .counts .enough v k k z)))) kept-state (fell-look x v))
     lost-step (Lost.falls h ex ed ew et) = moved ex ed ew et (fall-state (not-yet h) (omega arith))
 
   -- who has not fallen has not been walked
-  pub not-walked : {b e r head tail : ℕ} {passed : ℕ → ℕ → Bool} {x d w : List ℕ} (F : Fall t q s hi lo b e r head tail passed x d w) (u : ℕ) → getD x u 0 ≡ 0 → F .walked u ≡ false
+  pub not-walked : {b e r head tail : ℕ} {passed : ℕ → ℕ → Bool} {x d w : List ℕ} (F : Fall t frame b e r head tail passed x d w) (u : ℕ) → getD x u 0 ≡ 0 → F .walked u ≡ false
   not-walked F u z = ⊎-elim (λ y. absurd (F .queue .walked-fell u y .1 z)) (λ y. y) (look (F .walked u))
 
   -- ---- the walk over the rows of an account that fell
@@ -452,13 +461,13 @@ module _ (t : Table) (q : Query) (s hi lo : ℕ) (S : Setting t q s hi lo) where
   passing-same u b b′ j v f g =
       same-truth (passing t u b′ j v) (passing t u b j v) (λ h. let p = passing-e u b′ j v h in passing-i u b j v (p .0) (g (p .0) (p .1))) (λ h. let p = passing-e u b j v h in passing-i u b′ j v (p .0) (f (p .0) (p .1)))
 
-  pub walk-start : {e r head tail : ℕ} {x d w : List ℕ} → Fall t q s hi lo 4096 e r head tail nothing x d w → head < tail → Walk t q s hi lo 0 e r head tail (getD w head 0) x d w
+  pub walk-start : {e r head tail : ℕ} {x d w : List ℕ} → Fall t frame 4096 e r head tail nothing x d w → head < tail → Walk t frame 0 e r head tail (getD w head 0) x d w
   walk-start {e} {r} {head} {tail} {x} {d} {w} F l = record { state = renamed F none; front = l; at-front = refl }
     where
       none : (j v : ℕ) → passing t (getD w head 0) 0 j v ≡ false
       none j v = ⊎-elim (λ h. absurd (not-suc-le-zero (passing-e (getD w head 0) 0 j v h .1))) (λ h. h) (look (passing t (getD w head 0) 0 j v))
 
-  module _ {b e r head tail u : ℕ} {x d w : List ℕ} (W : Walk t q s hi lo b e r head tail u x d w) where
+  module _ {b e r head tail u : ℕ} {x d w : List ℕ} (W : Walk t frame b e r head tail u x d w) where
     pub walk-small : u < 4096
     walk-small = subst (λ (a : ℕ). a < 4096) (W .at-front) (W .state .queue .waiting-small head (le-refl head) (W .front))
 
@@ -469,15 +478,13 @@ module _ (t : Table) (q : Query) (s hi lo : ℕ) (S : Setting t q s hi lo) where
     walk-not = subst (λ (a : ℕ). W .state .walked a ≡ false) (W .at-front) (W .state .queue .waiting-not head (le-refl head) (W .front))
 
     -- rows of u that are not fresh are passed over
-    pub walk-to : (m : ℕ) → b ≤ m → ((i : ℕ) → b ≤ i → i < m → touches t i u ≡ true → fresh t lo i ≡ false) → Walk t q s hi lo m e r head tail u x d w
+    pub walk-to : (m : ℕ) → b ≤ m → ((i : ℕ) → b ≤ i → i < m → touches t i u ≡ true → fresh t lo i ≡ false) → Walk t frame m e r head tail u x d w
     walk-to m low stale = record { state = passed (W .state); front = W .front; at-front = W .at-front }
       where
-        passed : Fall t q s hi lo 4096 e r head tail (passing t u b) x d w → Fall t q s hi lo 4096 e r head tail (passing t u m) x d w
+        passed : Fall t frame 4096 e r head tail (passing t u b) x d w → Fall t frame 4096 e r head tail (passing t u m) x d w
         passed F =
             record {
-              len-x = F .len-x;
-              len-d = F .len-d;
-              len-w = F .len-w;
+              buffers = F .buffers;
               walked = F .walked;
               live = F .live;
               queue = F .queue;
@@ -490,7 +497,7 @@ module _ (t : Table) (q : Query) (s hi lo : ℕ) (S : Setting t q s hi lo) where
                 live-passed = λ i v h. agree i v (F .rows .live-row i v h .is-fresh) ∙ F .rows .live-passed i v h;
                 live-all = λ i v a c p. F .rows .live-all i v a c (sym (agree i v (a .is-fresh)) ∙ p);
               };
-              passed-why = λ i v k p. let o = other-joins i v u k (joins-swap t i u v (passing-e u m i v p .0)) in _⊎_.inl (subst (λ (a : ℕ). (a < 4096) × Fell x a) (sym o) (walk-small, walk-fell));
+              passed-why = λ i v k p. let o = other-joins t q s hi lo S i v u k (joins-swap t i u v (passing-e u m i v p .0)) in _⊎_.inl (subst (λ (a : ℕ). (a < 4096) × Fell x a) (sym o) (walk-small, walk-fell));
             }
           where
             agree : (i v : ℕ) → fresh t lo i ≡ true → passing t u m i v ≡ passing t u b i v
@@ -499,7 +506,7 @@ module _ (t : Table) (q : Query) (s hi lo : ℕ) (S : Setting t q s hi lo) where
     -- the next row of u is j
     module _ (j : ℕ) (low : b ≤ j) (l : j < size t) (touch : touches t j u ≡ true) (none : (i : ℕ) → b ≤ i → i < j → touches t i u ≡ false) where
       other-is : otherOf t j (otherOf t j u) ≡ u
-      other-is = other-joins j (otherOf t j u) u l (joins-swap t j u (otherOf t j u) (joins-other t j u (S .accounts j l) touch))
+      other-is = other-joins t q s hi lo S j (otherOf t j u) u l (joins-swap t j u (otherOf t j u) (joins-other t j u (S .accounts j l) touch))
 
       next-pass : Pass (passing t u b) (passing t u (j + 1)) j (otherOf t j u)
       next-pass =
@@ -524,26 +531,24 @@ module _ (t : Table) (q : Query) (s hi lo : ℕ) (S : Setting t q s hi lo) where
       next-not = subst (λ (a : ℕ). W .state .walked a ≡ false) (sym other-is) walk-not
 
       pub next-small : otherOf t j u < 4096
-      next-small = other-small j u l touch
+      next-small = other-small t q s hi lo S j u l touch
 
       -- a fresh row that has not left: its other account loses a neighbour
-      pub walk-lose-one : j < r → fresh t lo j ≡ true → (0 < getD d (otherOf t j u) 0) × (getD d (otherOf t j u) 0 ≡ q .k → tail < 4096)
-      walk-lose-one k f = (lose-one (W .state) j (otherOf t j u) next-small (next-here k f) next-not next-new next-pass next-why, lose-room (W .state) j (otherOf t j u) next-small (next-here k f) next-not next-new next-pass next-why)
+      pub walk-losable : j < r → fresh t lo j ≡ true → Losable (q .k) tail (otherOf t j u) x d w
+      walk-losable k f = losable (W .state) j (otherOf t j u) next-small (next-here k f) next-not next-new next-pass next-why
 
-      pub walk-lost : j < r → fresh t lo j ≡ true → {x′ d′ w′ : List ℕ} {tail′ : ℕ} → Lost (q .k) e tail (otherOf t j u) x d w x′ d′ w′ tail′ → Walk t q s hi lo (j + 1) e r head tail′ u x′ d′ w′
+      pub walk-lost : j < r → fresh t lo j ≡ true → {x′ d′ w′ : List ℕ} {tail′ : ℕ} → Lost (q .k) e tail (otherOf t j u) x d w x′ d′ w′ tail′ → Walk t frame (j + 1) e r head tail′ u x′ d′ w′
       walk-lost k f L = record { state = lost-step (W .state) j (otherOf t j u) next-small (next-here k f) next-not next-new next-pass next-why L; front = grown L (W .front); at-front = same-front L (W .front) ∙ W .at-front }
 
       -- a row that is not fresh is passed over
-      pub walk-skip : fresh t lo j ≡ false → Walk t q s hi lo (j + 1) e r head tail u x d w
+      pub walk-skip : fresh t lo j ≡ false → Walk t frame (j + 1) e r head tail u x d w
       walk-skip f = walk-to (j + 1) (omega arith) (λ i a k h. ⊎-elim (λ y. subst (λ (c : ℕ). fresh t lo c ≡ false) (sym y) f) (λ y. clash h (none i a y)) (eq-or-lt-of-le (omega arith)))
 
     -- the walk ends where no row of u from b on is below r
-    pub walk-end : ((i : ℕ) → b ≤ i → i < r → i < size t → touches t i u ≡ false) → Fall t q s hi lo 4096 e r (head + 1) tail nothing x d w
+    pub walk-end : ((i : ℕ) → b ≤ i → i < r → i < size t → touches t i u ≡ false) → Fall t frame 4096 e r (head + 1) tail nothing x d w
     walk-end none =
         record {
-          len-x = F .len-x;
-          len-d = F .len-d;
-          len-w = F .len-w;
+          buffers = F .buffers;
           walked = walked′;
           live = F .live;
           counts = F .counts;
@@ -554,7 +559,7 @@ module _ (t : Table) (q : Query) (s hi lo : ℕ) (S : Setting t q s hi lo) where
             live-row = F .rows .live-row;
             live-not = λ i v h. off (F .rows .live-not i v h) (λ y. clash (all-passed i v (F .rows .live-row i v h) y) (F .rows .live-passed i v h));
             live-passed = λ i v h. refl;
-            live-all = λ i v a c p. F .rows .live-all i v a (left c) (⊎-elim (λ h. absurd (right c (other-joins i v u (a .below) (joins-swap t i u v (passing-e u b i v h .0))))) (λ h. h) (look (passing t u b i v)));
+            live-all = λ i v a c p. F .rows .live-all i v a (left c) (⊎-elim (λ h. absurd (right c (other-joins t q s hi lo S i v u (a .below) (joins-swap t i u v (passing-e u b i v h .0))))) (λ h. h) (look (passing t u b i v)));
           };
           queue = record {
             walked-fell = λ a h. ⊎-elim (λ y. F .queue .walked-fell a y) (λ y. subst (λ (c : ℕ). (c < 4096) × Fell x c) (sym (eqb-true a u y)) (walk-small, walk-fell)) (or-e (F .walked a) (eqb a u) h);
@@ -568,7 +573,7 @@ module _ (t : Table) (q : Query) (s hi lo : ℕ) (S : Setting t q s hi lo) where
           };
         }
       where
-        F : Fall t q s hi lo 4096 e r head tail (passing t u b) x d w
+        F : Fall t frame 4096 e r head tail (passing t u b) x d w
         F = W .state
 
         walked′ : ℕ → Bool
@@ -594,13 +599,11 @@ module _ (t : Table) (q : Query) (s hi lo : ℕ) (S : Setting t q s hi lo) where
   -- ---- rows leave from the last on
 
   -- row j, for which no account that has not fallen counts any more, leaves
-  pub leave-row : {e j head tail : ℕ} {passed : ℕ → ℕ → Bool} {x d w : List ℕ} (F : Fall t q s hi lo 4096 e (suc j) head tail passed x d w) → e ≤ dayOf t j → ((u : ℕ) → u < 4096 → getD x u 0 ≡ 0 → F .live j u ≡ false) → ((i u : ℕ) → passed i u ≡ true → i ≡ j)
-      → Fall t q s hi lo 4096 e j head tail nothing x d w
+  pub leave-row : {e j head tail : ℕ} {passed : ℕ → ℕ → Bool} {x d w : List ℕ} (F : Fall t frame 4096 e (suc j) head tail passed x d w) → e ≤ dayOf t j → ((u : ℕ) → u < 4096 → getD x u 0 ≡ 0 → F .live j u ≡ false) → ((i u : ℕ) → passed i u ≡ true → i ≡ j)
+      → Fall t frame 4096 e j head tail nothing x d w
   leave-row {e} {j} {head} {tail} {passed} {x} {d} {w} F day gone only =
       record {
-        len-x = F .len-x;
-        len-d = F .len-d;
-        len-w = F .len-w;
+        buffers = F .buffers;
         walked = F .walked;
         live = live′;
         queue = F .queue;
@@ -628,23 +631,23 @@ module _ (t : Table) (q : Query) (s hi lo : ℕ) (S : Setting t q s hi lo) where
           and-i h (lt-ltb i j (⊎-elim (λ y. clash (subst (λ (a : ℕ). F .live a u ≡ true) y h) (gone u k g)) (λ y. y) (eq-or-lt-of-le (le-of-suc-le-suc b))))
 
   -- nobody waits: who fell was walked
-  pub stable-walked : {b e r head : ℕ} {passed : ℕ → ℕ → Bool} {x d w : List ℕ} (F : Fall t q s hi lo b e r head head passed x d w) (u : ℕ) → u < 4096 → F .walked u ≡ false → getD x u 0 ≡ 0
+  pub stable-walked : {b e r head : ℕ} {passed : ℕ → ℕ → Bool} {x d w : List ℕ} (F : Fall t frame b e r head head passed x d w) (u : ℕ) → u < 4096 → F .walked u ≡ false → getD x u 0 ≡ 0
   stable-walked {x = x} F u k h = ⊎-elim (λ z. z) (λ f. let p = F .queue .waits u k f h in let a = p .from in let b = p .below in absurd (omega arith)) (fell-look x u)
 
   -- a row that is not fresh leaves without a word
-  pub leave-stale : {e j head : ℕ} {x d w : List ℕ} → Fall t q s hi lo 4096 e (suc j) head head nothing x d w → e ≤ dayOf t j → fresh t lo j ≡ false → Fall t q s hi lo 4096 e j head head nothing x d w
+  pub leave-stale : {e j head : ℕ} {x d w : List ℕ} → Fall t frame 4096 e (suc j) head head nothing x d w → e ≤ dayOf t j → fresh t lo j ≡ false → Fall t frame 4096 e j head head nothing x d w
   leave-stale {j = j} F day f = leave-row F day (λ u k g. ⊎-elim (λ h. clash (F .rows .live-row j u h .is-fresh) f) (λ h. h) (look (F .live j u))) (λ i u p. clash p refl)
 
   -- and so does a row one account of which has fallen
-  pub leave-fell : {e j head : ℕ} {x d w : List ℕ} → Fall t q s hi lo 4096 e (suc j) head head nothing x d w → e ≤ dayOf t j → j < size t → (a : ℕ) → touches t j a ≡ true → Fell x a → Fall t q s hi lo 4096 e j head head nothing x d w
+  pub leave-fell : {e j head : ℕ} {x d w : List ℕ} → Fall t frame 4096 e (suc j) head head nothing x d w → e ≤ dayOf t j → j < size t → (a : ℕ) → touches t j a ≡ true → Fell x a → Fall t frame 4096 e j head head nothing x d w
   leave-fell {e} {j} {head} {x} F day l a touch fell =
-      leave-row F day (λ u k g. ⊎-elim (λ h. absurd (fell (stable-walked F a (touch-small j a l touch) (subst (λ (c : ℕ). F .walked c ≡ false) (other u k g h) (F .rows .live-not j u h))))) (λ h. h) (look (F .live j u))) (λ i u p. clash p refl)
+      leave-row F day (λ u k g. ⊎-elim (λ h. absurd (fell (stable-walked F a (touch-small t q s hi lo S j a l touch) (subst (λ (c : ℕ). F .walked c ≡ false) (other u k g h) (F .rows .live-not j u h))))) (λ h. h) (look (F .live j u))) (λ i u p. clash p refl)
     where
       -- an account that has not fallen is the other one
       other : (u : ℕ) → u < 4096 → getD x u 0 ≡ 0 → F .live j u ≡ true → otherOf t j u ≡ a
       other u k g h =
           let tu = F .rows .live-row j u h .touch in
-          ⊎-elim (λ y. absurd (fell (ap (λ (c : ℕ). getD x c 0) (sym y) ∙ g))) (λ y. other-joins j u a l (two u tu y)) (same-or u a)
+          ⊎-elim (λ y. absurd (fell (ap (λ (c : ℕ). getD x c 0) (sym y) ∙ g))) (λ y. other-joins t q s hi lo S j u a l (two u tu y)) (same-or u a)
         where
           two : (u : ℕ) → touches t j u ≡ true → (u ≡ a → ⊥) → joins t j u a ≡ true
           two u tu n =
@@ -652,7 +655,7 @@ module _ (t : Table) (q : Query) (s hi lo : ℕ) (S : Setting t q s hi lo) where
               (λ y. ⊎-elim (λ z. subst (λ (c : ℕ). joins t j c a ≡ true) y (subst (λ (c : ℕ). joins t j (secondOf t j) c ≡ true) z (joins-swap t j (firstOf t j) (secondOf t j) (joins-ends t j)))) (λ z. absurd (n (sym y ∙ z))) (touch-cases t j a touch)) (touch-cases t j u tu)
 
   -- a fresh row both accounts of which have not fallen: first one, then the other loses a neighbour
-  module _ {e j head : ℕ} {x d w : List ℕ} (F : Fall t q s hi lo 4096 e (suc j) head head nothing x d w) (day : e ≤ dayOf t j) (l : j < size t) (f : fresh t lo j ≡ true)
+  module _ {e j head : ℕ} {x d w : List ℕ} (F : Fall t frame 4096 e (suc j) head head nothing x d w) (day : e ≤ dayOf t j) (l : j < size t) (f : fresh t lo j ≡ true)
       (za : getD x (firstOf t j) 0 ≡ 0) (zb : getD x (secondOf t j) 0 ≡ 0) where
     pair : ℕ → ℕ → ℕ → Bool
     pair v i u = eqb i j and eqb u v
@@ -683,46 +686,41 @@ module _ (t : Table) (q : Query) (s hi lo : ℕ) (S : Setting t q s hi lo) where
     here-row v h = record { below = l; before = le-refl (suc j); is-fresh = f; touch = h }
 
     first-small : firstOf t j < 4096
-    first-small = touch-small j (firstOf t j) l (touch-first t j)
+    first-small = touch-small t q s hi lo S j (firstOf t j) l (touch-first t j)
 
     second-small : secondOf t j < 4096
-    second-small = touch-small j (secondOf t j) l (touch-second t j)
+    second-small = touch-small t q s hi lo S j (secondOf t j) l (touch-second t j)
 
-    pub leave-first-one : (0 < getD d (firstOf t j) 0) × (getD d (firstOf t j) 0 ≡ q .k → head < 4096)
-    leave-first-one = (
-      lose-one F j (firstOf t j) first-small (here-row (firstOf t j) (touch-first t j)) (not-walked F (otherOf t j (firstOf t j)) (ap (λ (c : ℕ). getD x c 0) (other-first t j) ∙ zb)) refl first-pass (_⊎_.inr day),
-      lose-room F j (firstOf t j) first-small (here-row (firstOf t j) (touch-first t j)) (not-walked F (otherOf t j (firstOf t j)) (ap (λ (c : ℕ). getD x c 0) (other-first t j) ∙ zb)) refl first-pass (_⊎_.inr day),
-    )
+    pub leave-first-one : Losable (q .k) head (firstOf t j) x d w
+    leave-first-one =
+        losable F j (firstOf t j) first-small (here-row (firstOf t j) (touch-first t j)) (not-walked F (otherOf t j (firstOf t j)) (ap (λ (c : ℕ). getD x c 0) (other-first t j) ∙ zb)) refl first-pass (_⊎_.inr day)
 
-    after-first : {x₁ d₁ w₁ : List ℕ} {tail₁ : ℕ} → Lost (q .k) e head (firstOf t j) x d w x₁ d₁ w₁ tail₁ → Fall t q s hi lo 4096 e (suc j) head tail₁ (pair (firstOf t j)) x₁ d₁ w₁
+    after-first : {x₁ d₁ w₁ : List ℕ} {tail₁ : ℕ} → Lost (q .k) e head (firstOf t j) x d w x₁ d₁ w₁ tail₁ → Fall t frame 4096 e (suc j) head tail₁ (pair (firstOf t j)) x₁ d₁ w₁
     after-first L = lost-step F j (firstOf t j) first-small (here-row (firstOf t j) (touch-first t j)) (not-walked F (otherOf t j (firstOf t j)) (ap (λ (c : ℕ). getD x c 0) (other-first t j) ∙ zb)) refl first-pass (_⊎_.inr day) L
 
     -- the first account has not been walked after that either
-    first-not : {x₁ d₁ w₁ : List ℕ} {tail₁ : ℕ} (L : Lost (q .k) e head (firstOf t j) x d w x₁ d₁ w₁ tail₁) (G : Fall t q s hi lo 4096 e (suc j) head tail₁ (pair (firstOf t j)) x₁ d₁ w₁) → G .walked (firstOf t j) ≡ false
+    first-not : {x₁ d₁ w₁ : List ℕ} {tail₁ : ℕ} (L : Lost (q .k) e head (firstOf t j) x d w x₁ d₁ w₁ tail₁) (G : Fall t frame 4096 e (suc j) head tail₁ (pair (firstOf t j)) x₁ d₁ w₁) → G .walked (firstOf t j) ≡ false
     first-not (Lost.stays h ex ed ew et) G = not-walked G (firstOf t j) (ap (λ (y : List ℕ). getD y (firstOf t j) 0) ex ∙ za)
     first-not {w₁ = w₁} (Lost.falls h ex ed ew et) G =
-        subst (λ (c : ℕ). G .walked c ≡ false) (ap (λ (y : List ℕ). getD y head 0) ew ∙ getD-set-same w head (firstOf t j) 0 (let a : head < 4096 = subst (λ (c : ℕ). c < 4096) (sym (F .queue .tail-is)) (room x (firstOf t j) first-small za) in let b = F .len-w in omega arith))
+        subst (λ (c : ℕ). G .walked c ≡ false) (ap (λ (y : List ℕ). getD y head 0) ew ∙ getD-set-same w head (firstOf t j) 0 (let a : head < 4096 = subst (λ (c : ℕ). c < 4096) (sym (F .queue .tail-is)) (room x (firstOf t j) first-small za) in let b = F .buffers .queue in omega arith))
         (G .queue .waiting-not head (le-refl head) (omega arith))
 
-    second-other : {x₁ d₁ w₁ : List ℕ} {tail₁ : ℕ} (L : Lost (q .k) e head (firstOf t j) x d w x₁ d₁ w₁ tail₁) (G : Fall t q s hi lo 4096 e (suc j) head tail₁ (pair (firstOf t j)) x₁ d₁ w₁) → G .walked (otherOf t j (secondOf t j)) ≡ false
+    second-other : {x₁ d₁ w₁ : List ℕ} {tail₁ : ℕ} (L : Lost (q .k) e head (firstOf t j) x d w x₁ d₁ w₁ tail₁) (G : Fall t frame 4096 e (suc j) head tail₁ (pair (firstOf t j)) x₁ d₁ w₁) → G .walked (otherOf t j (secondOf t j)) ≡ false
     second-other L G = subst (λ (c : ℕ). G .walked c ≡ false) (sym (other-second t j (S .accounts j l))) (first-not L G)
 
     second-new : pair (firstOf t j) j (secondOf t j) ≡ false
     second-new = ⊎-elim (λ h. let y = pair-e (firstOf t j) j (secondOf t j) h .1 in let a = S .accounts j l in absurd (omega arith)) (λ h. h) (look (pair (firstOf t j) j (secondOf t j)))
 
     module _ {x₁ d₁ w₁ : List ℕ} {tail₁ : ℕ} (L : Lost (q .k) e head (firstOf t j) x d w x₁ d₁ w₁ tail₁) where
-      pub leave-second-one : (0 < getD d₁ (secondOf t j) 0) × (getD d₁ (secondOf t j) 0 ≡ q .k → tail₁ < 4096)
-      leave-second-one = (
-        lose-one (after-first L) j (secondOf t j) second-small (here-row (secondOf t j) (touch-second t j)) (second-other L (after-first L)) second-new second-pass (_⊎_.inr day),
-        lose-room (after-first L) j (secondOf t j) second-small (here-row (secondOf t j) (touch-second t j)) (second-other L (after-first L)) second-new second-pass (_⊎_.inr day),
-      )
+      pub leave-second-one : Losable (q .k) tail₁ (secondOf t j) x₁ d₁ w₁
+      leave-second-one = losable (after-first L) j (secondOf t j) second-small (here-row (secondOf t j) (touch-second t j)) (second-other L (after-first L)) second-new second-pass (_⊎_.inr day)
 
-      pub leave-both : {x₂ d₂ w₂ : List ℕ} {tail₂ : ℕ} → Lost (q .k) e tail₁ (secondOf t j) x₁ d₁ w₁ x₂ d₂ w₂ tail₂ → Fall t q s hi lo 4096 e j head tail₂ nothing x₂ d₂ w₂
+      pub leave-both : {x₂ d₂ w₂ : List ℕ} {tail₂ : ℕ} → Lost (q .k) e tail₁ (secondOf t j) x₁ d₁ w₁ x₂ d₂ w₂ tail₂ → Fall t frame 4096 e j head tail₂ nothing x₂ d₂ w₂
       unfolding both
       leave-both {x₂} {d₂} {w₂} {tail₂} M = leave-row G day (λ u k g. ⊎-elim (λ h. clash (passed-here u (G .rows .live-row j u h .touch)) (G .rows .live-passed j u h)) (λ h. h) (look (G .live j u)))
           (λ i u h. ⊎-elim (λ y. pair-e (firstOf t j) i u y .0) (λ y. pair-e (secondOf t j) i u y .0) (or-e (pair (firstOf t j) i u) (pair (secondOf t j) i u) h))
         where
-          G : Fall t q s hi lo 4096 e (suc j) head tail₂ both x₂ d₂ w₂
+          G : Fall t frame 4096 e (suc j) head tail₂ both x₂ d₂ w₂
           G = lost-step (after-first L) j (secondOf t j) second-small (here-row (secondOf t j) (touch-second t j)) (second-other L (after-first L)) second-new second-pass (_⊎_.inr day) M
 
           passed-here : (u : ℕ) → touches t j u ≡ true → both j u ≡ true
@@ -733,7 +731,7 @@ module _ (t : Table) (q : Query) (s hi lo : ℕ) (S : Setting t q s hi lo) where
   -- ---- from one day to the next, and the end
 
   -- nobody waits: who has not fallen has at least k supporters at c, if every row that has not left is dated by c
-  pub stable-supported : {e r head : ℕ} {x d w : List ℕ} (F : Fall t q s hi lo 4096 e r head head nothing x d w) (c : ℕ) → ((j : ℕ) → j < r → j < size t → dayOf t j ≤ c) → (u : ℕ) → u < 4096 → getD x u 0 ≡ 0 → q .k ≤ supporters t (guess x) s c u
+  pub stable-supported : {e r head : ℕ} {x d w : List ℕ} (F : Fall t frame 4096 e r head head nothing x d w) (c : ℕ) → ((j : ℕ) → j < r → j < size t → dayOf t j ≤ c) → (u : ℕ) → u < 4096 → getD x u 0 ≡ 0 → q .k ≤ supporters t (guess x) s c u
   unfolding supporters
   stable-supported {e} {r} {head} {x} {d} {w} F c days u k z =
       let a : q .k ≤ getD d u 0 = F .counts .enough u k k z in
@@ -747,22 +745,20 @@ module _ (t : Table) (q : Query) (s hi lo : ℕ) (S : Setting t q s hi lo) where
           let here = F .rows .live-row j u h in
           let v = otherOf t j u in
           let jn = joins-other t j u (S .accounts j l) (here .touch) in
-          let small = other-small j u l (here .touch) in
+          let small = other-small t q s hi lo S j u l (here .touch) in
           let zero-v : getD x v 0 ≡ 0 = stable-walked F v small (F .rows .live-not j u h) in
           record {
             it = v;
             below = touch-named t j v (joins-touch t j u v jn .1);
             to = (h, jn);
-            has = supports-i t (guess x) s c u v (record { row = j; below = l; join = jn; opens = lead-opens t q s hi lo S j c l (here .is-fresh) (days j (here .before) l); other = let g : guess x v ≡ getD x v 0 = guess-at x v (F .len-x) small in omega arith });
+            has = supports-i t (guess x) s c u v (record { row = j; below = l; join = jn; opens = lead-opens t q s hi lo S j c l (here .is-fresh) (days j (here .before) l); other = let g : guess x v ≡ getD x v 0 = guess-at x v (F .buffers .times) small in omega arith });
           }
 
   -- the rows from j on have left; the next is dated e'
-  pub next-day : {e j head : ℕ} {x d w : List ℕ} → Fall t q s hi lo 4096 e (suc j) head head nothing x d w → j < size t → 1 ≤ dayOf t j → dayOf t j ≤ hi → dayOf t j ≤ e → Fall t q s hi lo 4096 (dayOf t j) (suc j) head head nothing x d w
+  pub next-day : {e j head : ℕ} {x d w : List ℕ} → Fall t frame 4096 e (suc j) head head nothing x d w → j < size t → 1 ≤ dayOf t j → dayOf t j ≤ hi → dayOf t j ≤ e → Fall t frame 4096 (dayOf t j) (suc j) head head nothing x d w
   next-day {e} {j} {head} {x} {d} {w} F l one to le =
       record {
-        len-x = F .len-x;
-        len-d = F .len-d;
-        len-w = F .len-w;
+        buffers = F .buffers;
         walked = F .walked;
         live = F .live;
         rows = F .rows;
@@ -782,36 +778,36 @@ module _ (t : Table) (q : Query) (s hi lo : ℕ) (S : Setting t q s hi lo) where
       }
 
   met-small : (m : List Bool) (u : ℕ) → met t m u ≡ true → u < 4096
-  met-small m u h = let y = met-e t m u h in touch-small (y .row) u (y .below) (y .touch)
+  met-small m u h = let y = met-e t m u h in touch-small t q s hi lo S (y .row) u (y .below) (y .touch)
 
   -- all rows have left, nobody waits: the times are the core times
-  pub all-fell : {e head : ℕ} {x d w : List ℕ} (F : Fall t q s hi lo 4096 e lo head head nothing x d w) (u : ℕ) → u < 4096 → Fell x u
+  pub all-fell : {e head : ℕ} {x d w : List ℕ} (F : Fall t frame 4096 e lo head head nothing x d w) (u : ℕ) → u < 4096 → Fell x u
   all-fell {e} {head} {x} {d} F u k z =
       let a : q .k ≤ getD d u 0 = F .counts .enough u k k z in
       let b : getD d u 0 ≡ count (λ j. F .live j u) (size t) = F .counts .degrees u k z in
       let n : count (λ j. F .live j u) (size t) ≡ 0 = count-none (λ j. F .live j u) (size t) (λ j l. ⊎-elim (λ h. let y = F .rows .live-row j u h in let p = y .before in let g = fresh-from t lo j (y .is-fresh) in absurd (omega arith)) (λ h. h) (look (F .live j u))) in
       let o = S .some-k in omega arith
 
-  pub fall-times : {e head : ℕ} {x d w : List ℕ} (F : Fall t q s hi lo 4096 e lo head head nothing x d w) (u : ℕ) → u < 4096 → getD x u 0 ≡ accountTime t q hi s u
-  fall-times {e} {head} {x} F u k = sym (guess-at x u (F .len-x) k) ∙ fixpoint t q hi s (guess x) (S .fits) closed (S .some-k) days lower u
+  pub fall-times : {e head : ℕ} {x d w : List ℕ} (F : Fall t frame 4096 e lo head head nothing x d w) (u : ℕ) → u < 4096 → getD x u 0 ≡ accountTime t q hi s u
+  fall-times {e} {head} {x} F u k = sym (guess-at x u (F .buffers .times) k) ∙ fixpoint t q hi s (guess x) (S .fits) closed (S .some-k) days lower u
     where
       far : (v : ℕ) → 4096 ≤ v → guess x v ≡ never
-      far v h = guess-far x v (F .len-x) h
+      far v h = guess-far x v (F .buffers .times) h
 
       split : (v : ℕ) → (v < 4096) ⊎ (4096 ≤ v)
       split v = ⊎-elim (λ y. _⊎_.inr (leb-true 4096 v y)) (λ y. _⊎_.inl (leb-false 4096 v y)) (look (leb 4096 v))
 
       closed : (v : ℕ) → Closed t q s (guess x) v
-      closed v = record { enough-or-never = ⊎-elim (λ l. subst (λ (c : ℕ). (c ≡ never) ⊎ (q .k ≤ supporters t (guess x) s c v)) (sym (guess-at x v (F .len-x) l)) (F .times .closed v l (all-fell F v l))) (λ l. _⊎_.inl (far v l)) (split v) }
+      closed v = record { enough-or-never = ⊎-elim (λ l. subst (λ (c : ℕ). (c ≡ never) ⊎ (q .k ≤ supporters t (guess x) s c v)) (sym (guess-at x v (F .buffers .times) l)) (F .times .closed v l (all-fell F v l))) (λ l. _⊎_.inl (far v l)) (split v) }
 
       days : (v : ℕ) → (guess x v ≤ hi) ⊎ (guess x v ≡ never)
-      days v = ⊎-elim (λ l. subst (λ (c : ℕ). (c ≤ hi) ⊎ (c ≡ never)) (sym (guess-at x v (F .len-x) l)) (F .times .valued v l (all-fell F v l))) (λ l. _⊎_.inr (far v l)) (split v)
+      days v = ⊎-elim (λ l. subst (λ (c : ℕ). (c ≤ hi) ⊎ (c ≡ never)) (sym (guess-at x v (F .buffers .times) l)) (F .times .valued v l (all-fell F v l))) (λ l. _⊎_.inr (far v l)) (split v)
 
       lower : Lower t q hi s (guess x)
-      lower = record { under = λ v c a b m. let l = met-small (ring t q s c) v m in subst (λ (g : ℕ). g ≤ c) (sym (guess-at x v (F .len-x) l)) (F .times .lower v c l (all-fell F v l) a b m) }
+      lower = record { under = λ v c a b m. let l = met-small (ring t q s c) v m in subst (λ (g : ℕ). g ≤ c) (sym (guess-at x v (F .buffers .times) l)) (F .times .lower v c l (all-fell F v l) a b m) }
 
   -- no row has left yet, nobody waits: who has not fallen is met in the ring of [s, hi], and nobody else
-  pub stays-met : {r head : ℕ} {x d w : List ℕ} (F : Fall t q s hi lo 4096 never r head head nothing x d w) → ((j : ℕ) → j < r → j < size t → dayOf t j ≤ hi) → (u : ℕ) → u < 4096 → getD x u 0 ≡ 0 → met t (ring t q s hi) u ≡ true
+  pub stays-met : {r head : ℕ} {x d w : List ℕ} (F : Fall t frame 4096 never r head head nothing x d w) → ((j : ℕ) → j < r → j < size t → dayOf t j ≤ hi) → (u : ℕ) → u < 4096 → getD x u 0 ≡ 0 → met t (ring t q s hi) u ≡ true
   stays-met {r} {head} {x} F days u k z = subst (λ (c : ℕ). met t (ring t q s c) u ≡ true) (y-stays u k z) (closed-met t q hi s y (S .fits) closed (S .some-k) u (subst (λ (c : ℕ). c ≤ hi) (sym (y-stays u k z)) (le-refl hi)))
     where
       -- the guess that who has not fallen has hi, and others never
@@ -836,8 +832,8 @@ module _ (t : Table) (q : Query) (s hi lo : ℕ) (S : Setting t q s hi lo) where
           not-far : (v : ℕ) → ltb v 4096 and eqb (getD x v 0) 0 ≡ false → guess x v ≤ hi → ⊥
           not-far v a h =
               let f = S .fits in
-              ⊎-elim (λ l. ⊎-elim (λ g. clash (and-i (lt-ltb v 4096 l) (eq-eqb (getD x v 0) 0 g)) a) (λ g. let p = F .times .above v l g in let o : guess x v ≡ getD x v 0 = guess-at x v (F .len-x) l in omega arith) (fell-look x v))
-              (λ l. let o : guess x v ≡ never = guess-far x v (F .len-x) l in omega arith) (⊎-elim (λ b. _⊎_.inr (leb-true 4096 v b)) (λ b. _⊎_.inl (leb-false 4096 v b)) (look (leb 4096 v)))
+              ⊎-elim (λ l. ⊎-elim (λ g. clash (and-i (lt-ltb v 4096 l) (eq-eqb (getD x v 0) 0 g)) a) (λ g. let p = F .times .above v l g in let o : guess x v ≡ getD x v 0 = guess-at x v (F .buffers .times) l in omega arith) (fell-look x v))
+              (λ l. let o : guess x v ≡ never = guess-far x v (F .buffers .times) l in omega arith) (⊎-elim (λ b. _⊎_.inr (leb-true 4096 v b)) (λ b. _⊎_.inl (leb-false 4096 v b)) (look (leb 4096 v)))
 
       closed : (v : ℕ) → Closed t q s y v
       closed v =
@@ -847,5 +843,5 @@ module _ (t : Table) (q : Query) (s hi lo : ℕ) (S : Setting t q s hi lo) where
                 (λ a. _⊎_.inl (y-no v a)) (look (ltb v 4096 and eqb (getD x v 0) 0));
           }
 
-  pub fell-not : {r head : ℕ} {passed : ℕ → ℕ → Bool} {x d w : List ℕ} (F : Fall t q s hi lo 4096 never r head head passed x d w) (u : ℕ) → u < 4096 → Fell x u → s ≤ hi → met t (ring t q s hi) u ≡ true → ⊥
+  pub fell-not : {r head : ℕ} {passed : ℕ → ℕ → Bool} {x d w : List ℕ} (F : Fall t frame 4096 never r head head passed x d w) (u : ℕ) → u < 4096 → Fell x u → s ≤ hi → met t (ring t q s hi) u ≡ true → ⊥
   fell-not F u k f o m = let a = F .times .lower u hi k f o (le-refl hi) m in let b = F .times .above u k f in let c = S .fits in omega arith

@@ -1,7 +1,8 @@
 -- Marks of a ring (src/ring.rt).
 --     is-zero, not-zero        an entry read through a column
---     Marking, mark-yes, mark-no, mark-end     the loop that marks rows and counts them
---     stays-ring               who stays is in the ring of the window
+--     Marking, mark-start, mark-yes, mark-no, mark-few, mark-end     the loop that marks rows and counts them
+--     remaining-of             peeling leaves those who are met in the ring of the window
+--     stays-place, stays-ring  a row is in the ring exactly if both its accounts are left
 -- Assumes nothing.
 use Prim.Native.Nat.{ℕ, _+_, _≤_, _<_}
 use native.Mathlib.Nat.{eq-or-lt-of-le, not-suc-le-zero}
@@ -16,14 +17,17 @@ use lib.Seq.{ext-getD, getD-set-same, getD-set-other}
 use lib.Dec.{eqb}
 use borrow.Author.Tests.{eqb-true, eq-eqb, ne-eqb}
 use Rattle.rings.specs.Words.{_and_, at, marked, count}
-use Rattle.rings.specs.Table.{Table, tableOf, dayOf, firstOf, secondOf}
+use Rattle.rings.specs.Table.{Table, tableOf, size, dayOf, firstOf, secondOf}
 use Rattle.rings.specs.Ring.{ring, members, query}
 use Rattle.rings.specs.CoreTimes.{never}
 use Rattle.rings.specs.Buffers.{mark, marks}
-use Rattle.rings.specs.Inner.Peeling.{Falling, Ready, Span}
+use Rattle.rings.specs.Inner.Peeling.{Fall, nothing, allRows, QueueEmpty, Ready, Span}
+use Rattle.rings.specs.Inner.Answers.{WholeWindow, Remaining, RowAccounts, bothRemain, RingMarked}
+use Rattle.rings.specs.declared.Query.{Query}
 use Rattle.rings.specs.declared.frame.Frame.{Frame}
-use Rattle.rings.proofs.WordLaws.{and-i, and-l, and-r, same-truth, tally-yes, tally-no}
-use Rattle.rings.proofs.RingLaws.{in-marked, marked-in, met-first, met-second}
+use Rattle.rings.specs.declared.peel.Removal.{Removal}
+use Rattle.rings.proofs.WordLaws.{and-i, and-l, and-r, same-truth, tally-yes, tally-no, count-same}
+use Rattle.rings.proofs.RingLaws.{ring-sized, in-marked, marked-in, met-first, met-second}
 use Rattle.rings.proofs.LeadLaws.{Opens, day-opens, opens-ring}
 use Rattle.rings.proofs.FallLaws.{fell-look, stays-met, fell-not}
 
@@ -62,66 +66,81 @@ mark-no {g} {j} {n} {m₀} {m} M l y =
 pub mark-few : {g : ℕ → Bool} {j n : ℕ} {m₀ m : List ℕ} → Marking g j n m₀ m → n ≤ j
 mark-few {g} {j} M = subst (λ (c : ℕ). c ≤ j) (sym (M .counted)) (Rattle.rings.proofs.WordLaws.count-le g j)
 
-pub mark-end : (r : List Bool) {j n : ℕ} {m₀ m : List ℕ} → Marking (marked r) j n m₀ m → length m₀ ≡ length r → j ≡ length r → (n ≡ members r) × (m ≡ marks r)
+pub mark-end : (t : Table) (q : Query) (start stop : ℕ) {g : ℕ → Bool} {j n : ℕ} {m₀ m : List ℕ} → Marking g j n m₀ m → length m₀ ≡ size t → j ≡ size t → ((i : ℕ) → i < size t → marked (ring t q start stop) i ≡ g i) → RingMarked t q start stop n m
 unfolding members marks marked mark
-mark-end r {j} {n} {m₀} {m} M e y = (
-  M .counted ∙ ap (count (marked r)) y,
-  ext-getD 0 m (map mark r) (M .long ∙ (e ∙ sym (length-map r mark)))
-      (λ i l. M .done i (let a = M .long in omega arith) ∙ sym (List·getD-map mark r i false)),
-)
+mark-end t q start stop {g} {j} {n} {m₀} {m} M e y same =
+    record {
+      number = M .counted ∙ (ap (count g) (y ∙ sym sized) ∙ sym (count-same (marked r) g (length r) (λ i o. same i (let a = sized in omega arith))));
+      marks = ext-getD 0 m (map mark r) (M .long ∙ (e ∙ (sym sized ∙ sym (length-map r mark))))
+          (λ i l. M .done i (let a = M .long in omega arith) ∙ (ap mark (sym (same i (let a = M .long in omega arith))) ∙ sym (List·getD-map mark r i false)));
+    }
+  where
+    r : List Bool
+    r = ring t q start stop
+
+    sized : length r ≡ size t
+    sized = ring-sized t q start stop
 
 -- ---- who stays is in the ring
 
-module _ (d f s links : List ℕ) (q : Frame) (R : Ready d f s links q) {end tail : ℕ} {x l w : List ℕ} (order : q .start ≤ q .stop) (Sp : Span d (q .stop) (q .lo) end)
-    (F : Falling d f s q 4096 never end tail tail x l w) (j : ℕ) (b : j < length d) where
-  t : Table
+module _ (d f s : List ℕ) (q : Frame) where
+  abbrev t : Table
   t = tableOf d f s
 
-  rank-a : getD f j 0 < 4096
-  rank-a = let y = R .sound .rows j b in let z = y .accounts in let k = y .account-to in omega arith
+  abbrev rg : List Bool
+  rg = ring t (q .query) (q .start) (q .stop)
 
-  rank-b : getD s j 0 < 4096
-  rank-b = let k = R .sound .rows j b .account-to in omega arith
-
-  pub stays-place : (j < length f) × (j < length s) × (getD f j 0 < length x) × (getD s j 0 < length x)
-  stays-place = let a = R .sound .firsts in let c = R .sound .seconds in let n = F .len-x in let y = rank-a in let z = rank-b in (omega arith, omega arith, omega arith, omega arith)
-
-  -- the rows of the window are those from lo to end
-  inside : q .lo ≤ j → j < end → Opens (tableOf d f s) (q .start) (q .stop) j
+  -- peeling leaves those who are met in the ring
+  pub remaining-of : (links : List ℕ) → Ready d f s links q → q .start ≤ q .stop → {end : ℕ} → Span d (q .stop) (q .lo) end → {r : Removal} {x l w : List ℕ} → QueueEmpty d f s q (allRows end) r x l w → Remaining t q x
   unfolding dayOf at
-  inside h k = day-opens (tableOf d f s) (q .start) (q .stop) j (R .setting .from-lo j b h) (Sp .inside j k)
-
-  days-inside : (i : ℕ) → i < end → i < length d → dayOf (tableOf d f s) i ≤ q .stop
-  unfolding dayOf at
-  days-inside i h k = Sp .inside i h
-
-  pub stays-ring : q .lo ≤ j → j < end → {y : Bool} → y ≡ (eqb (getD x (getD f j 0) 0) 0 and eqb (getD x (getD s j 0) 0) 0) → marked (ring (tableOf d f s) (q .query) (q .start) (q .stop)) j ≡ y
-  unfolding firstOf secondOf dayOf at
-  stays-ring from to {y} e = same-truth (marked rg j) test goes comes ∙ sym e
+  remaining-of links R order {end} Sp {r} {x} {l} {w} Q =
+      record {
+        long = F .buffers .times;
+        is-met = stays-met t q (R .setting) F (λ j h k. Sp .inside j h);
+        met-is = λ u k m. ⊎-elim (λ z. z) (λ g. absurd (fell-not t q (R .setting) F u k g order m)) (fell-look x u);
+      }
     where
-      rg : List Bool
-      rg = ring (tableOf d f s) (q .query) (q .start) (q .stop)
+      F : Fall t q 4096 never end (r .tail) (r .tail) nothing x l w
+      F =
+          subst (λ (c : ℕ). Fall t q 4096 never end c (r .tail) nothing x l w) (Q .idle)
+          (subst (λ (c : ℕ). Fall t q 4096 never c (r .head) (r .tail) nothing x l w) (Q .goes-on .end)
+          (subst (λ (c : ℕ). Fall t q 4096 c (r .end) (r .head) (r .tail) nothing x l w) (Q .goes-on .day) (Q .goes-on .state)))
 
-      za : Bool
-      za = eqb (getD x (getD f j 0) 0) 0
+  module _ (W : WholeWindow d f s q) {x : List ℕ} (M : Remaining t q x) (j : ℕ) (b : j < length d) where
+    rank-a : getD f j 0 < 4096
+    rank-a = let y = W .sound .rows j b in let z = y .accounts in let k = y .account-to in omega arith
 
-      zb : Bool
-      zb = eqb (getD x (getD s j 0) 0) 0
+    rank-b : getD s j 0 < 4096
+    rank-b = let k = W .sound .rows j b .account-to in omega arith
 
-      test : Bool
-      test = za and zb
+    pub stays-place : RowAccounts f s x j
+    stays-place =
+        let a = W .sound .firsts in let c = W .sound .seconds in let n = M .long in let y = rank-a in let z = rank-b in
+        record { first = omega arith; second = omega arith; first-account = omega arith; second-account = omega arith }
 
-      stayed : (u : ℕ) → u < 4096 → Rattle.rings.specs.Ring.met (tableOf d f s) rg u ≡ true → getD x u 0 ≡ 0
-      stayed u k m = ⊎-elim (λ z. z) (λ g. absurd (fell-not (tableOf d f s) (q .query) (q .start) (q .stop) (q .lo) (R .setting) F u k g order m)) (fell-look x u)
+    -- all rows are those of the window
+    inside : Opens t (q .start) (q .stop) j
+    unfolding dayOf at
+    inside = day-opens t (q .start) (q .stop) j (W .from .after j (let e = W .lo in omega arith) b) (let e = W .to .before j b in omega arith)
 
-      goes : marked rg j ≡ true → test ≡ true
-      goes h =
-          let k = in-marked (tableOf d f s) (q .query) (q .start) (q .stop) j h in
-          and-i (eq-eqb (getD x (getD f j 0) 0) 0 (stayed (getD f j 0) rank-a (met-first (tableOf d f s) (q .query) (q .start) (q .stop) j k))) (eq-eqb (getD x (getD s j 0) 0) 0 (stayed (getD s j 0) rank-b (met-second (tableOf d f s) (q .query) (q .start) (q .stop) j k)))
+    pub stays-ring : {y : Bool} → y ≡ bothRemain f s x j → marked rg j ≡ y
+    unfolding firstOf secondOf at
+    stays-ring {y} e = same-truth (marked rg j) (za and zb) goes comes ∙ sym e
+      where
+        za : Bool
+        za = eqb (getD x (getD f j 0) 0) 0
 
-      comes : test ≡ true → marked rg j ≡ true
-      comes h =
-          let m : (u : ℕ) → u < 4096 → getD x u 0 ≡ 0 → Rattle.rings.specs.Ring.met (tableOf d f s) rg u ≡ true = stays-met (tableOf d f s) (q .query) (q .start) (q .stop) (q .lo) (R .setting) F days-inside in
-          marked-in (tableOf d f s) (q .query) (q .start) (q .stop) j
-          (opens-ring (tableOf d f s) (q .query) (q .start) (q .stop) j b (inside from to)
-          (m (getD f j 0) rank-a (eqb-true (getD x (getD f j 0) 0) 0 (and-l za zb h))) (m (getD s j 0) rank-b (eqb-true (getD x (getD s j 0) 0) 0 (and-r za zb h))))
+        zb : Bool
+        zb = eqb (getD x (getD s j 0) 0) 0
+
+        goes : marked rg j ≡ true → za and zb ≡ true
+        goes h =
+            let k = in-marked t (q .query) (q .start) (q .stop) j h in
+            and-i (eq-eqb (getD x (getD f j 0) 0) 0 (M .met-is (getD f j 0) rank-a (met-first t (q .query) (q .start) (q .stop) j k)))
+            (eq-eqb (getD x (getD s j 0) 0) 0 (M .met-is (getD s j 0) rank-b (met-second t (q .query) (q .start) (q .stop) j k)))
+
+        comes : za and zb ≡ true → marked rg j ≡ true
+        comes h =
+            marked-in t (q .query) (q .start) (q .stop) j
+            (opens-ring t (q .query) (q .start) (q .stop) j b inside
+            (M .is-met (getD f j 0) rank-a (eqb-true (getD x (getD f j 0) 0) 0 (and-l za zb h))) (M .is-met (getD s j 0) rank-b (eqb-true (getD x (getD s j 0) 0) 0 (and-r za zb h))))

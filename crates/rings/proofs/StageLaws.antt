@@ -1,4 +1,12 @@
 -- The stages of peeling (src/peel.rt): drain, leave, fade, count_neighbours, weed.
+--     SameLengths, same-start, same-next        the lengths of the three lists, which no step changes
+--     Drain, Fading, Counting, Weed             the invariants of the loops
+--     tail-most, drain-start, drain-next, drain-end    the queue
+--     leave-row, leave-place, leave-accounts, leave-old, leave-a-fell, leave-b-fell, leave-room-a, leave-room-b, leave-now, leave-left    a row leaves
+--     fading-start, fading-next, fading-end     the rows leave, from the last on
+--     counted-start, count-start, count-below, count-place, count-first, count-second, count-skip, count-row, count-end    the neighbours
+--     fall-start, weed-start, weed-small, weed-room, weed-left, weed-keep, weed-fall, weed-end    who has fewer than k neighbours
+--     core-start, fade-start                    the stages together
 -- Assumes nothing.
 use Prim.Native.Nat.{ℕ, zero, suc, _+_, _-_, _*_, _≤_, _<_}
 use native.Mathlib.Nat.{le-refl, le-antisymm, eq-or-lt-of-le, not-suc-le-zero}
@@ -17,13 +25,15 @@ use Rattle.rings.specs.Table.{Table, tableOf, dayOf, firstOf, secondOf}
 use Rattle.rings.specs.Ring.{touches, query}
 use Rattle.rings.specs.CoreTimes.{never}
 use Rattle.rings.specs.Inner.Links.{fresh}
-use Rattle.rings.specs.Inner.Peeling.{Lost, fallen, Ready, Falling, Walking, Counted, Fade, Span, CoreTimesAre}
+use Rattle.rings.specs.Inner.Peeling.{PeelBuffers, Losable, Lost, fallen, Fall, nothing, Ready, Counted, Span, CoreTimesAre}
+use Rattle.rings.specs.Inner.Peeling.{allRows, Falling, Continues, HeadWalked, QueueEmpty, Fade, RowLeaves, RowLeft}
 use Rattle.rings.specs.declared.frame.Frame.{Frame}
+use Rattle.rings.specs.declared.peel.Removal.{Removal}
 use Rattle.rings.proofs.WordLaws.{look, clash, and-i, and-l, and-r, no-i, no-e, same-truth, count-same, count-none, count-pos, count-le, same-or}
 use Rattle.rings.proofs.RingLaws.{touch-cases, touch-first, touch-second}
 use Rattle.rings.proofs.PairLaws.{count-drop}
 use Rattle.rings.proofs.LeadLaws.{fresh-from, fresh-test}
-use Rattle.rings.proofs.FallLaws.{fell-look, room, times-fall, queue-fall, fall-lower, walk-start, leave-stale, leave-fell, leave-first-one, leave-second-one, leave-both, next-day, fall-times}
+use Rattle.rings.proofs.FallLaws.{fell-look, room, times-fall, queue-fall, fall-lower, leave-stale, leave-fell, leave-first-one, leave-second-one, leave-both, next-day, fall-times}
 
 -- nobody has fallen exactly where all times are 0
 fallen-none : (x : List ℕ) → ((u : ℕ) → u < 4096 → getD x u 0 ≡ 0) → fallen x ≡ 0
@@ -35,39 +45,97 @@ unfolding fallen
 none-fallen x e u k =
     ⊎-elim (λ z. z) (λ f. let p : 0 < count (λ u. no (eqb (getD x u 0) 0)) 4096 = count-pos (λ u. no (eqb (getD x u 0) 0)) 4096 u k (no-i (ne-eqb (getD x u 0) 0 f)) in absurd (omega arith)) (fell-look x u)
 
-pub count-end : {t : Table} {lo j end : ℕ} {l : List ℕ} → Counted t lo j l → j ≤ end → end ≤ j → Counted t lo end l
-count-end {t} {lo} {j} {end} {l} C a b = subst (λ (c : ℕ). Counted t lo c l) (le-antisymm a b) C
+-- ---- the lengths of the three lists, which no step changes
 
--- the accounts below u have been looked at; none from u on has fallen
-pub record Weed (d f s : List ℕ) (q : Frame) (u end last : ℕ) (x l w : List ℕ) : Type 0 where
-  pub state : Falling d f s q u never end 0 last x l w
+pub record SameLengths (x₀ l₀ w₀ x l w : List ℕ) : Type 0 where
+  pub times : length x ≡ length x₀
+  pub left : length l ≡ length l₀
+  pub queue : length w ≡ length w₀
+
+pub same-start : (x l w : List ℕ) → SameLengths x l w x l w
+same-start x l w = record { times = refl; left = refl; queue = refl }
+
+pub same-next : {x₀ l₀ w₀ x l w x′ l′ w′ : List ℕ} → SameLengths x₀ l₀ w₀ x l w → length x′ ≡ length x → length l′ ≡ length l → length w′ ≡ length w → SameLengths x₀ l₀ w₀ x′ l′ w′
+same-next S ex el ew = record { times = ex ∙ S .times; left = el ∙ S .left; queue = ew ∙ S .queue }
+
+-- ---- the invariants of the loops
+
+-- drain: the removal has gone on from m to state
+pub record Drain (d f s : List ℕ) (q : Frame) (m state : Removal) (x₀ l₀ w₀ x l w : List ℕ) : Type 0 where
+  pub lengths : SameLengths x₀ l₀ w₀ x l w
+  pub goes-on : Continues d f s q m state x l w
+
+-- fade: the rows from the end of state on have left
+pub record Fading (d f s : List ℕ) (q : Frame) (state : Removal) (x₀ l₀ w₀ x l w : List ℕ) : Type 0 where
+  pub lengths : SameLengths x₀ l₀ w₀ x l w
+  pub fade : Fade d f s q state x l w
+
+-- count_neighbours: the rows below j have been counted
+pub record Counting (d f s : List ℕ) (q : Frame) (j end : ℕ) (l₀ l : List ℕ) : Type 0 where
+  pub lengths : length l ≡ length l₀
+  pub most : j ≤ end
+  pub counted : Counted (tableOf d f s) (q .lo) j l
+
+-- weed: the accounts below u have been looked at; none from u on has fallen
+pub record Weed (d f s : List ℕ) (q : Frame) (u end tail : ℕ) (x₀ w₀ x l w : List ℕ) : Type 0 where
+  pub times-length : length x ≡ length x₀
+  pub queue-length : length w ≡ length w₀
+  pub most : u ≤ 4096
+  pub state : Fall (tableOf d f s) q u never end 0 tail nothing x l w
   pub rest : (v : ℕ) → u ≤ v → v < 4096 → getD x v 0 ≡ 0
+
+pub count-end : {d f s : List ℕ} {q : Frame} {j end : ℕ} {l₀ l : List ℕ} → Counting d f s q j end l₀ l → end ≤ j → Counted (tableOf d f s) (q .lo) end l
+count-end {d} {f} {s} {q} {l = l} C h = subst (λ (c : ℕ). Counted (tableOf d f s) (q .lo) c l) (le-antisymm (C .most) h) (C .counted)
 
 module _ (d f s links : List ℕ) (q : Frame) (R : Ready d f s links q) where
   abbrev t : Table
   t = tableOf d f s
 
   abbrev Falls : ℕ → ℕ → ℕ → ℕ → ℕ → List ℕ → List ℕ → List ℕ → Type 0
-  Falls b e r head tail x l w = Falling d f s q b e r head tail x l w
+  Falls b e r head tail x l w = Fall t q b e r head tail nothing x l w
 
   -- ---- drain
 
-  module _ {e r head tail : ℕ} {x l w : List ℕ} (F : Falls 4096 e r head tail x l w) where
-    pub tail-most : tail ≤ 4096
-    unfolding fallen
-    tail-most = subst (λ (c : ℕ). c ≤ 4096) (sym (F .queue .tail-is)) (count-le (λ u. no (eqb (getD x u 0) 0)) 4096)
+  pub tail-most : {b : ℕ} {m : Removal} {x l w : List ℕ} → Falling d f s q b m x l w → m .tail ≤ 4096
+  unfolding fallen
+  tail-most {x = x} F = subst (λ (c : ℕ). c ≤ 4096) (sym (F .queue .tail-is)) (count-le (λ u. no (eqb (getD x u 0) 0)) 4096)
 
-    pub drain-walk : head < tail → {u : ℕ} → u ≡ getD w head 0 → Walking d f s q 0 e r head tail u x l w
-    drain-walk h {u} eu = subst (λ (c : ℕ). Walking d f s q 0 e r head tail c x l w) (sym eu) (walk-start t (q .query) (q .start) (q .stop) (q .lo) (R .setting) F h)
+  pub drain-start : {m : Removal} {x l w : List ℕ} → Falling d f s q 4096 m x l w → Drain d f s q m m x l w x l w
+  drain-start {m} {x} {l} {w} F = record { lengths = same-start x l w; goes-on = record { state = F; day = refl; end = refl } }
 
-    pub drain-end : tail ≤ head → Falls 4096 e r tail tail x l w
-    drain-end h = subst (λ (c : ℕ). Falls 4096 e r c tail x l w) (le-antisymm (F .queue .in-order) h) F
+  module _ {m state : Removal} {x₀ l₀ w₀ x l w : List ℕ} (D : Drain d f s q m state x₀ l₀ w₀ x l w) where
+    pub drain-next : {r : Removal} {x′ l′ w′ : List ℕ} → length x′ ≡ length x → length l′ ≡ length l → length w′ ≡ length w → HeadWalked d f s q state r x′ l′ w′ → Drain d f s q m r x₀ l₀ w₀ x′ l′ w′
+    drain-next ex el ew W = record { lengths = same-next (D .lengths) ex el ew; goes-on = record { state = W .goes-on .state; day = W .goes-on .day ∙ D .goes-on .day; end = W .goes-on .end ∙ D .goes-on .end } }
+
+    pub drain-end : state .tail ≤ state .head → QueueEmpty d f s q m state x l w
+    drain-end h = record { goes-on = D .goes-on; idle = le-antisymm (D .goes-on .state .queue .in-order) h }
 
   -- ---- leave
 
-  module _ {e j tail : ℕ} {x l w : List ℕ} (b : j < length d) (day : e ≡ getD d j 0) (F : Falls 4096 e (j + 1) tail tail x l w) where
+  pub leave-row : {m : Removal} {x l w : List ℕ} → RowLeaves d f s q m x l w → m .end - 1 < length d
+  leave-row L = let a = L .some in let b = L .fade .within in omega arith
+
+  module _ {m : Removal} {x l w : List ℕ} (L : RowLeaves d f s q m x l w) {e : ℕ} (day : e ≡ getD d (m .end - 1) 0) where
+    abbrev j : ℕ
+    j = m .end - 1
+
+    abbrev tail : ℕ
+    tail = m .tail
+
+    b : j < length d
+    b = leave-row L
+
+    one-more : m .end ≡ suc j
+    one-more = let a = L .some in omega arith
+
+    -- the state for the day of this row
     G : Falls 4096 e (suc j) tail tail x l w
-    G = rw (add-one j) at F
+    unfolding dayOf at
+    G =
+        let z = L .fade .dated j (omega (arith, one-more)) in
+        subst (λ (c : ℕ). Falls 4096 c (suc j) tail tail x l w) (sym day)
+        (next-day t q (R .setting) (subst (λ (c : ℕ). Falls 4096 (m .day) c tail tail x l w) one-more (subst (λ (c : ℕ). Falls 4096 (m .day) (m .end) c tail x l w) (L .fade .idle) (L .fade .state)))
+        b (z .0) (z .1) (L .fade .above j (omega (arith, one-more))))
 
     e-day : e ≤ dayOf t j
     unfolding dayOf at
@@ -84,25 +152,47 @@ module _ (d f s links : List ℕ) (q : Frame) (R : Ready d f s links q) where
     b-small = let k = R .sound .rows j b .account-to in omega arith
 
     pub leave-place : (length d ≤ 16384) × (j < length d) × (8192 + 2 * length d + j < length links)
-    leave-place = let a = R .linked .long in (R .sound .most, b, omega arith)
+    leave-place = let a = R .linked .long in (R .sound .most, b, omega (arith, b))
 
     pub leave-accounts : {a c : ℕ} → a ≡ getD f j 0 → c ≡ getD s j 0 → (a < length x) × (c < length x)
-    leave-accounts ea ec = let y = a-small in let z = b-small in let n = F .len-x in (omega arith, omega arith)
+    leave-accounts ea ec = let y = a-small in let z = b-small in let n = L .fade .state .buffers .times in (omega arith, omega arith)
 
-    pub leave-old : {y : Bool} → y ≡ (leb (q .lo) j and leb (getD links (8192 + 2 * length d + j) 0) (q .lo)) → y ≡ false → Falls 4096 e j tail tail x l w
-    leave-old h g = leave-stale t (q .query) (q .start) (q .stop) (q .lo) (R .setting) G e-day (fresh-is h ∙ g)
+    -- the row has left: nobody waits after that
+    pub leave-left : {r n : Removal} {x′ l′ w′ : List ℕ} → n .day ≡ e → n .end ≡ j → QueueEmpty d f s q n r x′ l′ w′ → RowLeft d f s q m r x′ l′ w′
+    unfolding dayOf at
+    leave-left {r} {n} ed en Q =
+        let a = L .fade .within in let o = L .some in let g : r .end ≡ j = Q .goes-on .end ∙ en in
+        record {
+          fade = record {
+            state = Q .goes-on .state;
+            idle = Q .idle;
+            above = λ i k. subst (λ (c : ℕ). getD d i 0 ≤ c) (sym (Q .goes-on .day ∙ (ed ∙ day))) (R .setting .rising i j (omega arith) b);
+            within = omega arith;
+            from = omega arith;
+            dated = λ i k. L .fade .dated i (omega arith);
+          };
+          fewer = omega arith;
+        }
 
-    pub leave-a-fell : {a v : ℕ} → a ≡ getD f j 0 → v ≡ getD x a 0 → (v ≡ 0 → ⊥) → Falls 4096 e j tail tail x l w
+    -- it has left, and nobody fell
+    gone : Falls 4096 e j tail tail x l w → RowLeft d f s q m (record { day = e; end = j; head = tail; tail = tail }) x l w
+    gone F = leave-left {n = record { day = e; end = j; head = tail; tail = tail }} refl refl (record { goes-on = record { state = F; day = refl; end = refl }; idle = refl })
+
+    pub leave-old : {y : Bool} → y ≡ (leb (q .lo) j and leb (getD links (8192 + 2 * length d + j) 0) (q .lo)) → y ≡ false → RowLeft d f s q m (record { day = e; end = j; head = tail; tail = tail }) x l w
+    leave-old h g = gone (leave-stale t q (R .setting) G e-day (fresh-is h ∙ g))
+
+    pub leave-a-fell : {a v : ℕ} → a ≡ getD f j 0 → v ≡ getD x a 0 → (v ≡ 0 → ⊥) → RowLeft d f s q m (record { day = e; end = j; head = tail; tail = tail }) x l w
     unfolding firstOf at
     leave-a-fell {a} {v} ea ev n =
-        leave-fell t (q .query) (q .start) (q .stop) (q .lo) (R .setting) G e-day b a (subst (λ (c : ℕ). touches t j c ≡ true) (sym ea) (touch-first t j)) (λ z. n (ev ∙ z))
+        gone (leave-fell t q (R .setting) G e-day b a (subst (λ (c : ℕ). touches t j c ≡ true) (sym ea) (touch-first t j)) (λ z. n (ev ∙ z)))
 
-    pub leave-b-fell : {c v : ℕ} → c ≡ getD s j 0 → v ≡ getD x c 0 → (v ≡ 0 → ⊥) → Falls 4096 e j tail tail x l w
+    pub leave-b-fell : {c v : ℕ} → c ≡ getD s j 0 → v ≡ getD x c 0 → (v ≡ 0 → ⊥) → RowLeft d f s q m (record { day = e; end = j; head = tail; tail = tail }) x l w
     unfolding secondOf at
     leave-b-fell {c} {v} ec ev n =
-        leave-fell t (q .query) (q .start) (q .stop) (q .lo) (R .setting) G e-day b c (subst (λ (g : ℕ). touches t j g ≡ true) (sym ec) (touch-second t j)) (λ z. n (ev ∙ z))
+        gone (leave-fell t q (R .setting) G e-day b c (subst (λ (g : ℕ). touches t j g ≡ true) (sym ec) (touch-second t j)) (λ z. n (ev ∙ z)))
 
-    module _ {y : Bool} (ey : y ≡ (leb (q .lo) j and leb (getD links (8192 + 2 * length d + j) 0) (q .lo))) (yes : y ≡ true) {a c va vc : ℕ} (ea : a ≡ getD f j 0) (ec : c ≡ getD s j 0) (va-is : va ≡ getD x a 0) (vc-is : vc ≡ getD x c 0) (za : va ≡ 0) (zc : vc ≡ 0) where
+    module _ {y : Bool} (ey : y ≡ (leb (q .lo) j and leb (getD links (8192 + 2 * length d + j) 0) (q .lo))) (yes : y ≡ true)
+        {a c va vc : ℕ} (ea : a ≡ getD f j 0) (ec : c ≡ getD s j 0) (va-is : va ≡ getD x a 0) (vc-is : vc ≡ getD x c 0) (za : va ≡ 0) (zc : vc ≡ 0) where
       f-is : fresh t (q .lo) j ≡ true
       f-is = fresh-is ey ∙ yes
 
@@ -120,51 +210,35 @@ module _ (d f s links : List ℕ) (q : Frame) (R : Ready d f s links q) where
       zero-c : getD x (secondOf t j) 0 ≡ 0
       zero-c = ap (λ (g : ℕ). getD x g 0) (sym c-is) ∙ (sym vc-is ∙ zc)
 
-      pub leave-room-a : ((a < 4096) × (length x ≡ 4096) × (length l ≡ 4096) × (4096 ≤ length w)) × ((0 < getD l a 0) × (getD l a 0 ≡ q .query .k → tail < 4096))
-      leave-room-a =
-          let k = a-small in (
-            (omega arith, F .len-x, F .len-d, F .len-w),
-            subst (λ (g : ℕ). (0 < getD l g 0) × (getD l g 0 ≡ q .query .k → tail < 4096)) (sym a-is) (leave-first-one t (q .query) (q .start) (q .stop) (q .lo) (R .setting) G e-day b f-is zero-a zero-c),
-          )
+      pub leave-room-a : Losable (q .query .k) tail a x l w
+      leave-room-a = subst (λ (g : ℕ). Losable (q .query .k) tail g x l w) (sym a-is) (leave-first-one t q (R .setting) G e-day b f-is zero-a zero-c)
 
-      module _ {x₁ l₁ w₁ : List ℕ} {one : ℕ} (n₁ : length x₁ ≡ length x) (n₂ : length l₁ ≡ length l) (n₃ : length w₁ ≡ length w) (L : Lost (q .query .k) e tail a x l w x₁ l₁ w₁ one) where
-        L′ : Lost (q .query .k) e tail (firstOf t j) x l w x₁ l₁ w₁ one
-        L′ = subst (λ (g : ℕ). Lost (q .query .k) e tail g x l w x₁ l₁ w₁ one) a-is L
+      module _ {x₁ l₁ w₁ : List ℕ} {one : ℕ} (A : Lost (q .query .k) e tail a x l w x₁ l₁ w₁ one) where
+        A′ : Lost (q .query .k) e tail (firstOf t j) x l w x₁ l₁ w₁ one
+        A′ = subst (λ (g : ℕ). Lost (q .query .k) e tail g x l w x₁ l₁ w₁ one) a-is A
 
-        pub leave-room-b : ((c < 4096) × (length x₁ ≡ 4096) × (length l₁ ≡ 4096) × (4096 ≤ length w₁)) × ((0 < getD l₁ c 0) × (getD l₁ c 0 ≡ q .query .k → one < 4096))
-        leave-room-b =
-            let k = b-small in (
-              (omega arith, n₁ ∙ F .len-x, n₂ ∙ F .len-d, let o = F .len-w in omega arith),
-              subst (λ (g : ℕ). (0 < getD l₁ g 0) × (getD l₁ g 0 ≡ q .query .k → one < 4096)) (sym c-is) (leave-second-one t (q .query) (q .start) (q .stop) (q .lo) (R .setting) G e-day b f-is zero-a zero-c L′),
-            )
+        pub leave-room-b : Losable (q .query .k) one c x₁ l₁ w₁
+        leave-room-b = subst (λ (g : ℕ). Losable (q .query .k) one g x₁ l₁ w₁) (sym c-is) (leave-second-one t q (R .setting) G e-day b f-is zero-a zero-c A′)
 
         pub leave-now : {x₂ l₂ w₂ : List ℕ} {two : ℕ} → Lost (q .query .k) e one c x₁ l₁ w₁ x₂ l₂ w₂ two → Falls 4096 e j tail two x₂ l₂ w₂
-        leave-now {x₂} {l₂} {w₂} {two} M = leave-both t (q .query) (q .start) (q .stop) (q .lo) (R .setting) G e-day b f-is zero-a zero-c L′ (subst (λ (g : ℕ). Lost (q .query .k) e one g x₁ l₁ w₁ x₂ l₂ w₂ two) c-is M)
+        leave-now {x₂} {l₂} {w₂} {two} M = leave-both t q (R .setting) G e-day b f-is zero-a zero-c A′ (subst (λ (g : ℕ). Lost (q .query .k) e one g x₁ l₁ w₁ x₂ l₂ w₂ two) c-is M)
 
   -- ---- fade
 
-  module _ {r tail : ℕ} {x l w : List ℕ} (F : Fade d f s q r tail x l w) where
-    pub fade-row : q .lo < r → r - 1 < length d
-    fade-row h = let a = F .within in omega arith
+  pub fading-start : {m : Removal} {x l w : List ℕ} → Fade d f s q m x l w → Fading d f s q m x l w x l w
+  fading-start {x = x} {l} {w} F = record { lengths = same-start x l w; fade = F }
 
-    pub fade-next : q .lo < r → {e : ℕ} → e ≡ getD d (r - 1) 0 → Falls 4096 e (r - 1 + 1) tail tail x l w
-    unfolding dayOf at
-    fade-next h {e} ee =
-        let y = fade-row h in
-        let g : r ≡ suc (r - 1) = omega arith in
-        let z = F .dated (r - 1) (omega arith) in
-        subst (λ (c : ℕ). Falls 4096 e c tail tail x l w) (sym (add-one (r - 1)))
-        (subst (λ (c : ℕ). Falls 4096 c (suc (r - 1)) tail tail x l w) (sym ee)
-        (next-day t (q .query) (q .start) (q .stop) (q .lo) (R .setting) (subst (λ (c : ℕ). Falls 4096 (F .e) c tail tail x l w) g (F .state)) y (z .0) (z .1) (F .above (r - 1) (omega arith))))
+  module _ {state : Removal} {x₀ l₀ w₀ x l w : List ℕ} (F : Fading d f s q state x₀ l₀ w₀ x l w) where
+    pub fading-next : {r : Removal} {x′ l′ w′ : List ℕ} → length x′ ≡ length x → length l′ ≡ length l → length w′ ≡ length w → RowLeft d f s q state r x′ l′ w′ → Fading d f s q r x₀ l₀ w₀ x′ l′ w′
+    fading-next ex el ew L = record { lengths = same-next (F .lengths) ex el ew; fade = L .fade }
 
-    pub fade-left : q .lo < r → {e tail′ : ℕ} {x′ l′ w′ : List ℕ} → e ≡ getD d (r - 1) 0 → Falls 4096 e (r - 1) tail′ tail′ x′ l′ w′ → Fade d f s q (r - 1) tail′ x′ l′ w′
-    unfolding dayOf at
-    fade-left h {e} ee G =
-        let a = F .within in
-        record { e = e; state = G; above = λ j k. subst (λ (c : ℕ). getD d j 0 ≤ c) (sym ee) (R .setting .rising j (r - 1) (omega arith) (omega arith)); within = omega arith; from = omega arith; dated = λ j k. F .dated j (omega arith) }
-
-    pub fade-end : r ≤ q .lo → CoreTimesAre d f s q x
-    fade-end h = record { long = F .state .len-x; times = λ u k. fall-times t (q .query) (q .start) (q .stop) (q .lo) (R .setting) (subst (λ (c : ℕ). Falls 4096 (F .e) c tail tail x l w) (le-antisymm h (F .from)) (F .state)) u k }
+    pub fading-end : state .end ≤ q .lo → CoreTimesAre d f s q x
+    fading-end h =
+        let g : state .end ≡ q .lo = le-antisymm h (F .fade .from) in
+        record {
+          long = F .fade .state .buffers .times;
+          times = λ u k. fall-times t q (R .setting) (subst (λ (c : ℕ). Falls 4096 (state .day) c (state .tail) (state .tail) x l w) g (subst (λ (c : ℕ). Falls 4096 (state .day) (state .end) c (state .tail) x l w) (F .fade .idle) (F .fade .state))) u k;
+        }
 
   -- ---- count_neighbours
 
@@ -209,21 +283,27 @@ module _ (d f s links : List ℕ) (q : Frame) (R : Ready d f s links q) where
       none u i =
           ⊎-elim (λ h. let a = counts-below (q .lo) u i h in let b = fresh-from t (q .lo) i (and-l (fresh t (q .lo) i) (ltb i (q .lo)) (and-l (fresh t (q .lo) i and ltb i (q .lo)) (touches t i u) h)) in absurd (omega arith)) (λ h. h) (look (counts-for (q .lo) u i))
 
-  module _ {j end : ℕ} {l : List ℕ} (C : Counted t (q .lo) j l) (below : j < end) (within : end ≤ length d) where
-    j-row : j < length d
-    j-row = omega arith
+  pub count-start : {end : ℕ} {l : List ℕ} → Span d (q .stop) (q .lo) end → Counted t (q .lo) (q .lo) l → Counting d f s q (q .lo) end l l
+  count-start Sp C = record { lengths = refl; most = Sp .ordered; counted = C }
+
+  module _ {j end : ℕ} {l₀ l : List ℕ} (K : Counting d f s q j end l₀ l) (below : j < end) (Sp : Span d (q .stop) (q .lo) end) where
+    C : Counted t (q .lo) j l
+    C = K .counted
+
+    pub count-below : j < length d
+    count-below = let a = Sp .within in omega arith
 
     row-a : getD f j 0 < 4096
-    row-a = let y = R .sound .rows j j-row in let z = y .accounts in let k = y .account-to in omega arith
+    row-a = let y = R .sound .rows j count-below in let z = y .accounts in let k = y .account-to in omega arith
 
     row-b : getD s j 0 < 4096
-    row-b = let k = R .sound .rows j j-row .account-to in omega arith
+    row-b = let k = R .sound .rows j count-below .account-to in omega arith
 
     fresh-of : {y : Bool} → y ≡ (leb (q .lo) j and leb (getD links (8192 + 2 * length d + j) 0) (q .lo)) → fresh t (q .lo) j ≡ y
-    fresh-of h = sym (fresh-test t (q .lo) j (R .linked .pairs j j-row) h)
+    fresh-of h = sym (fresh-test t (q .lo) j (R .linked .pairs j count-below) h)
 
     pub count-place : (length d ≤ 16384) × (j < length d) × (8192 + 2 * length d + j < length links)
-    count-place = let a = R .linked .long in let b = j-row in (R .sound .most, b, omega arith)
+    count-place = let a = R .linked .long in let b = count-below in (R .sound .most, b, omega arith)
 
     small-count : (u : ℕ) → u < 4096 → getD l u 0 ≤ 16384
     small-count u k = let a = C .rows u k in let b = count-le (counts-for j u) (length d) in let c = R .sound .most in omega arith
@@ -236,25 +316,29 @@ module _ (d f s links : List ℕ) (q : Frame) (R : Ready d f s links q) where
         let k : b < 4096 = subst (λ (c : ℕ). c < 4096) (sym eb) row-b in
         let x : length l₁ ≡ length l = ap length e₁ ∙ length-set l a (m + 1) in
         let o = C .long in
-        let y : n ≡ getD l b 0 = en ∙ (ap (λ (c : List ℕ). getD c b 0) e₁ ∙ getD-set-other l a b (m + 1) 0 (λ z. let g = R .sound .rows j j-row .accounts in omega arith)) in
+        let y : n ≡ getD l b 0 = en ∙ (ap (λ (c : List ℕ). getD c b 0) e₁ ∙ getD-set-other l a b (m + 1) 0 (λ z. let g = R .sound .rows j count-below .accounts in omega arith)) in
         (omega arith, subst (λ (c : ℕ). c ≤ 16384) (sym y) (small-count b k))
 
-    pub count-skip : {y : Bool} → y ≡ (leb (q .lo) j and leb (getD links (8192 + 2 * length d + j) 0) (q .lo)) → y ≡ false → Counted t (q .lo) (j + 1) l
-    count-skip h n = record { long = C .long; rows = λ u k. C .rows u k ∙ sym (counts-still j u (_⊎_.inl (fresh-of h ∙ n))) }
+    pub count-skip : {y : Bool} → y ≡ (leb (q .lo) j and leb (getD links (8192 + 2 * length d + j) 0) (q .lo)) → y ≡ false → Counting d f s q (j + 1) end l₀ l
+    count-skip h n = record { lengths = K .lengths; most = omega arith; counted = record { long = C .long; rows = λ u k. C .rows u k ∙ sym (counts-still j u (_⊎_.inl (fresh-of h ∙ n))) } }
 
-    pub count-row : {y : Bool} → y ≡ (leb (q .lo) j and leb (getD links (8192 + 2 * length d + j) 0) (q .lo)) → y ≡ true → {l₁ l₂ : List ℕ} {a b m n : ℕ} → a ≡ getD f j 0 → b ≡ getD s j 0 → m ≡ getD l a 0 → l₁ ≡ set l a (m + 1) → n ≡ getD l₁ b 0 → l₂ ≡ set l₁ b (n + 1) → Counted t (q .lo) (j + 1) l₂
+    pub count-row : {y : Bool} → y ≡ (leb (q .lo) j and leb (getD links (8192 + 2 * length d + j) 0) (q .lo)) → y ≡ true → {l₁ l₂ : List ℕ} {a b m n : ℕ} → a ≡ getD f j 0 → b ≡ getD s j 0 → m ≡ getD l a 0 → l₁ ≡ set l a (m + 1) → n ≡ getD l₁ b 0 → l₂ ≡ set l₁ b (n + 1) → Counting d f s q (j + 1) end l₀ l₂
     unfolding firstOf secondOf at
     count-row h y {l₁} {l₂} {a} {b} {m} {n} ea eb em e₁ en e₂ =
         record {
-          long = ap length e₂ ∙ (length-set l₁ b (n + 1) ∙ (ap length e₁ ∙ (length-set l a (m + 1) ∙ C .long)));
-          rows = λ u k. ⊎-elim (λ z. at-b u k z) (λ z. ⊎-elim (λ g. at-a u k g z) (λ g. elsewhere u k g z) (same-or u a)) (same-or u b);
+          lengths = same ∙ K .lengths;
+          most = omega arith;
+          counted = record { long = same ∙ C .long; rows = λ u k. ⊎-elim (λ z. at-b u k z) (λ z. ⊎-elim (λ g. at-a u k g z) (λ g. elsewhere u k g z) (same-or u a)) (same-or u b) };
         }
       where
+        same : length l₂ ≡ length l
+        same = ap length e₂ ∙ (length-set l₁ b (n + 1) ∙ (ap length e₁ ∙ length-set l a (m + 1)))
+
         fr : fresh t (q .lo) j ≡ true
         fr = fresh-of h ∙ y
 
         ab : a ≡ b → ⊥
-        ab z = let g = R .sound .rows j j-row .accounts in omega arith
+        ab z = let g = R .sound .rows j count-below .accounts in omega arith
 
         ta : touches t j a ≡ true
         ta = subst (λ (u : ℕ). touches t j u ≡ true) (sym ea) (touch-first t j)
@@ -271,7 +355,7 @@ module _ (d f s links : List ℕ) (q : Frame) (R : Ready d f s links q) where
         at-b : (u : ℕ) → u < 4096 → u ≡ b → getD l₂ u 0 ≡ count (counts-for (j + 1) u) (length d)
         at-b u k z =
             let x : getD l₂ u 0 ≡ n + 1 = at-l u ∙ (ap (λ (c : ℕ). getD (set (set l a (m + 1)) b (n + 1)) c 0) z ∙ getD-set-same (set l a (m + 1)) b (n + 1) 0 (let o = length-set l a (m + 1) in let g = C .long in omega arith)) in
-            let r : count (counts-for (j + 1) u) (length d) ≡ suc (count (counts-for j u) (length d)) = counts-more j u j-row fr (subst (λ (c : ℕ). touches t j c ≡ true) (sym z) tb) in
+            let r : count (counts-for (j + 1) u) (length d) ≡ suc (count (counts-for j u) (length d)) = counts-more j u count-below fr (subst (λ (c : ℕ). touches t j c ≡ true) (sym z) tb) in
             let c : getD l u 0 ≡ count (counts-for j u) (length d) = C .rows u k in
             let g : getD l b 0 ≡ getD l u 0 = ap (λ (c : ℕ). getD l c 0) (sym z) in
             let o = n-is in omega arith
@@ -279,7 +363,7 @@ module _ (d f s links : List ℕ) (q : Frame) (R : Ready d f s links q) where
         at-a : (u : ℕ) → u < 4096 → u ≡ a → (u ≡ b → ⊥) → getD l₂ u 0 ≡ count (counts-for (j + 1) u) (length d)
         at-a u k z nb =
             let x : getD l₂ u 0 ≡ m + 1 = at-l u ∙ (getD-set-other (set l a (m + 1)) b u (n + 1) 0 nb ∙ (ap (λ (c : ℕ). getD (set l a (m + 1)) c 0) z ∙ getD-set-same l a (m + 1) 0 (let g = C .long in omega arith))) in
-            let r : count (counts-for (j + 1) u) (length d) ≡ suc (count (counts-for j u) (length d)) = counts-more j u j-row fr (subst (λ (c : ℕ). touches t j c ≡ true) (sym z) ta) in
+            let r : count (counts-for (j + 1) u) (length d) ≡ suc (count (counts-for j u) (length d)) = counts-more j u count-below fr (subst (λ (c : ℕ). touches t j c ≡ true) (sym z) ta) in
             let c : getD l u 0 ≡ count (counts-for j u) (length d) = C .rows u k in
             let g : getD l a 0 ≡ getD l u 0 = ap (λ (c : ℕ). getD l c 0) (sym z) in omega arith
 
@@ -292,9 +376,7 @@ module _ (d f s links : List ℕ) (q : Frame) (R : Ready d f s links q) where
   pub fall-start : (x₀ : List ℕ) {x l w : List ℕ} {end : ℕ} → length x₀ ≡ 4096 → x ≡ replicate (length x₀) 0 → Counted t (q .lo) end l → 4096 ≤ length w → end ≤ length d → ((j : ℕ) → end ≤ j → j < length d → q .stop < dayOf t j) → Falls 0 never end 0 0 x l w
   fall-start x₀ {x} {l} {w} {end} n ex C m within later =
       record {
-        len-x = ap length ex ∙ (length-replicate {A = ℕ} (length x₀) 0 ∙ n);
-        len-d = C .long;
-        len-w = m;
+        buffers = record { times = ap length ex ∙ (length-replicate {A = ℕ} (length x₀) 0 ∙ n); left = C .long; queue = m };
         walked = λ u. false;
         live = λ j u. counts-for end u j;
         rows = record {
@@ -333,32 +415,36 @@ module _ (d f s links : List ℕ) (q : Frame) (R : Ready d f s links q) where
       nobody : fallen x ≡ 0
       nobody = fallen-none x zero
 
-  pub weed-start : {end : ℕ} {x l w : List ℕ} → Falls 0 never end 0 0 x l w → Weed d f s q 0 end 0 x l w
-  weed-start {end} {x} F = record { state = F; rest = λ v a k. none-fallen x (sym (F .queue .tail-is)) v k }
+  pub weed-start : {end : ℕ} {x l w : List ℕ} → Falling d f s q 0 (allRows end) x l w → Weed d f s q 0 end 0 x w x l w
+  weed-start {end} {x} F = record { times-length = refl; queue-length = refl; most = omega arith; state = F; rest = λ v a k. none-fallen x (sym (F .queue .tail-is)) v k }
 
-  pub weed-end : {u end last : ℕ} {x l w : List ℕ} → Weed d f s q u end last x l w → u ≤ 4096 → 4096 ≤ u → Falls 4096 never end 0 last x l w
-  weed-end {u} {end} {last} {x} {l} {w} W a b = subst (λ (c : ℕ). Falls c never end 0 last x l w) (le-antisymm a b) (W .state)
+  pub weed-end : {u end tail : ℕ} {x₀ w₀ x l w : List ℕ} → Weed d f s q u end tail x₀ w₀ x l w → 4096 ≤ u → Continues d f s q (allRows end) (record { day = never; end = end; head = 0; tail = tail }) x l w
+  weed-end {u} {end} {tail} {x = x} {l} {w} W h = record { state = subst (λ (c : ℕ). Falls c never end 0 tail x l w) (le-antisymm (W .most) h) (W .state); day = refl; end = refl }
 
-  module _ {end u last : ℕ} {x l w : List ℕ} (W : Weed d f s q u end last x l w) (k : u < 4096) where
-    F : Falls u never end 0 last x l w
+  module _ {end u tail : ℕ} {x₀ w₀ x l w : List ℕ} (W : Weed d f s q u end tail x₀ w₀ x l w) (k : u < 4096) where
+    F : Falls u never end 0 tail x l w
     F = W .state
 
     zero-u : getD x u 0 ≡ 0
     zero-u = W .rest u (le-refl u) k
 
-    pub weed-small : last < 4096
+    pub weed-small : tail < 4096
     weed-small = subst (λ (c : ℕ). c < 4096) (sym (F .queue .tail-is)) (room x u k zero-u)
 
-    pub weed-room : (last < length w) × (u < length x)
-    weed-room = let a = weed-small in let b = F .len-w in let c = F .len-x in (omega arith, omega arith)
+    pub weed-room : (tail < length w) × (u < length x)
+    weed-room = let a = weed-small in let b = F .buffers .queue in let c = F .buffers .times in (omega arith, omega arith)
 
-    pub weed-keep : q .query .k ≤ getD l u 0 → Weed d f s q (u + 1) end last x l w
+    pub weed-left : u < length l
+    weed-left = let a = F .buffers .left in omega arith
+
+    pub weed-keep : q .query .k ≤ getD l u 0 → Weed d f s q (u + 1) end tail x₀ w₀ x l w
     weed-keep h =
         record {
+          times-length = W .times-length;
+          queue-length = W .queue-length;
+          most = omega arith;
           state = record {
-            len-x = F .len-x;
-            len-d = F .len-d;
-            len-w = F .len-w;
+            buffers = F .buffers;
             walked = F .walked;
             live = F .live;
             rows = F .rows;
@@ -371,31 +457,32 @@ module _ (d f s links : List ℕ) (q : Frame) (R : Ready d f s links q) where
           rest = λ v a b. W .rest v (omega arith) b;
         }
 
-    pub weed-fall : getD l u 0 < q .query .k → {x′ w′ : List ℕ} → x′ ≡ set x u 65535 → w′ ≡ set w last u → Weed d f s q (u + 1) end (last + 1) x′ l w′
+    pub weed-fall : getD l u 0 < q .query .k → {x′ w′ : List ℕ} → x′ ≡ set x u 65535 → w′ ≡ set w tail u → Weed d f s q (u + 1) end (tail + 1) x₀ w₀ x′ l w′
     weed-fall h {x′} {w′} ex ew =
-        subst (λ (c : List ℕ). Weed d f s q (u + 1) end (last + 1) c l w′) (sym ex) (subst (λ (c : List ℕ). Weed d f s q (u + 1) end (last + 1) (set x u never) l c) (sym ew) fell)
+        subst (λ (c : List ℕ). Weed d f s q (u + 1) end (tail + 1) x₀ w₀ c l w′) (sym ex) (subst (λ (c : List ℕ). Weed d f s q (u + 1) end (tail + 1) x₀ w₀ (set x u never) l c) (sym ew) fell)
       where
         few : count (λ j. F .live j u) (length d) < q .query .k
         few = let a : getD l u 0 ≡ count (λ j. F .live j u) (length d) = F .counts .degrees u k zero-u in omega arith
 
         fell-u : (v : ℕ) → v ≡ u → getD (set x u never) v 0 ≡ 0 → ⊥
-        fell-u v y g = let a : getD (set x u never) v 0 ≡ never = ap (λ (c : ℕ). getD (set x u never) c 0) y ∙ getD-set-same x u never 0 (let n = F .len-x in omega arith) in omega arith
+        fell-u v y g = let a : getD (set x u never) v 0 ≡ never = ap (λ (c : ℕ). getD (set x u never) c 0) y ∙ getD-set-same x u never 0 (let n = F .buffers .times in omega arith) in omega arith
 
         same : (v : ℕ) → (v ≡ u → ⊥) → getD (set x u never) v 0 ≡ getD x v 0
         same v y = getD-set-other x u v never 0 y
 
-        fell : Weed d f s q (u + 1) end (last + 1) (set x u never) l (set w last u)
+        fell : Weed d f s q (u + 1) end (tail + 1) x₀ w₀ (set x u never) l (set w tail u)
         fell =
             record {
+              times-length = length-set x u never ∙ W .times-length;
+              queue-length = length-set w tail u ∙ W .queue-length;
+              most = omega arith;
               state = record {
-                len-x = length-set x u never ∙ F .len-x;
-                len-d = F .len-d;
-                len-w = let a = length-set w last u in let b = F .len-w in omega arith;
+                buffers = record { times = length-set x u never ∙ F .buffers .times; left = F .buffers .left; queue = let a = length-set w tail u in let b = F .buffers .queue in omega arith };
                 walked = F .walked;
                 live = F .live;
                 rows = F .rows;
-                queue = queue-fall t (q .query) (q .start) (q .stop) (q .lo) (R .setting) (F .len-x) (F .times) u k zero-u (F .len-w) (F .queue);
-                times = times-fall t (q .query) (q .start) (q .stop) (q .lo) (R .setting) (F .len-x) (F .times) u k zero-u (fall-lower t (q .query) (q .start) (q .stop) (q .lo) (R .setting) (F .rows) (F .queue .walked-fell) (F .times) (F .passed-why) (F .left-why) u few);
+                queue = queue-fall t q (R .setting) (F .buffers .times) (F .times) u k zero-u (F .buffers .queue) (F .queue);
+                times = times-fall t q (R .setting) (F .buffers .times) (F .times) u k zero-u (fall-lower t q (R .setting) (F .rows) (F .queue .walked-fell) (F .times) (F .passed-why) (F .left-why) u few);
                 counts = record {
                   degrees = λ v a z. ⊎-elim (λ y. absurd (fell-u v y z)) (λ y. F .counts .degrees v a (sym (same v y) ∙ z)) (same-or v u);
                   enough = λ v a b z. ⊎-elim (λ y. absurd (fell-u v y z)) (λ y. F .counts .enough v (⊎-elim (λ e. absurd (y e)) (λ o. o) (eq-or-lt-of-le (omega arith))) b (sym (same v y) ∙ z)) (same-or v u);
@@ -415,17 +502,18 @@ module _ (d f s links : List ℕ) (q : Frame) (R : Ready d f s links q) where
     unfolding dayOf at
     later-day = Sp .later
 
-    pub core-start : (x₀ : List ℕ) {x l w : List ℕ} → length x₀ ≡ 4096 → x ≡ replicate (length x₀) 0 → Counted t (q .lo) end l → 4096 ≤ length w → Falls 0 never end 0 0 x l w
-    core-start x₀ n ex C m = fall-start x₀ n ex C m (Sp .within) later-day
+    pub core-start : {x₀ l₀ x l w : List ℕ} → PeelBuffers x₀ l₀ w → x ≡ replicate (length x₀) 0 → Counted t (q .lo) end l → Falling d f s q 0 (allRows end) x l w
+    core-start {x₀} B ex C = fall-start x₀ (B .times) ex C (B .queue) (Sp .within) later-day
 
-    pub fade-start : {tail : ℕ} {x l w : List ℕ} → Falls 4096 never end tail tail x l w → Fade d f s q end tail x l w
+    pub fade-start : {r : Removal} {x l w : List ℕ} → QueueEmpty d f s q (allRows end) r x l w → Fade d f s q r x l w
     unfolding dayOf at
-    fade-start F =
+    fade-start {r} Q =
+        let g = Q .goes-on .end in let e = Q .goes-on .day in
         record {
-          e = never;
-          state = F;
-          within = Sp .within;
-          from = Sp .ordered;
-          above = λ j k. let a = Sp .inside j k in let b = R .setting .fits in omega arith;
-          dated = λ j k. (R .sound .rows j (let a = Sp .within in omega arith) .day-from, Sp .inside j k);
+          state = Q .goes-on .state;
+          idle = Q .idle;
+          within = let a = Sp .within in omega arith;
+          from = let a = Sp .ordered in omega arith;
+          above = λ j k. let a = Sp .inside j (omega arith) in let b = R .setting .fits in omega arith;
+          dated = λ j k. (R .sound .rows j (let a = Sp .within in omega arith) .day-from, Sp .inside j (omega arith));
         }

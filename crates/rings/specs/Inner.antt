@@ -3,6 +3,7 @@ pub mod Links
 pub mod Incident
 pub mod Support
 pub mod Peeling
+pub mod Answers
 pub mod Recalling
 pub mod Closing
 pub mod Settling

@@ -7,20 +7,31 @@ ghost use lib.ListN.{length, getD};
 ghost use lib.Dec.{leb};
 ghost use Rattle.rings.specs.Words.{_and_};
 ghost use Rattle.rings.specs.Table.{tableOf};
-ghost use Rattle.rings.specs.CoreTimes.{never};
-ghost use Rattle.rings.specs.Inner.Peeling.{Lost, Ready, season, Falling, Walking, Counted, Fade, Span, CoreTimesAre};
+ghost use Rattle.rings.specs.Inner.Peeling.{PeelBuffers, Losable, Lost, Ready, Span, Counted, CoreTimesAre};
+ghost use Rattle.rings.specs.Inner.Peeling.{allRows, Falling, Continues, HeadWaits, HeadWalked, QueueEmpty, Fade, RowLeaves, RowLeft};
 use crate::frame::Frame;
+use crate::limits::ACCOUNTS;
+use crate::limits::ADJACENCY;
+use crate::limits::NEVER;
 use crate::links::clear;
 use crate::links::entry;
 use crate::links::other;
 use crate::links::put;
+
+// How far the removal has come: the day that is the core time of who falls now, the end of the rows that have not left, and the queue of the fallen from head to tail.
+pub struct Removal {
+    pub day: u16,
+    pub end: usize,
+    pub head: usize,
+    pub tail: usize,
+}
 
 // Row j is the first of its pair from row lo on: it brings a new neighbour.
 pub(crate) fn is_fresh(links: &[u16], n: usize, lo: usize, j: usize) -> bool
     requires { ⌜ (n ≤ 16384) × (j < n) × (8192 + 2 * n + j < length (now links)) ⌝ }
     ensures { λ r. ⌜ r ≡ (leb lo j and leb (getD (now (links .entry)) (8192 + 2 * n + j) 0) lo) ⌝ }
 {
-    let earlier = entry(links, 8192 + 2 * n + j);
+    let earlier = entry(links, ADJACENCY + 2 * n + j);
     (lo <= j) & (earlier <= lo)
 }
 
@@ -29,7 +40,7 @@ pub(crate) fn is_first(links: &[u16], n: usize, lo: usize, j: usize) -> bool
     requires { ⌜ (n ≤ 16384) × (j < n) × (8192 + 2 * n + j < length (now links)) × (lo ≤ j) ⌝ }
     ensures { λ r. ⌜ r ≡ (leb lo j and leb (getD (now (links .entry)) (8192 + 2 * n + j) 0) lo) ⌝ }
 {
-    let earlier = entry(links, 8192 + 2 * n + j);
+    let earlier = entry(links, ADJACENCY + 2 * n + j);
     earlier <= lo
 }
 
@@ -43,9 +54,9 @@ fn lose(
     left: &mut [u16],
     queue: &mut [u16],
 ) -> usize
-    requires { ⌜ (v < 4096) × (length (now times) ≡ 4096) × (length (now left) ≡ 4096) × (4096 ≤ length (now queue)) ⌝ }
-    requires { ⌜ (0 < getD (now left) v 0) × (getD (now left) v 0 ≡ k → tail < 4096) ⌝ }
-    ensures { λ r. ⌜ Lost k e tail v (now (times .entry)) (now (left .entry)) (now (queue .entry)) (now (times .exit)) (now (left .exit)) (now (queue .exit)) r ⌝ }
+    requires { ⌜ Losable k tail v (now times) (now left) (now queue) ⌝ }
+    ensures { λ r. ⌜ Lost k e tail v (now (times .entry)) (now (left .entry)) (now (queue .entry))
+        (now (times .exit)) (now (left .exit)) (now (queue .exit)) r ⌝ }
 {
     let n = left[v];
     left[v] = n - 1;
@@ -57,45 +68,53 @@ fn lose(
     tail + 1
 }
 
-// The rows of u, which fell: by each fresh row below r the other account loses a neighbour.
+// The rows of the account at the head of the queue: by each fresh row that has not left the other account loses a neighbour.
 fn walk(
     days: &[u16],
     first: &[u16],
     second: &[u16],
     links: &[u16],
     frame: Frame,
-    e: u16,
-    r: usize,
-    head: usize,
-    tail: usize,
-    u: usize,
+    removal: Removal,
     times: &mut [u16],
     left: &mut [u16],
     queue: &mut [u16],
-) -> usize
+) -> Removal
     requires { ⌜ Ready (now days) (now first) (now second) (now links) frame ⌝ }
-    requires { ⌜ Walking (now days) (now first) (now second) frame 0 e r head tail u (now times) (now left) (now queue) ⌝ }
-    ensures { λ t. ⌜ Falling (now (days .entry)) (now (first .entry)) (now (second .entry)) frame 4096 e r (head + 1) t (now (times .exit)) (now (left .exit)) (now (queue .exit)) ⌝ }
+    requires { ⌜ HeadWaits (now days) (now first) (now second) frame removal (now times) (now left) (now queue) ⌝ }
+    ensures { λ r. ⌜ HeadWalked (now (days .entry)) (now (first .entry)) (now (second .entry)) frame removal r
+        (now (times .exit)) (now (left .exit)) (now (queue .exit)) ⌝ }
 {
     let n = days.len();
+    let u = entry(queue, removal.head);
     let end = entry(links, u);
-    let mut p = entry(links, 4096 + u);
-    let mut last = tail;
+    let mut p = entry(links, ACCOUNTS + u);
+    let mut tail = removal.tail;
     while p < end {
-        let j = entry(links, 8192 + p);
-        if r <= j {
-            return last;
+        let j = entry(links, ADJACENCY + p);
+        if removal.end <= j {
+            return Removal {
+                day: removal.day,
+                end: removal.end,
+                head: removal.head + 1,
+                tail: tail,
+            };
         }
         p += 1;
         if is_fresh(links, n, frame.lo, j) {
             let a = entry(first, j);
             let b = entry(second, j);
             let v = other(a, b, u);
-            last = lose(frame.query.k, e, last, v, times, left, queue);
+            tail = lose(frame.query.k, removal.day, tail, v, times, left, queue);
             continue;
         }
     }
-    last
+    Removal {
+        day: removal.day,
+        end: removal.end,
+        head: removal.head + 1,
+        tail: tail,
+    }
 }
 
 // Who waits is walked, until nobody does.
@@ -105,89 +124,80 @@ fn drain(
     second: &[u16],
     links: &[u16],
     frame: Frame,
-    e: u16,
-    r: usize,
-    head: usize,
-    tail: usize,
+    removal: Removal,
     times: &mut [u16],
     left: &mut [u16],
     queue: &mut [u16],
-) -> usize
+) -> Removal
     requires { ⌜ Ready (now days) (now first) (now second) (now links) frame ⌝ }
-    requires { ⌜ Falling (now days) (now first) (now second) frame 4096 e r head tail (now times) (now left) (now queue) ⌝ }
-    ensures { λ t. ⌜ Falling (now (days .entry)) (now (first .entry)) (now (second .entry)) frame 4096 e r t t (now (times .exit)) (now (left .exit)) (now (queue .exit)) ⌝ }
+    requires { ⌜ Falling (now days) (now first) (now second) frame 4096 removal (now times) (now left) (now queue) ⌝ }
+    ensures { λ r. ⌜ QueueEmpty (now (days .entry)) (now (first .entry)) (now (second .entry)) frame removal r
+        (now (times .exit)) (now (left .exit)) (now (queue .exit)) ⌝ }
 {
-    let mut front = head;
-    let mut last = tail;
-    while front < last {
-        let u = entry(queue, front);
-        last = walk(
-            days,
-            first,
-            second,
-            links,
-            frame,
-            e,
-            r,
-            front,
-            last,
-            u,
-            times,
-            left,
-            queue,
-        );
-        front += 1;
+    let mut state = removal;
+    while state.head < state.tail {
+        state = walk(days, first, second, links, frame, state, times, left, queue);
     }
-    last
+    state
 }
 
-// Row j, the last that has not left, leaves. Its day is e.
+// The last row that has not left leaves. Who falls with it has its day for a core time.
 fn leave(
     days: &[u16],
     first: &[u16],
     second: &[u16],
     links: &[u16],
     frame: Frame,
-    e: u16,
-    j: usize,
-    tail: usize,
+    removal: Removal,
     times: &mut [u16],
     left: &mut [u16],
     queue: &mut [u16],
-) -> usize
+) -> Removal
     requires { ⌜ Ready (now days) (now first) (now second) (now links) frame ⌝ }
-    requires { ⌜ (j < length (now days)) × (e ≡ getD (now days) j 0) ⌝ }
-    requires { ⌜ Falling (now days) (now first) (now second) frame 4096 e (j + 1) tail tail (now times) (now left) (now queue) ⌝ }
-    ensures { λ t. ⌜ Falling (now (days .entry)) (now (first .entry)) (now (second .entry)) frame 4096 e j t t (now (times .exit)) (now (left .exit)) (now (queue .exit)) ⌝ }
+    requires { ⌜ RowLeaves (now days) (now first) (now second) frame removal (now times) (now left) (now queue) ⌝ }
+    ensures { λ r. ⌜ RowLeft (now (days .entry)) (now (first .entry)) (now (second .entry)) frame removal r
+        (now (times .exit)) (now (left .exit)) (now (queue .exit)) ⌝ }
 {
     let n = days.len();
+    let j = removal.end - 1;
+    let e = days[j];
+    let tail = removal.tail;
+    let gone = Removal {
+        day: e,
+        end: j,
+        head: tail,
+        tail: tail,
+    };
     if is_fresh(links, n, frame.lo, j) {
         let a = entry(first, j);
         let b = entry(second, j);
         if entry(times, a) != 0 {
-            return tail;
+            return gone;
         }
         if entry(times, b) != 0 {
-            return tail;
+            return gone;
         }
         let one = lose(frame.query.k, e, tail, a, times, left, queue);
         let two = lose(frame.query.k, e, one, b, times, left, queue);
+        let fallen = Removal {
+            day: e,
+            end: j,
+            head: tail,
+            tail: two,
+        };
         return drain(
             days,
             first,
             second,
             links,
             frame,
-            e,
-            j,
-            tail,
-            two,
+            fallen,
             times,
             left,
             queue,
         );
     }
-    tail
+    gone
 }
 
 // The rows leave, from the last on: who falls meanwhile has the day of the leaving row for its core time.
@@ -197,35 +207,18 @@ fn fade(
     second: &[u16],
     links: &[u16],
     frame: Frame,
-    end: usize,
-    tail: usize,
+    removal: Removal,
     times: &mut [u16],
     left: &mut [u16],
     queue: &mut [u16],
 )
     requires { ⌜ Ready (now days) (now first) (now second) (now links) frame ⌝ }
-    requires { ⌜ Fade (now days) (now first) (now second) frame end tail (now times) (now left) (now queue) ⌝ }
+    requires { ⌜ Fade (now days) (now first) (now second) frame removal (now times) (now left) (now queue) ⌝ }
     ensures { λ _. ⌜ CoreTimesAre (now (days .entry)) (now (first .entry)) (now (second .entry)) frame (now (times .exit)) ⌝ }
 {
-    let mut r = end;
-    let mut last = tail;
-    while frame.lo < r {
-        let j = r - 1;
-        let e = days[j];
-        last = leave(
-            days,
-            first,
-            second,
-            links,
-            frame,
-            e,
-            j,
-            last,
-            times,
-            left,
-            queue,
-        );
-        r = j;
+    let mut state = removal;
+    while frame.lo < state.end {
+        state = leave(days, first, second, links, frame, state, times, left, queue);
     }
 }
 
@@ -240,9 +233,11 @@ fn count_neighbours(
     left: &mut [u16],
 )
     requires { ⌜ Ready (now days) (now first) (now second) (now links) frame ⌝ }
-    requires { ⌜ (frame .lo ≤ end) × (end ≤ length (now days)) ⌝ }
+    requires { ⌜ Span (now days) (frame .stop) (frame .lo) end ⌝ }
     requires { ⌜ Counted (tableOf (now days) (now first) (now second)) (frame .lo) (frame .lo) (now left) ⌝ }
-    ensures { λ _. ⌜ Counted (tableOf (now (days .entry)) (now (first .entry)) (now (second .entry))) (frame .lo) end (now (left .exit)) ⌝ }
+    ensures { λ _. ⌜ (
+        let t = tableOf (now (days .entry)) (now (first .entry)) (now (second .entry)) in
+        Counted t (frame .lo) end (now (left .exit))) ⌝ }
 {
     let n = days.len();
     let mut j = frame.lo;
@@ -272,24 +267,30 @@ fn weed(
     times: &mut [u16],
     left: &mut [u16],
     queue: &mut [u16],
-) -> usize
+) -> Removal
     requires { ⌜ Ready (now days) (now first) (now second) (now links) frame ⌝ }
-    requires { ⌜ Falling (now days) (now first) (now second) frame 0 never end 0 0 (now times) (now left) (now queue) ⌝ }
-    ensures { λ t. ⌜ Falling (now (days .entry)) (now (first .entry)) (now (second .entry)) frame 4096 never end 0 t (now (times .exit)) (now (left .exit)) (now (queue .exit)) ⌝ }
+    requires { ⌜ Falling (now days) (now first) (now second) frame 0 (allRows end) (now times) (now left) (now queue) ⌝ }
+    ensures { λ r. ⌜ Continues (now (days .entry)) (now (first .entry)) (now (second .entry)) frame (allRows end) r
+        (now (times .exit)) (now (left .exit)) (now (queue .exit)) ⌝ }
 {
     let mut u = 0;
-    let mut last = 0;
-    while u < 4096 {
+    let mut tail = 0;
+    while u < ACCOUNTS {
         if left[u] < frame.query.k {
-            put(times, u, 65535);
-            put(queue, last, u);
-            last += 1;
+            put(times, u, NEVER as usize);
+            put(queue, tail, u);
+            tail += 1;
             u += 1;
             continue;
         }
         u += 1;
     }
-    last
+    Removal {
+        day: NEVER,
+        end: end,
+        head: 0,
+        tail: tail,
+    }
 }
 
 // The ring of the whole window: who has not fallen when nobody waits is met in it.
@@ -303,30 +304,18 @@ pub(crate) fn core(
     times: &mut [u16],
     left: &mut [u16],
     queue: &mut [u16],
-) -> usize
+) -> Removal
     requires { ⌜ Ready (now days) (now first) (now second) (now links) frame ⌝ }
     requires { ⌜ Span (now days) (frame .stop) (frame .lo) end ⌝ }
-    requires { ⌜ (length (now times) ≡ 4096) × (length (now left) ≡ 4096) × (4096 ≤ length (now queue)) ⌝ }
-    ensures { λ t. ⌜ Falling (now (days .entry)) (now (first .entry)) (now (second .entry)) frame 4096 never end t t (now (times .exit)) (now (left .exit)) (now (queue .exit)) ⌝ }
+    requires { ⌜ PeelBuffers (now times) (now left) (now queue) ⌝ }
+    ensures { λ r. ⌜ QueueEmpty (now (days .entry)) (now (first .entry)) (now (second .entry)) frame (allRows end) r
+        (now (times .exit)) (now (left .exit)) (now (queue .exit)) ⌝ }
 {
     clear(times);
     clear(left);
     count_neighbours(days, first, second, links, frame, end, left);
-    let waiting = weed(days, first, second, links, frame, end, times, left, queue);
-    drain(
-        days,
-        first,
-        second,
-        links,
-        frame,
-        65535,
-        end,
-        0,
-        waiting,
-        times,
-        left,
-        queue,
-    )
+    let low = weed(days, first, second, links, frame, end, times, left, queue);
+    drain(days, first, second, links, frame, low, times, left, queue)
 }
 
 // The core times of all accounts at one start.
@@ -343,20 +332,9 @@ pub(crate) fn peel(
 )
     requires { ⌜ Ready (now days) (now first) (now second) (now links) frame ⌝ }
     requires { ⌜ Span (now days) (frame .stop) (frame .lo) end ⌝ }
-    requires { ⌜ (length (now times) ≡ 4096) × (length (now left) ≡ 4096) × (4096 ≤ length (now queue)) ⌝ }
+    requires { ⌜ PeelBuffers (now times) (now left) (now queue) ⌝ }
     ensures { λ _. ⌜ CoreTimesAre (now (days .entry)) (now (first .entry)) (now (second .entry)) frame (now (times .exit)) ⌝ }
 {
-    let tail = core(days, first, second, links, frame, end, times, left, queue);
-    fade(
-        days,
-        first,
-        second,
-        links,
-        frame,
-        end,
-        tail,
-        times,
-        left,
-        queue,
-    );
+    let ring = core(days, first, second, links, frame, end, times, left, queue);
+    fade(days, first, second, links, frame, ring, times, left, queue);
 }

@@ -1,20 +1,16 @@
 // Window ring: the ring of one window, as marks.
 ghost use mathlib.Core.Path.{_≡_};
-ghost use Prim.Native.Nat.{_+_, _*_, _≤_, _<_};
-ghost use lib.ListN.{length, getD, replicate};
-ghost use lib.Dec.{eqb};
-ghost use Rattle.rings.specs.Words.{_and_};
-ghost use Rattle.rings.specs.Table.{tableOf, Split};
-ghost use Rattle.rings.specs.Ring.{ring, members, query};
-ghost use Rattle.rings.specs.CoreTimes.{never};
-ghost use Rattle.rings.specs.Buffers.{marks as markBytes, countedScratch};
+ghost use lib.ListN.{length};
+ghost use Rattle.rings.specs.Table.{tableOf};
+ghost use Rattle.rings.specs.Buffers.{countedScratch};
 ghost use Rattle.rings.specs.WindowRingCall.{ringAnswer, ringMarks};
 ghost use Rattle.rings.specs.Sound.{Sound};
-ghost use Rattle.rings.specs.Inner.Peeling.{season, Falling, Ready, Span};
+ghost use Rattle.rings.specs.Inner.Answers.{Asked, RingBuffers, WholeWindow, Remaining, RowAccounts, bothRemain, RingMarked, RingFound};
 use crate::Query;
 use crate::checks::check_call;
 use crate::checks::is_window;
 use crate::frame::Frame;
+use crate::limits::ADJACENCY;
 use crate::links::clear;
 use crate::links::entry;
 use crate::links::link;
@@ -26,8 +22,8 @@ use crate::table::rows_before;
 
 // Neither account of row j has fallen.
 fn stays(first: &[u16], second: &[u16], times: &[u16], j: usize) -> bool
-    requires { ⌜ (j < length (now first)) × (j < length (now second)) × (getD (now first) j 0 < length (now times)) × (getD (now second) j 0 < length (now times)) ⌝ }
-    ensures { λ r. ⌜ r ≡ (eqb (getD (now (times .entry)) (getD (now (first .entry)) j 0) 0) 0 and eqb (getD (now (times .entry)) (getD (now (second .entry)) j 0) 0) 0) ⌝ }
+    requires { ⌜ RowAccounts (now first) (now second) (now times) j ⌝ }
+    ensures { λ r. ⌜ r ≡ bothRemain (now (first .entry)) (now (second .entry)) (now (times .entry)) j ⌝ }
 {
     let a = entry(first, j);
     if entry(times, a) != 0 {
@@ -45,21 +41,16 @@ fn mark_rows(
     days: &[u16],
     first: &[u16],
     second: &[u16],
-    links: &[u16],
-    k: u16,
-    s: u16,
-    e: u16,
-    tail: usize,
+    frame: Frame,
     times: &[u16],
-    left: &[u16],
-    queue: &[u16],
     marks: &mut [u8],
 ) -> usize
-    requires { ⌜ Ready (now days) (now first) (now second) (now links) (season k s e 0) ⌝ }
-    requires { ⌜ (s ≤ e) × Span (now days) e 0 (length (now days)) ⌝ }
-    requires { ⌜ Falling (now days) (now first) (now second) (season k s e 0) 4096 never (length (now days)) tail tail (now times) (now left) (now queue) ⌝ }
+    requires { ⌜ WholeWindow (now days) (now first) (now second) frame ⌝ }
+    requires { ⌜ Remaining (tableOf (now days) (now first) (now second)) frame (now times) ⌝ }
     requires { ⌜ length (now marks) ≡ length (now days) ⌝ }
-    ensures { λ n. ⌜ (n ≡ members (ring (tableOf (now (days .entry)) (now (first .entry)) (now (second .entry))) (query k) s e)) × (now (marks .exit) ≡ markBytes (ring (tableOf (now (days .entry)) (now (first .entry)) (now (second .entry))) (query k) s e)) ⌝ }
+    ensures { λ n. ⌜ (
+        let t = tableOf (now (days .entry)) (now (first .entry)) (now (second .entry)) in
+        RingMarked t (frame .query) (frame .start) (frame .stop) n (now (marks .exit))) ⌝ }
 {
     let mut n = 0;
     let mut j = 0;
@@ -76,85 +67,73 @@ fn mark_rows(
     n
 }
 
-// The ring of [s, e] of a table all of whose rows lie in the window.
+// The ring of the frame's window, of a table all of whose rows lie in it.
 fn mark_part(
     days: &[u16],
     first: &[u16],
     second: &[u16],
-    k: u16,
-    s: u16,
-    e: u16,
+    frame: Frame,
     marks: &mut [u8],
     scratch: &mut [u16],
 ) -> usize
-    requires { ⌜ Sound (now days) (now first) (now second) ⌝ }
-    requires { ⌜ (1 ≤ k) × (s ≤ e) × (e ≤ 1024) × (length (now marks) ≡ length (now days)) × (8192 + 4 * length (now days) ≤ length (now scratch)) ⌝ }
-    requires { ⌜ Split (now days) s 0 × Split (now days) (e + 1) (length (now days)) ⌝ }
-    ensures { λ n. ⌜ (n ≡ members (ring (tableOf (now (days .entry)) (now (first .entry)) (now (second .entry))) (query k) s e)) × (now (marks .exit) ≡ markBytes (ring (tableOf (now (days .entry)) (now (first .entry)) (now (second .entry))) (query k) s e)) ⌝ }
+    requires { ⌜ WholeWindow (now days) (now first) (now second) frame ⌝ }
+    requires { ⌜ RingBuffers (now days) (now marks) (now scratch) ⌝ }
+    ensures { λ n. ⌜ (
+        let t = tableOf (now (days .entry)) (now (first .entry)) (now (second .entry)) in
+        RingMarked t (frame .query) (frame .start) (frame .stop) n (now (marks .exit))) ⌝ }
 {
     let n = days.len();
     let mut times = [0u16; 4096];
     let mut left = [0u16; 4096];
     let mut queue = [0u16; 4096];
     link(days, first, second, scratch);
-    let tail = core(
+    core(
         days,
         first,
         second,
         scratch,
-        Frame {
-            query: Query { k: k },
-            start: s,
-            stop: e,
-            lo: 0,
-        },
+        frame,
         n,
         &mut times,
         &mut left,
         &mut queue,
     );
-    mark_rows(
-        days,
-        first,
-        second,
-        scratch,
-        k,
-        s,
-        e,
-        tail,
-        &times,
-        &left,
-        &queue,
-        marks,
-    )
+    mark_rows(days, first, second, frame, &times, marks)
 }
 
-// The ring of [s, e] of an accepted table. Days never fall, so the window's rows stand side by side: only they are linked and peeled, and every other mark is 0.
+// The ring of [start, stop] of an accepted table. Days never fall, so the window's rows stand side by side: only they are linked and peeled, and every other mark is 0.
 fn mark_ring(
     days: &[u16],
     first: &[u16],
     second: &[u16],
-    k: u16,
-    s: u16,
-    e: u16,
+    query: Query,
+    start: u16,
+    stop: u16,
     marks: &mut [u8],
     scratch: &mut [u16],
 ) -> usize
     requires { ⌜ Sound (now days) (now first) (now second) ⌝ }
-    requires { ⌜ (1 ≤ k) × (s ≤ e) × (e ≤ 1024) × (length (now marks) ≡ length (now days)) × (8192 + 4 * length (now days) ≤ length (now scratch)) ⌝ }
-    ensures { λ n. ⌜ (n ≡ members (ring (tableOf (now (days .entry)) (now (first .entry)) (now (second .entry))) (query k) s e)) × (now (marks .exit) ≡ markBytes (ring (tableOf (now (days .entry)) (now (first .entry)) (now (second .entry))) (query k) s e)) × (now (scratch .exit) ≡ replicate (length (now (scratch .entry))) 0) ⌝ }
+    requires { ⌜ Asked query start stop ⌝ }
+    requires { ⌜ RingBuffers (now days) (now marks) (now scratch) ⌝ }
+    ensures { λ n. ⌜ (
+        let t = tableOf (now (days .entry)) (now (first .entry)) (now (second .entry)) in
+        RingFound t query start stop n (now (marks .exit)) (now (scratch .entry)) (now (scratch .exit))) ⌝ }
 {
-    let lo = rows_before(days, s);
-    let end = rows_before(days, e + 1);
-    let room = 8192 + 4 * (end - lo);
+    let lo = rows_before(days, start);
+    let end = rows_before(days, stop + 1);
+    let room = ADJACENCY + 4 * (end - lo);
+    let frame = Frame {
+        query: query,
+        start: start,
+        stop: stop,
+        lo: 0,
+    };
     clear_marks(marks);
     let n = mark_part(
         &days[lo..end],
         &first[lo..end],
         &second[lo..end],
-        k,
-        s,
-        e,
+        frame,
         &mut marks[lo..end],
         &mut scratch[..room],
     );
@@ -172,8 +151,12 @@ pub fn window_ring(
     marks: &mut [u8],
     scratch: &mut [u16],
 ) -> Counted
-    ensures { λ r. ⌜ r ≡ ringAnswer (tableOf (now (days .entry)) (now (first .entry)) (now (second .entry))) query s e (length (now (marks .entry))) (length (now (scratch .entry))) ⌝ }
-    ensures { λ r. ⌜ now (marks .exit) ≡ ringMarks r (tableOf (now (days .entry)) (now (first .entry)) (now (second .entry))) query s e (now (marks .entry)) ⌝ }
+    ensures { λ r. ⌜ (
+        let t = tableOf (now (days .entry)) (now (first .entry)) (now (second .entry)) in
+        r ≡ ringAnswer t query s e (length (now (marks .entry))) (length (now (scratch .entry)))) ⌝ }
+    ensures { λ r. ⌜ (
+        let t = tableOf (now (days .entry)) (now (first .entry)) (now (second .entry)) in
+        now (marks .exit) ≡ ringMarks r t query s e (now (marks .entry))) ⌝ }
     ensures { λ r. ⌜ now (scratch .exit) ≡ countedScratch r (now (scratch .entry)) ⌝ }
 {
     let window = is_window(s, e);
@@ -182,8 +165,7 @@ pub fn window_ring(
     match found {
         Verdict::Refused(r) => Counted::Refused(r),
         Verdict::Accepted => {
-            let k = query.k;
-            let n = mark_ring(days, first, second, k, s, e, marks, scratch);
+            let n = mark_ring(days, first, second, query, s, e, marks, scratch);
             Counted::Count(n)
         }
     }

@@ -1,20 +1,22 @@
 // Core times: the first day that brings an account, or a row, into a ring.
 ghost use mathlib.Core.Path.{_≡_};
-ghost use Prim.Native.Nat.{_+_, _*_, _≤_, _<_};
-ghost use lib.ListN.{length, replicate};
+ghost use Prim.Native.Nat.{_<_};
+ghost use lib.ListN.{length};
 ghost use Rattle.rings.specs.Words.{run};
 ghost use Rattle.rings.specs.Table.{tableOf};
-ghost use Rattle.rings.specs.CoreTimes.{accountTime, rowTime};
+ghost use Rattle.rings.specs.CoreTimes.{rowTime};
 ghost use Rattle.rings.specs.Buffers.{verdictScratch};
 ghost use Rattle.rings.specs.CoreTimesCall.{timesAnswer, accountColumn, rowColumn};
 ghost use Rattle.rings.specs.Sound.{Sound};
-ghost use Rattle.rings.specs.Ring.{query};
-ghost use Rattle.rings.specs.Inner.Peeling.{season, Framed, Span, CoreTimesAre};
+ghost use Rattle.rings.specs.Inner.Peeling.{Framed, Span, CoreTimesAre};
+ghost use Rattle.rings.specs.Inner.Answers.{Asked, TimesBuffers, TimesFound};
 use crate::Query;
 use crate::checks::are_equal;
 use crate::checks::check_call;
 use crate::checks::is_start;
 use crate::frame::Frame;
+use crate::limits::ACCOUNTS;
+use crate::limits::NEVER;
 use crate::links::clear;
 use crate::links::entry;
 use crate::links::link;
@@ -44,13 +46,15 @@ pub(crate) fn row_time(
     requires { ⌜ Span (now days) (frame .stop) (frame .lo) end ⌝ }
     requires { ⌜ CoreTimesAre (now days) (now first) (now second) frame (now times) ⌝ }
     requires { ⌜ j < length (now days) ⌝ }
-    ensures { λ r. ⌜ r ≡ rowTime (tableOf (now (days .entry)) (now (first .entry)) (now (second .entry))) (frame .query) (frame .stop) (frame .start) j ⌝ }
+    ensures { λ r. ⌜ (
+        let t = tableOf (now (days .entry)) (now (first .entry)) (now (second .entry)) in
+        r ≡ rowTime t (frame .query) (frame .stop) (frame .start) j) ⌝ }
 {
     if j < frame.lo {
-        return 65535;
+        return NEVER;
     }
     if end <= j {
-        return 65535;
+        return NEVER;
     }
     let a = entry(first, j);
     let b = entry(second, j);
@@ -71,7 +75,9 @@ fn time_rows(
     requires { ⌜ Span (now days) (frame .stop) (frame .lo) end ⌝ }
     requires { ⌜ CoreTimesAre (now days) (now first) (now second) frame (now times) ⌝ }
     requires { ⌜ length (now rows) ≡ length (now days) ⌝ }
-    ensures { λ _. ⌜ now (rows .exit) ≡ run (rowTime (tableOf (now (days .entry)) (now (first .entry)) (now (second .entry))) (frame .query) (frame .stop) (frame .start)) 0 (length (now (days .entry))) ⌝ }
+    ensures { λ _. ⌜ (
+        let t = tableOf (now (days .entry)) (now (first .entry)) (now (second .entry)) in
+        now (rows .exit) ≡ run (rowTime t (frame .query) (frame .stop) (frame .start)) 0 (length (now (days .entry)))) ⌝ }
 {
     let mut j = 0;
     while j < days.len() {
@@ -80,58 +86,49 @@ fn time_rows(
     }
 }
 
-// The core times at s of an accepted table, in a range that ends on te.
+// The core times at one start of an accepted table, in a range that ends on stop.
 fn find_times(
     days: &[u16],
     first: &[u16],
     second: &[u16],
-    k: u16,
-    s: u16,
-    te: u16,
+    query: Query,
+    start: u16,
+    stop: u16,
     accounts: &mut [u16],
     rows: &mut [u16],
     scratch: &mut [u16],
 )
     requires { ⌜ Sound (now days) (now first) (now second) ⌝ }
-    requires { ⌜ (1 ≤ k) × (s ≤ te) × (te ≤ 1024) × (length (now accounts) ≡ 4096) × (length (now rows) ≡ length (now days)) × (8192 + 4 * length (now days) ≤ length (now scratch)) ⌝ }
-    ensures { λ _. ⌜ (now (accounts .exit) ≡ run (accountTime (tableOf (now (days .entry)) (now (first .entry)) (now (second .entry))) (query k) te s) 0 4096) × (now (rows .exit) ≡ run (rowTime (tableOf (now (days .entry)) (now (first .entry)) (now (second .entry))) (query k) te s) 0 (length (now (days .entry)))) × (now (scratch .exit) ≡ replicate (length (now (scratch .entry))) 0) ⌝ }
+    requires { ⌜ Asked query start stop ⌝ }
+    requires { ⌜ TimesBuffers (now days) (now accounts) (now rows) (now scratch) ⌝ }
+    ensures { λ _. ⌜ (
+        let t = tableOf (now (days .entry)) (now (first .entry)) (now (second .entry)) in
+        TimesFound t query start stop (now (accounts .exit)) (now (rows .exit)) (now (scratch .entry)) (now (scratch .exit))) ⌝ }
 {
-    let lo = rows_before(days, s);
-    let end = rows_before(days, te + 1);
+    let lo = rows_before(days, start);
+    let end = rows_before(days, stop + 1);
+    let frame = Frame {
+        query: query,
+        start: start,
+        stop: stop,
+        lo: lo,
+    };
     let mut left = [0u16; 4096];
     let mut queue = [0u16; 4096];
     link(days, first, second, scratch);
-    move_heads(days, first, second, scratch, 0, s, 0, lo);
+    move_heads(days, first, second, scratch, 0, start, 0, lo);
     peel(
         days,
         first,
         second,
         scratch,
-        Frame {
-            query: Query { k: k },
-            start: s,
-            stop: te,
-            lo: lo,
-        },
+        frame,
         end,
         accounts,
         &mut left,
         &mut queue,
     );
-    time_rows(
-        days,
-        first,
-        second,
-        Frame {
-            query: Query { k: k },
-            start: s,
-            stop: te,
-            lo: lo,
-        },
-        end,
-        accounts,
-        rows,
-    );
+    time_rows(days, first, second, frame, end, accounts, rows);
     clear(scratch);
 }
 
@@ -147,19 +144,24 @@ pub fn core_times(
     rows: &mut [u16],
     scratch: &mut [u16],
 ) -> Verdict
-    ensures { λ r. ⌜ r ≡ timesAnswer (tableOf (now (days .entry)) (now (first .entry)) (now (second .entry))) query ts te s (length (now (accounts .entry))) (length (now (rows .entry))) (length (now (scratch .entry))) ⌝ }
-    ensures { λ r. ⌜ now (accounts .exit) ≡ accountColumn r (tableOf (now (days .entry)) (now (first .entry)) (now (second .entry))) query te s (now (accounts .entry)) ⌝ }
-    ensures { λ r. ⌜ now (rows .exit) ≡ rowColumn r (tableOf (now (days .entry)) (now (first .entry)) (now (second .entry))) query te s (now (rows .entry)) ⌝ }
+    ensures { λ r. ⌜ (
+        let t = tableOf (now (days .entry)) (now (first .entry)) (now (second .entry)) in
+        r ≡ timesAnswer t query ts te s (length (now (accounts .entry))) (length (now (rows .entry))) (length (now (scratch .entry)))) ⌝ }
+    ensures { λ r. ⌜ (
+        let t = tableOf (now (days .entry)) (now (first .entry)) (now (second .entry)) in
+        now (accounts .exit) ≡ accountColumn r t query te s (now (accounts .entry))) ⌝ }
+    ensures { λ r. ⌜ (
+        let t = tableOf (now (days .entry)) (now (first .entry)) (now (second .entry)) in
+        now (rows .exit) ≡ rowColumn r t query te s (now (rows .entry))) ⌝ }
     ensures { λ r. ⌜ now (scratch .exit) ≡ verdictScratch r (now (scratch .entry)) ⌝ }
 {
     let window = is_start(ts, s, te);
-    let lengths = are_equal(accounts.len(), 4096, rows.len(), days.len());
+    let lengths = are_equal(accounts.len(), ACCOUNTS, rows.len(), days.len());
     let found = check_call(days, first, second, query, window, lengths, scratch.len());
     match found {
         Verdict::Refused(r) => Verdict::Refused(r),
         Verdict::Accepted => {
-            let k = query.k;
-            find_times(days, first, second, k, s, te, accounts, rows, scratch);
+            find_times(days, first, second, query, s, te, accounts, rows, scratch);
             Verdict::Accepted
         }
     }

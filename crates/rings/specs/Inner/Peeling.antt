@@ -1,21 +1,25 @@
 -- Peeling by counts: accounts fall where fewer than k neighbours are left, from the last day on. x holds the times of the accounts that fell (0: not yet), d the numbers of neighbours left, w the queue of the fallen whose rows are still to be walked.
 -- A row counts for one of its accounts while it is fresh, has not left (is below r), its other account has not been walked, and the pair of row and account has not been passed.
---     Lost         what the loss of one neighbour leaves
+--     PeelBuffers  the lengths of the three lists
+--     Losable, Lost        before and after an account loses one neighbour
 --     Setting      the table, the window and the query
 --     Rows         which rows count for which accounts
 --     Queue        who waits to be walked
 --     Degrees      d counts the rows that count, and no account below b that has not fallen has fewer than k; who has fallen has fewer, and the rows that count at least
 --     Times        x is a lower bound of the core times, closed at the fallen; no core time that is still open passes e
---     Fall         all of it
+--     Fall         all of it: b is the first account that has not been looked at, e the day of the fallen, r the end of the rows, head and tail the queue's
+--     Walk         the same while the rows of the account at the head of the queue are walked
 --     season, nextFrame    the frame of a start by its numbers, and that of the start after it
+--     allRows      the removal before any row has left
+--     Falling, Walking     Fall and Walk for a frame, the numbers of a removal and the table of three columns
+--     HeadWaits, HeadWalked, Continues, QueueEmpty, RowLeaves, RowLeft    what the functions of src/peel.rt ask and promise beside the buffers
 --     Ready        what peeling works on: an accepted table, its links with the heads at the first day, and the setting
 --     Framed       the same without links
 --     Placed       with the earlier rows alone
 --     Open         with a book that may lack rows
 --     Span         the rows of a window, as a first row and an end
 --     Counted      d holds the fresh rows of each account below a row
---     Fade         the rows from r on have left, and nobody waits
---     Walk         the same while the rows of the account at the head of the queue are walked
+--     Fade         the rows from the removal's end on have left, and nobody waits
 use Prim.Native.Nat.{ℕ, _+_, _-_, _≤_, _<_}
 use mathlib.Core.Path.{_≡_}
 use mathlib.Core.Logic.{_⊎_}
@@ -32,6 +36,19 @@ use Rattle.rings.specs.Inner.Links.{otherOf, fresh, Linked, Paired, Shel
 use Rattle.rings.specs.Inner.Support.{supporters}
 use Rattle.rings.specs.declared.Query.{Query}
 use Rattle.rings.specs.declared.frame.Frame.{Frame}
+use Rattle.rings.specs.declared.peel.Removal.{Removal}
+
+pub record PeelBuffers (x d w : List ℕ) : Type 0 where
+  pub times : length x ≡ 4096
+  pub left : length d ≡ 4096
+  pub queue : 4096 ≤ length w
+
+-- account v has a neighbour to lose, and where it falls with that, there is room in the queue
+pub record Losable (k tail v : ℕ) (x d w : List ℕ) : Type 0 where
+  pub buffers : PeelBuffers x d w
+  pub small : v < 4096
+  pub some : 0 < getD d v 0
+  pub room : getD d v 0 ≡ k → tail < 4096
 
 -- account v loses a neighbour: x are the times, d the numbers of neighbours left, w the queue up to tail. With the k-th it falls; who fell before has fewer than k left
 pub data Lost (k e tail v : ℕ) (x d w x′ d′ w′ : List ℕ) (tail′ : ℕ) : Type 0 where
@@ -102,19 +119,17 @@ pub record Times (t : Table) (q : Query) (s hi e : ℕ) (x : List ℕ) : Type 0 
   pub closed : (u : ℕ) → u < 4096 → Fell x u → (getD x u 0 ≡ never) ⊎ (q .k ≤ supporters t (guess x) s (getD x u 0) u)
   pub backed : (u : ℕ) → u < 4096 → getD x u 0 ≡ 0 → (e ≡ never) ⊎ (q .k ≤ supporters t (guess x) s e u)
 
-pub record Fall (t : Table) (q : Query) (s hi lo b e r head tail : ℕ) (passed : ℕ → ℕ → Bool) (x d w : List ℕ) : Type 0 where
-  pub len-x : length x ≡ 4096
-  pub len-d : length d ≡ 4096
-  pub len-w : 4096 ≤ length w
+pub record Fall (t : Table) (p : Frame) (b e r head tail : ℕ) (passed : ℕ → ℕ → Bool) (x d w : List ℕ) : Type 0 where
+  pub buffers : PeelBuffers x d w
   pub walked : ℕ → Bool
   pub live : ℕ → ℕ → Bool
-  pub rows : Rows t lo r passed walked live
+  pub rows : Rows t (p .lo) r passed walked live
   pub queue : Queue head tail walked x w
-  pub counts : Degrees t q b live x d
-  pub times : Times t q s hi e x
+  pub counts : Degrees t (p .query) b live x d
+  pub times : Times t (p .query) (p .start) (p .stop) e x
   -- a pair that was passed, and a row that left, matter to no ring before e
   pub passed-why : (j u : ℕ) → j < size t → passed j u ≡ true → ((otherOf t j u < 4096) × Fell x (otherOf t j u)) ⊎ (e ≤ dayOf t j)
-  pub left-why : (j : ℕ) → r ≤ j → j < size t → (e ≤ dayOf t j) ⊎ (hi < dayOf t j)
+  pub left-why : (j : ℕ) → r ≤ j → j < size t → (e ≤ dayOf t j) ⊎ (p .stop < dayOf t j)
 
 -- no pair has been passed
 abbrev pub nothing : ℕ → ℕ → Bool
@@ -125,8 +140,8 @@ unfoldable pub passing : Table → ℕ → ℕ → ℕ → ℕ → Bool
 passing t u b j v = joins t j u v and ltb j b
 
 -- u stands at the head of the queue; its rows below b have been passed
-pub record Walk (t : Table) (q : Query) (s hi lo b e r head tail u : ℕ) (x d w : List ℕ) : Type 0 where
-  pub state : Fall t q s hi lo 4096 e r head tail (passing t u b) x d w
+pub record Walk (t : Table) (p : Frame) (b e r head tail u : ℕ) (x d w : List ℕ) : Type 0 where
+  pub state : Fall t p 4096 e r head tail (passing t u b) x d w
   pub front : head < tail
   pub at-front : getD w head 0 ≡ u
 
@@ -158,26 +173,60 @@ pub record Open (d f s links : List ℕ) (p : Frame) : Type 0 where
   pub within : p .lo ≤ length d
   pub setting : Setting (tableOf d f s) (p .query) (p .start) (p .stop) (p .lo)
 
--- the states for the season p of the table of three columns
-abbrev pub Falling : List ℕ → List ℕ → List ℕ → Frame → ℕ → ℕ → ℕ → ℕ → ℕ → List ℕ → List ℕ → List ℕ → Type 0
-Falling d f s p b e r head tail x l w = Fall (tableOf d f s) (p .query) (p .start) (p .stop) (p .lo) b e r head tail nothing x l w
+-- no row has left, nobody waits: who falls has no core time
+abbrev pub allRows : ℕ → Removal
+allRows end = record { day = never; end = end; head = 0; tail = 0 }
 
-abbrev pub Walking : List ℕ → List ℕ → List ℕ → Frame → ℕ → ℕ → ℕ → ℕ → ℕ → ℕ → List ℕ → List ℕ → List ℕ → Type 0
-Walking d f s p b e r head tail u x l w = Walk (tableOf d f s) (p .query) (p .start) (p .stop) (p .lo) b e r head tail u x l w
+-- the states for the frame p and the removal m, of the table of three columns
+abbrev pub Falling : List ℕ → List ℕ → List ℕ → Frame → ℕ → Removal → List ℕ → List ℕ → List ℕ → Type 0
+Falling d f s p b m x l w = Fall (tableOf d f s) p b (m .day) (m .end) (m .head) (m .tail) nothing x l w
+
+abbrev pub Walking : List ℕ → List ℕ → List ℕ → Frame → ℕ → Removal → ℕ → List ℕ → List ℕ → List ℕ → Type 0
+Walking d f s p b m u x l w = Walk (tableOf d f s) p b (m .day) (m .end) (m .head) (m .tail) u x l w
+
+-- r goes on from m: for the same day, with the same rows left
+pub record Continues (d f s : List ℕ) (p : Frame) (m r : Removal) (x l w : List ℕ) : Type 0 where
+  pub state : Falling d f s p 4096 r x l w
+  pub day : r .day ≡ m .day
+  pub end : r .end ≡ m .end
+
+-- somebody waits, at the head of the queue
+pub record HeadWaits (d f s : List ℕ) (p : Frame) (m : Removal) (x l w : List ℕ) : Type 0 where
+  pub state : Falling d f s p 4096 m x l w
+  pub some : m .head < m .tail
+
+-- and has been walked
+pub record HeadWalked (d f s : List ℕ) (p : Frame) (m r : Removal) (x l w : List ℕ) : Type 0 where
+  pub goes-on : Continues d f s p m r x l w
+  pub head : r .head ≡ m .head + 1
+
+-- nobody waits any more
+pub record QueueEmpty (d f s : List ℕ) (p : Frame) (m r : Removal) (x l w : List ℕ) : Type 0 where
+  pub goes-on : Continues d f s p m r x l w
+  pub idle : r .head ≡ r .tail
 
 -- l holds, by account, the fresh rows from lo on that are below end
 pub record Counted (t : Table) (lo end : ℕ) (l : List ℕ) : Type 0 where
   pub long : length l ≡ 4096
   pub rows : (u : ℕ) → u < 4096 → getD l u 0 ≡ count (λ j. (fresh t lo j and ltb j end) and touches t j u) (size t)
 
--- the rows from r on have left, and nobody waits
-pub record Fade (d f s : List ℕ) (p : Frame) (r tail : ℕ) (x l w : List ℕ) : Type 0 where
-  pub e : ℕ
-  pub state : Falling d f s p 4096 e r tail tail x l w
-  pub above : (j : ℕ) → j < r → dayOf (tableOf d f s) j ≤ e
-  pub within : r ≤ length d
-  pub from : p .lo ≤ r
-  pub dated : (j : ℕ) → j < r → (1 ≤ dayOf (tableOf d f s) j) × (dayOf (tableOf d f s) j ≤ p .stop)
+-- the rows from the end of m on have left, and nobody waits
+pub record Fade (d f s : List ℕ) (p : Frame) (m : Removal) (x l w : List ℕ) : Type 0 where
+  pub state : Falling d f s p 4096 m x l w
+  pub idle : m .head ≡ m .tail
+  pub above : (j : ℕ) → j < m .end → dayOf (tableOf d f s) j ≤ m .day
+  pub within : m .end ≤ length d
+  pub from : p .lo ≤ m .end
+  pub dated : (j : ℕ) → j < m .end → (1 ≤ dayOf (tableOf d f s) j) × (dayOf (tableOf d f s) j ≤ p .stop)
+
+-- a row is left, and has left
+pub record RowLeaves (d f s : List ℕ) (p : Frame) (m : Removal) (x l w : List ℕ) : Type 0 where
+  pub fade : Fade d f s p m x l w
+  pub some : p .lo < m .end
+
+pub record RowLeft (d f s : List ℕ) (p : Frame) (m r : Removal) (x l w : List ℕ) : Type 0 where
+  pub fade : Fade d f s p r x l w
+  pub fewer : r .end < m .end
 
 -- the rows dated by stop are those below end, and lo is among them or their end
 pub record Span (d : List ℕ) (stop lo end : ℕ) : Type 0 where

@@ -1,12 +1,9 @@
-use Rattle.rings.proofs.StageLaws.{count-place, count-first, count-second, count-skip, count-row, count-end}
-use Rattle.rings.specs.Inner.Peeling.{season, Counted}
-use Rattle.rings.specs.Table.{tableOf}
-use native.Mathlib.Nat.{le-refl, le-antisymm}
-use mathlib.Core.Path.{_≡_, refl, _∙_, subst}
-use lib.ListN.{length}
-use Prim.Native.Nat.{_-_, _≤_}
+-- `peel::count_neighbours` meets its contract. The loop's invariant: the rows below j have been counted (StageLaws).
+-- Assumes nothing.
 use native.Mathlib.Omega.{arith}
-use borrow.Author.Needs.{needs}
+use Prim.Native.Nat.{_-_}
+use mathlib.Core.Path.{refl}
+use Rattle.rings.proofs.StageLaws.{Counting, count-start, count-below, count-place, count-first, count-second, count-skip, count-row, count-end}
 use Rattle.rings.proofs.peel.count_neighbours.Statement.{statement}
 use Rattle.rings.proofs.peel.count_neighbours.Tie as tie
 use Rattle.rings.proofs.peel.count_neighbours.Reads as reads
@@ -16,48 +13,45 @@ use Rattle.rings.proofs.links.put.Reads as put-reads
 use Rattle.rings.proofs.peel.is_fresh.Reads as is-fresh-reads
 
 abbrev Inv-loop : tie.InvT-loop
-Inv-loop days first second links frame end left₀ n j₀ left j = (n ≡ length days) × (length left ≡ length left₀) × (j ≤ end) × Counted (tableOf days first second) (frame .lo) j left
+Inv-loop days first second links frame end left₀ n j₀ left j =
+    Counting days first second frame j end left₀ left
 
 abbrev μ-loop : tie.MeasureT-loop
 μ-loop days first second links frame end left₀ n j₀ left j = end - j
 
--- src/peel.rt:144:5
 loop-holds : tie.Need-loop-holds Inv-loop μ-loop
 loop-holds c =
     let pre = c .before .before .before .before .before .pre in
-    (refl, refl, pre .1 .0 .0, pre .1 .1)
+    count-start _ _ _ _ _ (pre .0) (pre .1 .0) (pre .1 .1)
 
--- src/peel.rt:145:12
 is-fresh-requires : tie.Need-is-fresh-requires Inv-loop μ-loop
 is-fresh-requires c κs =
     let loop = c .before .loop in
     let pre = c .before .before .before .before .before .before .before .pre in
-    count-place _ _ _ _ _ (pre .0) (loop .inv .3) (c .loop-test .taken) (pre .1 .0 .1)
+    let loop-test = c .loop-test in count-place _ _ _ _ _ (pre .0) (loop .inv) (loop-test .taken) (pre .1 .0)
 
--- src/peel.rt:146:17
 entry-requires : tie.Need-entry-requires Inv-loop μ-loop
 entry-requires c κs =
     let loop-test = c .before .before .loop-test in
+    let loop = c .before .before .before .loop in
     let pre = c .before .before .before .before .before .before .before .before .before .pre in
-    omega (arith, loop-test .taken, pre .1 .0 .1, pre .0 .sound .firsts)
+    omega (arith, count-below _ _ _ _ _ (pre .0) (loop .inv) (loop-test .taken) (pre .1 .0), pre .0 .sound .firsts)
 
--- src/peel.rt:147:17
 entry-requires-2 : tie.Need-entry-requires-2 Inv-loop μ-loop
 entry-requires-2 c κs =
     let loop-test = c .before .before .before .loop-test in
+    let loop = c .before .before .before .before .loop in
     let pre = c .before .before .before .before .before .before .before .before .before .before .pre in
-    omega (arith, loop-test .taken, pre .1 .0 .1, pre .0 .sound .seconds)
+    omega (arith, count-below _ _ _ _ _ (pre .0) (loop .inv) (loop-test .taken) (pre .1 .0), pre .0 .sound .seconds)
 
--- src/peel.rt:148:17
 entry-requires-3 : tie.Need-entry-requires-3 Inv-loop μ-loop
 entry-requires-3 c κs =
     let entry = c .before .before .entry in
     let loop-test = c .before .before .before .before .before .loop-test in
     let loop = c .before .before .before .before .before .before .loop in
     let pre = c .before .before .before .before .before .before .before .before .before .before .before .before .pre in
-    count-first _ _ _ _ _ (pre .0) (loop .inv .3) (loop-test .taken) (pre .1 .0 .1) (entry .ensures) refl .0
+    count-first _ _ _ _ _ (pre .0) (loop .inv) (loop-test .taken) (pre .1 .0) (entry .ensures) refl .0
 
--- src/peel.rt:149:26
 add-put : tie.Need-add-put Inv-loop μ-loop
 add-put c =
     let entry3 = c .before .entry3 in
@@ -67,27 +61,19 @@ add-put c =
     let pre = c .before .before .before .before .before .before .before .before .before .before .before .before .before .before .pre in
     omega (
       arith,
-      count-first _ _ _ _ _ (pre .0) (loop .inv .3) (loop-test .taken) (pre .1 .0 .1) (entry .ensures)
-          (entry3 .ensures),
+      count-first _ _ _ _ _ (pre .0) (loop .inv) (loop-test .taken) (pre .1 .0) (entry .ensures) (entry3 .ensures),
     )
 
--- src/peel.rt:149:13
 put-requires : tie.Need-put-requires Inv-loop μ-loop
 put-requires c κs =
     let entry3 = c .before .entry3 in
     let entry = c .before .before .before .before .entry in
     let loop-test = c .before .before .before .before .before .before .before .loop-test in
     let loop = c .before .before .before .before .before .before .before .before .loop in
-    let pre = c .before .before .before .before .before .before .before .before .before .before .before .before .before .before .pre in (
-      count-first _ _ _ _ _ (pre .0) (loop .inv .3) (loop-test .taken) (pre .1 .0 .1) (entry .ensures) refl .0,
-      omega (
-        arith,
-        count-first _ _ _ _ _ (pre .0) (loop .inv .3) (loop-test .taken) (pre .1 .0 .1) (entry .ensures)
-            (entry3 .ensures),
-      ),
-    )
+    let pre = c .before .before .before .before .before .before .before .before .before .before .before .before .before .before .pre in
+    let first = count-first _ _ _ _ _ (pre .0) (loop .inv) (loop-test .taken) (pre .1 .0) (entry .ensures)
+    (entry3 .ensures) in (first .0, omega (arith, first .1))
 
--- src/peel.rt:150:17
 entry-requires-4 : tie.Need-entry-requires-4 Inv-loop μ-loop
 entry-requires-4 c κs =
     let put = c .before .before .before .put in
@@ -97,10 +83,9 @@ entry-requires-4 c κs =
     let loop-test = c .before .before .before .before .before .before .before .before .before .before .before .loop-test in
     let loop = c .before .before .before .before .before .before .before .before .before .before .before .before .loop in
     let pre = c .before .before .before .before .before .before .before .before .before .before .before .before .before .before .before .before .before .before .pre in
-    count-second _ _ _ _ _ (pre .0) (loop .inv .3) (loop-test .taken) (pre .1 .0 .1) (entry .ensures) (entry2 .ensures)
+    count-second _ _ _ _ _ (pre .0) (loop .inv) (loop-test .taken) (pre .1 .0) (entry .ensures) (entry2 .ensures)
     (entry3 .ensures) (put .ensures) refl .0
 
--- src/peel.rt:151:26
 add-put-2 : tie.Need-add-put-2 Inv-loop μ-loop
 add-put-2 c =
     let entry4 = c .before .entry4 in
@@ -113,11 +98,10 @@ add-put-2 c =
     let pre = c .before .before .before .before .before .before .before .before .before .before .before .before .before .before .before .before .before .before .before .before .pre in
     omega (
       arith,
-      count-second _ _ _ _ _ (pre .0) (loop .inv .3) (loop-test .taken) (pre .1 .0 .1) (entry .ensures)
-          (entry2 .ensures) (entry3 .ensures) (put .ensures) (entry4 .ensures),
+      count-second _ _ _ _ _ (pre .0) (loop .inv) (loop-test .taken) (pre .1 .0) (entry .ensures) (entry2 .ensures)
+          (entry3 .ensures) (put .ensures) (entry4 .ensures),
     )
 
--- src/peel.rt:151:13
 put-requires-2 : tie.Need-put-requires-2 Inv-loop μ-loop
 put-requires-2 c κs =
     let entry4 = c .before .entry4 in
@@ -127,30 +111,22 @@ put-requires-2 c κs =
     let entry = c .before .before .before .before .before .before .before .before .before .before .entry in
     let loop-test = c .before .before .before .before .before .before .before .before .before .before .before .before .before .loop-test in
     let loop = c .before .before .before .before .before .before .before .before .before .before .before .before .before .before .loop in
-    let pre = c .before .before .before .before .before .before .before .before .before .before .before .before .before .before .before .before .before .before .before .before .pre in (
-      count-second _ _ _ _ _ (pre .0) (loop .inv .3) (loop-test .taken) (pre .1 .0 .1) (entry .ensures)
-          (entry2 .ensures) (entry3 .ensures) (put .ensures) refl .0,
-      omega (
-        arith,
-        count-second _ _ _ _ _ (pre .0) (loop .inv .3) (loop-test .taken) (pre .1 .0 .1) (entry .ensures)
-            (entry2 .ensures) (entry3 .ensures) (put .ensures) (entry4 .ensures),
-      ),
-    )
+    let pre = c .before .before .before .before .before .before .before .before .before .before .before .before .before .before .before .before .before .before .before .before .pre in
+    let second = count-second _ _ _ _ _ (pre .0) (loop .inv) (loop-test .taken) (pre .1 .0) (entry .ensures)
+    (entry2 .ensures) (entry3 .ensures) (put .ensures) (entry4 .ensures) in (second .0, omega (arith, second .1))
 
--- src/peel.rt:152:13
 add-j : tie.Need-add-j Inv-loop μ-loop
 add-j c =
     let loop-test = c .before .before .before .before .before .before .before .before .before .before .before .before .before .before .before .before .loop-test in
+    let loop = c .before .before .before .before .before .before .before .before .before .before .before .before .before .before .before .before .before .loop in
     let pre = c .before .before .before .before .before .before .before .before .before .before .before .before .before .before .before .before .before .before .before .before .before .before .before .pre in
-    omega (arith, loop-test .taken, pre .1 .0 .1, pre .0 .sound .most)
+    omega (arith, count-below _ _ _ _ _ (pre .0) (loop .inv) (loop-test .taken) (pre .1 .0), pre .0 .sound .most)
 
--- src/peel.rt:144:5
 loop-less : tie.Need-loop-less Inv-loop μ-loop
 loop-less c =
     let loop-test = c .before .before .before .before .before .before .before .before .before .before .before .before .before .before .before .before .loop-test in
     omega (arith, loop-test .taken)
 
--- src/peel.rt:144:5
 loop-again : tie.Need-loop-again Inv-loop μ-loop
 loop-again c =
     let put2 = c .before .before .put2 in
@@ -163,51 +139,40 @@ loop-again c =
     let is-fresh = c .before .before .before .before .before .before .before .before .before .before .before .before .before .before .before .is-fresh in
     let loop-test = c .before .before .before .before .before .before .before .before .before .before .before .before .before .before .before .before .loop-test in
     let loop = c .before .before .before .before .before .before .before .before .before .before .before .before .before .before .before .before .before .loop in
-    let pre = c .before .before .before .before .before .before .before .before .before .before .before .before .before .before .before .before .before .before .before .before .before .before .before .pre in (
-      refl,
-      put2 .kept .0 ∙ (put .kept .0 ∙ loop .inv .1),
-      omega (arith, loop-test .taken),
-      count-row _ _ _ _ _ (pre .0) (loop .inv .3) (loop-test .taken) (pre .1 .0 .1) (is-fresh .ensures) (if1 .taken)
-          (entry .ensures) (entry2 .ensures) (entry3 .ensures) (put .ensures) (entry4 .ensures) (put2 .ensures),
-    )
+    let pre = c .before .before .before .before .before .before .before .before .before .before .before .before .before .before .before .before .before .before .before .before .before .before .before .pre in
+    count-row _ _ _ _ _ (pre .0) (loop .inv) (loop-test .taken) (pre .1 .0) (is-fresh .ensures) (if1 .taken)
+    (entry .ensures) (entry2 .ensures) (entry3 .ensures) (put .ensures) (entry4 .ensures) (put2 .ensures)
 
--- src/peel.rt:155:9
 add-j-2 : tie.Need-add-j-2 Inv-loop μ-loop
 add-j-2 c =
     let loop-test = c .before .before .loop-test in
+    let loop = c .before .before .before .loop in
     let pre = c .before .before .before .before .before .before .before .before .before .pre in
-    omega (arith, loop-test .taken, pre .1 .0 .1, pre .0 .sound .most)
+    omega (arith, count-below _ _ _ _ _ (pre .0) (loop .inv) (loop-test .taken) (pre .1 .0), pre .0 .sound .most)
 
--- src/peel.rt:144:5
 loop-less-2 : tie.Need-loop-less-2 Inv-loop μ-loop
 loop-less-2 c =
     let loop-test = c .before .before .loop-test in
     omega (arith, loop-test .taken)
 
--- src/peel.rt:144:5
 loop-again-2 : tie.Need-loop-again-2 Inv-loop μ-loop
 loop-again-2 c =
     let is-fresh = c .before .is-fresh in
     let loop-test = c .before .before .loop-test in
     let loop = c .before .before .before .loop in
-    let pre = c .before .before .before .before .before .before .before .before .before .pre in (
-      refl,
-      loop .inv .1,
-      omega (arith, loop-test .taken),
-      count-skip _ _ _ _ _ (pre .0) (loop .inv .3) (loop-test .taken) (pre .1 .0 .1) (is-fresh .ensures) (c .if1 .left),
-    )
+    let pre = c .before .before .before .before .before .before .before .before .before .pre in
+    let if1 = c .if1 in
+    count-skip _ _ _ _ _ (pre .0) (loop .inv) (loop-test .taken) (pre .1 .0) (is-fresh .ensures) (if1 .left)
 
--- src/peel.rt:136:1
 same-length : tie.Need-same-length Inv-loop μ-loop
 same-length c =
     let loop = c .before .loop in
-    loop .inv .1
+    loop .inv .lengths
 
--- src/peel.rt:136:1
 returns : tie.Need-returns Inv-loop μ-loop
 returns c =
     let loop = c .before .loop in
-    count-end (loop .inv .3) (loop .inv .2) (c .loop-test .left)
+    let loop-test = c .loop-test in count-end (loop .inv) (loop-test .left)
 
 pub count-neighbours-spec : {M : Type 1} → statement M
 count-neighbours-spec =

@@ -1,100 +1,74 @@
-use Rattle.rings.proofs.StageLaws.{tail-most, drain-walk, drain-end}
-use Rattle.rings.specs.Inner.Peeling.{season, Falling}
-use mathlib.Core.Path.{_≡_, refl, _∙_}
-use lib.ListN.{length}
-use Prim.Native.Nat.{_-_}
+-- `peel::drain` meets its contract. The loop's invariant: the removal has gone on from where it began (StageLaws).
+-- Assumes nothing.
 use native.Mathlib.Omega.{arith}
-use borrow.Author.Needs.{needs}
+use Prim.Native.Nat.{_-_}
+use Rattle.rings.proofs.StageLaws.{Drain, tail-most, drain-start, drain-next, drain-end}
 use Rattle.rings.proofs.peel.drain.Statement.{statement}
 use Rattle.rings.proofs.peel.drain.Tie as tie
 use Rattle.rings.proofs.peel.drain.Reads as reads
 use Rattle.rings.proofs.peel.drain.Lts as lts
-use Rattle.rings.proofs.links.entry.Reads as entry-reads
 use Rattle.rings.proofs.peel.walk.Reads as walk-reads
 
 abbrev Inv-loop : tie.InvT-loop
-Inv-loop days first second links frame e r head tail times₀ left₀ queue₀ front₀ last₀ times left queue front last = ((length times ≡ length times₀) × (length left ≡ length left₀) × (length queue ≡ length queue₀)) × Falling days first second frame 4096 e r front last times left queue
+Inv-loop days first second links frame times₀ left₀ queue₀ state₀ times left queue state =
+    Drain days first second frame state₀ state times₀ left₀ queue₀ times left queue
 
 abbrev μ-loop : tie.MeasureT-loop
-μ-loop days first second links frame e r head tail times₀ left₀ queue₀ front₀ last₀ times left queue front last = 4096 - front
+μ-loop days first second links frame times₀ left₀ queue₀ state₀ times left queue state = 4096 - state .head
 
--- src/peel.rt:87:5
 loop-holds : tie.Need-loop-holds Inv-loop μ-loop
 loop-holds c =
     let pre = c .before .before .before .before .before .before .before .pre in
-    ((refl, refl, refl), pre .1)
+    drain-start _ _ _ _ _ (pre .0) (pre .1)
 
--- src/peel.rt:88:13
-entry-requires : tie.Need-entry-requires Inv-loop μ-loop
-entry-requires c κs =
-    let loop-test = c .before .loop-test in
-    let loop = c .before .before .loop in
-    let pre = c .before .before .before .before .before .before .before .before .before .before .pre in
-    omega (arith, loop-test .taken, tail-most _ _ _ _ _ (pre .0) (loop .inv .1), loop .inv .1 .len-w)
-
--- src/peel.rt:89:9
 walk-requires : tie.Need-walk-requires Inv-loop μ-loop
 walk-requires c κs =
-    let entry = c .before .before .before .entry in
-    let loop-test = c .before .before .before .before .before .loop-test in
-    let loop = c .before .before .before .before .before .before .loop in
-    let pre = c .before .before .before .before .before .before .before .before .before .before .before .before .before .before .pre in
-    (pre .0, drain-walk _ _ _ _ _ (pre .0) (loop .inv .1) (loop-test .taken) (entry .ensures))
+    let if1 = c .before .before .before .if1 in
+    let loop = c .before .before .before .before .before .loop in
+    let pre = c .before .before .before .before .before .before .before .before .before .before .before .before .before .pre in
+    (pre .0, record { state = loop .inv .goes-on .state; some = if1 .taken })
 
--- src/peel.rt:90:9
-add-front : tie.Need-add-front Inv-loop μ-loop
-add-front c =
-    let loop-test = c .before .before .before .before .before .before .before .before .before .before .before .before .loop-test in
-    let loop = c .before .before .before .before .before .before .before .before .before .before .before .before .before .loop in
-    let pre = c .before .before .before .before .before .before .before .before .before .before .before .before .before .before .before .before .before .before .before .before .before .pre in
-    omega (arith, loop-test .taken, tail-most _ _ _ _ _ (pre .0) (loop .inv .1))
-
--- src/peel.rt:87:5
 loop-less : tie.Need-loop-less Inv-loop μ-loop
 loop-less c =
-    let loop-test = c .before .before .before .before .before .before .before .before .before .before .before .before .loop-test in
-    let loop = c .before .before .before .before .before .before .before .before .before .before .before .before .before .loop in
-    let pre = c .before .before .before .before .before .before .before .before .before .before .before .before .before .before .before .before .before .before .before .before .before .pre in
-    omega (arith, loop-test .taken, tail-most _ _ _ _ _ (pre .0) (loop .inv .1))
+    let walk = c .before .before .before .before .before .before .walk in
+    let if1 = c .before .before .before .before .before .before .before .before .before .before .if1 in
+    let loop = c .before .before .before .before .before .before .before .before .before .before .before .before .loop in
+    let pre = c .before .before .before .before .before .before .before .before .before .before .before .before .before .before .before .before .before .before .before .before .pre in
+    omega (arith, if1 .taken, tail-most _ _ _ _ _ (pre .0) (loop .inv .goes-on .state), walk .ensures .head)
 
--- src/peel.rt:87:5
 loop-again : tie.Need-loop-again Inv-loop μ-loop
 loop-again c =
     let walk = c .before .before .before .before .before .before .walk in
-    let loop = c .before .before .before .before .before .before .before .before .before .before .before .before .before .loop in (
-      (walk .kept .1 .1 .1 .1 .1 .1 .1 .1 .1 .1 .0 ∙ loop .inv .0 .0, walk .kept .1 .1 .1 .1 .1 .1 .1 .1 .1 .1 .1 .0 ∙ loop .inv .0 .1, walk .kept .1 .1 .1 .1 .1 .1 .1 .1 .1 .1 .1 .1 .0 ∙ loop .inv .0 .2),
-      walk .ensures,
-    )
+    let loop = c .before .before .before .before .before .before .before .before .before .before .before .before .loop in
+    let pre = c .before .before .before .before .before .before .before .before .before .before .before .before .before .before .before .before .before .before .before .before .pre in
+    drain-next _ _ _ _ _ (pre .0) (loop .inv) (walk .kept .1 .1 .1 .1 .1 .1 .0) (walk .kept .1 .1 .1 .1 .1 .1 .1 .0)
+    (walk .kept .1 .1 .1 .1 .1 .1 .1 .1 .0) (walk .ensures)
 
--- src/peel.rt:80:1
 same-length : tie.Need-same-length Inv-loop μ-loop
 same-length c =
-    let loop = c .before .loop in
-    loop .inv .0 .0
+    let loop = c .before .before .loop in
+    loop .inv .lengths .times
 
--- src/peel.rt:80:1
 same-length-2 : tie.Need-same-length-2 Inv-loop μ-loop
 same-length-2 c =
-    let loop = c .before .loop in
-    loop .inv .0 .1
+    let loop = c .before .before .loop in
+    loop .inv .lengths .left
 
--- src/peel.rt:80:1
 same-length-3 : tie.Need-same-length-3 Inv-loop μ-loop
 same-length-3 c =
-    let loop = c .before .loop in
-    loop .inv .0 .2
+    let loop = c .before .before .loop in
+    loop .inv .lengths .queue
 
--- src/peel.rt:80:1
 returns : tie.Need-returns Inv-loop μ-loop
 returns c =
-    let loop = c .before .loop in
-    let pre = c .before .before .before .before .before .before .before .before .before .pre in
-    drain-end _ _ _ _ _ (pre .0) (loop .inv .1) (c .loop-test .left)
+    let loop = c .before .before .loop in
+    let pre = c .before .before .before .before .before .before .before .before .before .before .pre in
+    let if1 = c .if1 in drain-end _ _ _ _ _ (pre .0) (loop .inv) (if1 .left)
 
 pub drain-spec : {M : Type 1} → statement M
 drain-spec =
     tie.close
     (
-    tie.spec Inv-loop μ-loop loop-holds entry-requires walk-requires add-front loop-less loop-again same-length
-    same-length-2 same-length-3 returns
+    tie.spec Inv-loop μ-loop loop-holds walk-requires loop-less loop-again same-length same-length-2 same-length-3
+    returns
     )

@@ -7,32 +7,26 @@ use Rattle.rings.proofs.peel.peel.Lts as lts
 use Rattle.rings.proofs.peel.core.Reads as core-reads
 use Rattle.rings.proofs.peel.fade.Reads as fade-reads
 
--- src/peel.rt:342:9
 core-requires : tie.Need-core-requires
 core-requires c κs =
     let pre = c .before .before .before .before .before .before .before .before .before .before .pre in
     pre
 
--- src/peel.rt:343:5
 fade-requires : tie.Need-fade-requires
 fade-requires c κs =
     let core = c .before .before .before .before .before .before .before .before .before .core in
     let pre = c .before .before .before .before .before .before .before .before .before .before .before .before .before .before .before .before .before .before .before .before .pre in
     (pre .0, fade-start _ _ _ _ _ (pre .0) (pre .1 .0) (core .ensures))
 
--- src/peel.rt:336:1
 same-length : tie.Need-same-length
 same-length c = search needs
 
--- src/peel.rt:336:1
 same-length-2 : tie.Need-same-length-2
 same-length-2 c = search needs
 
--- src/peel.rt:336:1
 same-length-3 : tie.Need-same-length-3
 same-length-3 c = search needs
 
--- src/peel.rt:336:1
 returns : tie.Need-returns
 returns c =
     let fade = c .before .before .before .before .before .before .fade in

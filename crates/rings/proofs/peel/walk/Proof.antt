@@ -1,12 +1,9 @@
-use Rattle.rings.proofs.WalkLaws.{at-ends, At, at-small, at-end, at-start, at-out, at-place, at-few, row-below, at-stop, at-fresh-yes, at-fresh-no, at-fresh-place, at-skip, at-room, at-lose}
-use Rattle.rings.specs.Inner.Peeling.{season}
-use Rattle.rings.specs.Inner.Links.{placeOf}
-use Rattle.rings.specs.Table.{tableOf}
-use mathlib.Core.Path.{_≡_, refl, _∙_, sym}
-use lib.ListN.{length}
-use Prim.Native.Nat.{suc, _-_}
+-- `peel::walk` meets its contract. The loop's invariant: the rows of u before place p have been passed (WalkLaws).
+-- Assumes nothing.
 use native.Mathlib.Omega.{arith}
-use borrow.Author.Needs.{needs}
+use Prim.Native.Nat.{_-_}
+use Rattle.rings.proofs.WalkLaws.{At, head-small, head-place, at-small, at-start, at-place, at-few, row-below, at-stop, at-out}
+use Rattle.rings.proofs.WalkLaws.{at-fresh-yes, at-fresh-no, at-fresh-place, at-ends, at-room, at-lose, at-skip}
 use Rattle.rings.proofs.peel.walk.Statement.{statement}
 use Rattle.rings.proofs.peel.walk.Tie as tie
 use Rattle.rings.proofs.peel.walk.Reads as reads
@@ -17,241 +14,244 @@ use Rattle.rings.proofs.peel.is_fresh.Reads as is-fresh-reads
 use Rattle.rings.proofs.peel.lose.Reads as lose-reads
 
 abbrev Inv-loop : tie.InvT-loop
-Inv-loop days first second links frame e r head tail u times₀ left₀ queue₀ n end p₀ last₀ times left queue p last = (n ≡ length days) × ((length times ≡ length times₀) × (length left ≡ length left₀) × (length queue ≡ length queue₀)) × (end ≡ placeOf (tableOf days first second) (suc u)) × At days first second frame e r head u p last times left queue
+Inv-loop days first second links frame removal times₀ left₀ queue₀ n u end p₀ tail₀ times left queue p tail =
+    At days first second frame removal u end p tail times₀ left₀ queue₀ times left queue
 
 abbrev μ-loop : tie.MeasureT-loop
-μ-loop days first second links frame e r head tail u times₀ left₀ queue₀ n end p₀ last₀ times left queue p last = end - p
+μ-loop days first second links frame removal times₀ left₀ queue₀ n u end p₀ tail₀ times left queue p tail =
+    end - p
 
--- src/peel.rt:57:9
+-- src/peel.rt:89:9
 entry-requires : tie.Need-entry-requires Inv-loop μ-loop
 entry-requires c κs =
-    let pre = c .before .before .before .before .before .before .before .pre in
-    omega (arith, at-small _ _ _ _ _ (pre .0) (pre .1), pre .0 .linked .long)
-
--- src/peel.rt:58:30
-add-entry : tie.Need-add-entry Inv-loop μ-loop
-add-entry c =
     let pre = c .before .before .before .before .before .before .before .before .pre in
-    omega (arith, at-small _ _ _ _ _ (pre .0) (pre .1))
+    head-place _ _ _ _ _ (pre .0) (pre .1)
 
--- src/peel.rt:58:9
+-- src/peel.rt:90:9
 entry-requires-2 : tie.Need-entry-requires-2 Inv-loop μ-loop
 entry-requires-2 c κs =
-    let pre = c .before .before .before .before .before .before .before .before .pre in
-    omega (arith, at-small _ _ _ _ _ (pre .0) (pre .1), pre .0 .linked .long)
+    let pre = c .before .before .before .before .before .before .before .before .before .pre in
+    let entry = c .entry in omega (arith, at-small _ _ _ _ _ (pre .0) (pre .1) (entry .ensures), pre .0 .linked .long)
 
--- src/peel.rt:60:5
+-- src/peel.rt:91:30
+add-entry : tie.Need-add-entry Inv-loop μ-loop
+add-entry c =
+    let entry = c .before .entry in
+    let pre = c .before .before .before .before .before .before .before .before .before .before .pre in
+    omega (arith, at-small _ _ _ _ _ (pre .0) (pre .1) (entry .ensures))
+
+-- src/peel.rt:91:9
+entry-requires-3 : tie.Need-entry-requires-3 Inv-loop μ-loop
+entry-requires-3 c κs =
+    let entry = c .before .entry in
+    let pre = c .before .before .before .before .before .before .before .before .before .before .pre in
+    omega (arith, at-small _ _ _ _ _ (pre .0) (pre .1) (entry .ensures), pre .0 .linked .long)
+
+-- src/peel.rt:93:5
 loop-holds : tie.Need-loop-holds Inv-loop μ-loop
 loop-holds c =
-    let entry = c .before .entry in
-    let pre = c .before .before .before .before .before .before .before .before .before .pre in (
-      refl,
-      (refl, refl, refl),
-      at-end _ _ _ _ _ (pre .0) (pre .1) (entry .ensures),
-      at-start _ _ _ _ _ (pre .0) (pre .1) (c .entry2 .ensures),
-    )
+    let entry2 = c .before .entry2 in
+    let entry = c .before .before .entry in
+    let pre = c .before .before .before .before .before .before .before .before .before .before .before .pre in
+    let entry3 = c .entry3 in at-start _ _ _ _ _ (pre .0) (pre .1) (entry .ensures) (entry2 .ensures) (entry3 .ensures)
 
--- src/peel.rt:61:30
+-- src/peel.rt:94:30
 add-entry-2 : tie.Need-add-entry-2 Inv-loop μ-loop
 add-entry-2 c =
     let loop = c .before .loop in
-    let pre = c .before .before .before .before .before .before .before .before .before .before .before .pre in
-    omega (arith, at-few _ _ _ _ _ (pre .0) (loop .inv .3) (loop .inv .2) (c .loop-test .taken))
-
--- src/peel.rt:61:13
-entry-requires-3 : tie.Need-entry-requires-3 Inv-loop μ-loop
-entry-requires-3 c κs =
-    let loop = c .before .loop in
-    let pre = c .before .before .before .before .before .before .before .before .before .before .before .pre in
-    at-place _ _ _ _ _ (pre .0) (loop .inv .3) (loop .inv .2) (c .loop-test .taken)
-
--- src/peel.rt:63:13
-same-length : tie.Need-same-length Inv-loop μ-loop
-same-length c =
-    let loop = c .before .before .before .loop in
-    loop .inv .1 .0
-
--- src/peel.rt:63:13
-same-length-2 : tie.Need-same-length-2 Inv-loop μ-loop
-same-length-2 c =
-    let loop = c .before .before .before .loop in
-    loop .inv .1 .1
-
--- src/peel.rt:63:13
-same-length-3 : tie.Need-same-length-3 Inv-loop μ-loop
-same-length-3 c =
-    let loop = c .before .before .before .loop in
-    loop .inv .1 .2
-
--- src/peel.rt:63:13
-returns : tie.Need-returns Inv-loop μ-loop
-returns c =
-    let entry3 = c .before .entry3 in
-    let loop-test = c .before .before .loop-test in
-    let loop = c .before .before .before .loop in
     let pre = c .before .before .before .before .before .before .before .before .before .before .before .before .before .pre in
-    at-stop _ _ _ _ _ (pre .0) (loop .inv .3) (loop .inv .2) (loop-test .taken) (entry3 .ensures) (c .if1 .taken)
+    let loop-test = c .loop-test in omega (arith, at-few _ _ _ _ _ (pre .0) (loop .inv) (loop-test .taken))
 
--- src/peel.rt:65:9
-add-p : tie.Need-add-p Inv-loop μ-loop
-add-p c =
-    let loop-test = c .before .before .loop-test in
-    let loop = c .before .before .before .loop in
-    let pre = c .before .before .before .before .before .before .before .before .before .before .before .before .before .pre in
-    omega (arith, at-few _ _ _ _ _ (pre .0) (loop .inv .3) (loop .inv .2) (loop-test .taken))
-
--- src/peel.rt:66:12
-is-fresh-requires : tie.Need-is-fresh-requires Inv-loop μ-loop
-is-fresh-requires c κs =
-    let entry3 = c .before .entry3 in
-    let loop-test = c .before .before .loop-test in
-    let loop = c .before .before .before .loop in
-    let pre = c .before .before .before .before .before .before .before .before .before .before .before .before .before .pre in
-    at-fresh-place _ _ _ _ _ (pre .0) (loop .inv .3) (loop .inv .2) (loop-test .taken) (entry3 .ensures)
-
--- src/peel.rt:67:17
+-- src/peel.rt:94:13
 entry-requires-4 : tie.Need-entry-requires-4 Inv-loop μ-loop
 entry-requires-4 c κs =
-    let entry3 = c .before .before .before .entry3 in
+    let loop = c .before .loop in
+    let pre = c .before .before .before .before .before .before .before .before .before .before .before .before .before .pre in
+    let loop-test = c .loop-test in at-place _ _ _ _ _ (pre .0) (loop .inv) (loop-test .taken)
+
+-- src/peel.rt:99:23
+add-t24 : tie.Need-add-t24 Inv-loop μ-loop
+add-t24 c =
+    let pre = c .before .before .before .before .before .before .before .before .before .before .before .before .before .before .before .before .before .pre in
+    omega (arith, head-small _ _ _ _ _ (pre .0) (pre .1))
+
+-- src/peel.rt:96:13
+same-length : tie.Need-same-length Inv-loop μ-loop
+same-length c =
+    let loop = c .before .before .before .before .before .loop in
+    loop .inv .lengths .times
+
+-- src/peel.rt:96:13
+same-length-2 : tie.Need-same-length-2 Inv-loop μ-loop
+same-length-2 c =
+    let loop = c .before .before .before .before .before .loop in
+    loop .inv .lengths .left
+
+-- src/peel.rt:96:13
+same-length-3 : tie.Need-same-length-3 Inv-loop μ-loop
+same-length-3 c =
+    let loop = c .before .before .before .before .before .loop in
+    loop .inv .lengths .queue
+
+-- src/peel.rt:96:13
+returns : tie.Need-returns Inv-loop μ-loop
+returns c =
+    let if1 = c .before .if1 in
+    let entry4 = c .before .before .before .entry4 in
     let loop-test = c .before .before .before .before .loop-test in
     let loop = c .before .before .before .before .before .loop in
-    let pre = c .before .before .before .before .before .before .before .before .before .before .before .before .before .before .before .pre in
-    omega (
-      arith,
-      row-below _ _ _ _ _ (pre .0) (loop .inv .3) (loop .inv .2) (loop-test .taken) (entry3 .ensures),
-      pre .0 .sound .firsts,
-    )
+    let pre = c .before .before .before .before .before .before .before .before .before .before .before .before .before .before .before .before .before .pre in
+    at-stop _ _ _ _ _ (pre .0) (loop .inv) (loop-test .taken) (entry4 .ensures) (if1 .taken)
 
--- src/peel.rt:68:17
+-- src/peel.rt:103:9
+add-p : tie.Need-add-p Inv-loop μ-loop
+add-p c =
+    let loop-test = c .before .before .before .loop-test in
+    let loop = c .before .before .before .before .loop in
+    let pre = c .before .before .before .before .before .before .before .before .before .before .before .before .before .before .before .before .pre in
+    omega (arith, at-few _ _ _ _ _ (pre .0) (loop .inv) (loop-test .taken))
+
+-- src/peel.rt:104:12
+is-fresh-requires : tie.Need-is-fresh-requires Inv-loop μ-loop
+is-fresh-requires c κs =
+    let entry4 = c .before .before .entry4 in
+    let loop-test = c .before .before .before .loop-test in
+    let loop = c .before .before .before .before .loop in
+    let pre = c .before .before .before .before .before .before .before .before .before .before .before .before .before .before .before .before .pre in
+    at-fresh-place _ _ _ _ _ (pre .0) (loop .inv) (loop-test .taken) (entry4 .ensures)
+
+-- src/peel.rt:105:17
 entry-requires-5 : tie.Need-entry-requires-5 Inv-loop μ-loop
 entry-requires-5 c κs =
-    let entry3 = c .before .before .before .before .entry3 in
+    let entry4 = c .before .before .before .before .entry4 in
     let loop-test = c .before .before .before .before .before .loop-test in
     let loop = c .before .before .before .before .before .before .loop in
-    let pre = c .before .before .before .before .before .before .before .before .before .before .before .before .before .before .before .before .pre in
-    omega (
-      arith,
-      row-below _ _ _ _ _ (pre .0) (loop .inv .3) (loop .inv .2) (loop-test .taken) (entry3 .ensures),
-      pre .0 .sound .seconds,
-    )
+    let pre = c .before .before .before .before .before .before .before .before .before .before .before .before .before .before .before .before .before .before .pre in
+    omega (arith, row-below _ _ _ _ _ (pre .0) (loop .inv) (loop-test .taken) (entry4 .ensures), pre .0 .sound .firsts)
 
--- src/peel.rt:69:17
-other-requires : tie.Need-other-requires Inv-loop μ-loop
-other-requires c κs =
-    let entry4 = c .before .entry4 in
-    let entry3 = c .before .before .before .before .before .entry3 in
+-- src/peel.rt:106:17
+entry-requires-6 : tie.Need-entry-requires-6 Inv-loop μ-loop
+entry-requires-6 c κs =
+    let entry4 = c .before .before .before .before .before .entry4 in
     let loop-test = c .before .before .before .before .before .before .loop-test in
     let loop = c .before .before .before .before .before .before .before .loop in
-    let pre = c .before .before .before .before .before .before .before .before .before .before .before .before .before .before .before .before .before .pre in
-    at-ends _ _ _ _ _ (pre .0) (loop .inv .3) (loop .inv .2) (loop-test .taken) (entry3 .ensures) (entry4 .ensures)
-    (c .entry5 .ensures)
+    let pre = c .before .before .before .before .before .before .before .before .before .before .before .before .before .before .before .before .before .before .before .pre in
+    omega (arith, row-below _ _ _ _ _ (pre .0) (loop .inv) (loop-test .taken) (entry4 .ensures), pre .0 .sound .seconds)
 
--- src/peel.rt:70:13
+-- src/peel.rt:107:17
+other-requires : tie.Need-other-requires Inv-loop μ-loop
+other-requires c κs =
+    let entry5 = c .before .entry5 in
+    let entry4 = c .before .before .before .before .before .before .entry4 in
+    let loop-test = c .before .before .before .before .before .before .before .loop-test in
+    let loop = c .before .before .before .before .before .before .before .before .loop in
+    let pre = c .before .before .before .before .before .before .before .before .before .before .before .before .before .before .before .before .before .before .before .before .pre in
+    let entry6 = c .entry6 in
+    at-ends _ _ _ _ _ (pre .0) (loop .inv) (loop-test .taken) (entry4 .ensures) (entry5 .ensures) (entry6 .ensures)
+
+-- src/peel.rt:108:13
 lose-requires : tie.Need-lose-requires Inv-loop μ-loop
 lose-requires c κs =
     let other = c .before .before .before .other in
-    let entry5 = c .before .before .before .before .entry5 in
-    let entry4 = c .before .before .before .before .before .entry4 in
+    let entry6 = c .before .before .before .before .entry6 in
+    let entry5 = c .before .before .before .before .before .entry5 in
     let if2 = c .before .before .before .before .before .before .if2 in
     let is-fresh = c .before .before .before .before .before .before .before .is-fresh in
     let if1 = c .before .before .before .before .before .before .before .before .if1 in
-    let entry3 = c .before .before .before .before .before .before .before .before .before .entry3 in
-    let loop-test = c .before .before .before .before .before .before .before .before .before .before .loop-test in
-    let loop = c .before .before .before .before .before .before .before .before .before .before .before .loop in
-    let pre = c .before .before .before .before .before .before .before .before .before .before .before .before .before .before .before .before .before .before .before .before .before .pre in
-    at-room _ _ _ _ _ (pre .0) (loop .inv .3) (loop .inv .2) (loop-test .taken) (entry3 .ensures) (entry4 .ensures)
-    (entry5 .ensures) (other .ensures) (if1 .left)
+    let entry4 = c .before .before .before .before .before .before .before .before .before .before .entry4 in
+    let loop-test = c .before .before .before .before .before .before .before .before .before .before .before .loop-test in
+    let loop = c .before .before .before .before .before .before .before .before .before .before .before .before .loop in
+    let pre = c .before .before .before .before .before .before .before .before .before .before .before .before .before .before .before .before .before .before .before .before .before .before .before .before .pre in
+    at-room _ _ _ _ _ (pre .0) (loop .inv) (loop-test .taken) (entry4 .ensures) (entry5 .ensures) (entry6 .ensures)
+    (other .ensures) (if1 .left)
     (
-    at-fresh-yes _ _ _ _ _ (pre .0) (loop .inv .3) (loop .inv .2) (loop-test .taken) (entry3 .ensures)
-    (is-fresh .ensures) (if2 .taken)
+    at-fresh-yes _ _ _ _ _ (pre .0) (loop .inv) (loop-test .taken) (entry4 .ensures) (is-fresh .ensures)
+    (if2 .taken)
     )
 
--- src/peel.rt:60:5
+-- src/peel.rt:93:5
 loop-less : tie.Need-loop-less Inv-loop μ-loop
 loop-less c =
-    let loop-test = c .before .before .before .before .before .before .before .before .before .before .before .before .before .before .before .before .before .loop-test in
+    let loop-test = c .before .before .before .before .before .before .before .before .before .before .before .before .before .before .before .before .before .before .loop-test in
     omega (arith, loop-test .taken)
 
--- src/peel.rt:60:5
+-- src/peel.rt:93:5
 loop-again : tie.Need-loop-again Inv-loop μ-loop
 loop-again c =
     let lose = c .before .before .before .before .before .before .lose in
     let other = c .before .before .before .before .before .before .before .before .before .before .other in
-    let entry5 = c .before .before .before .before .before .before .before .before .before .before .before .entry5 in
-    let entry4 = c .before .before .before .before .before .before .before .before .before .before .before .before .entry4 in
+    let entry6 = c .before .before .before .before .before .before .before .before .before .before .before .entry6 in
+    let entry5 = c .before .before .before .before .before .before .before .before .before .before .before .before .entry5 in
     let if2 = c .before .before .before .before .before .before .before .before .before .before .before .before .before .if2 in
     let is-fresh = c .before .before .before .before .before .before .before .before .before .before .before .before .before .before .is-fresh in
     let if1 = c .before .before .before .before .before .before .before .before .before .before .before .before .before .before .before .if1 in
-    let entry3 = c .before .before .before .before .before .before .before .before .before .before .before .before .before .before .before .before .entry3 in
-    let loop-test = c .before .before .before .before .before .before .before .before .before .before .before .before .before .before .before .before .before .loop-test in
-    let loop = c .before .before .before .before .before .before .before .before .before .before .before .before .before .before .before .before .before .before .loop in
-    let pre = c .before .before .before .before .before .before .before .before .before .before .before .before .before .before .before .before .before .before .before .before .before .before .before .before .before .before .before .before .pre in (
-      loop .inv .0,
-      (lose .kept .1 .1 .1 .1 .0 ∙ loop .inv .1 .0, lose .kept .1 .1 .1 .1 .1 .0 ∙ loop .inv .1 .1, lose .kept .1 .1 .1 .1 .1 .1 .0 ∙ loop .inv .1 .2),
-      loop .inv .2,
-      at-lose _ _ _ _ _ (pre .0) (loop .inv .3) (loop .inv .2) (loop-test .taken) (entry3 .ensures) (entry4 .ensures)
-          (entry5 .ensures) (other .ensures) (if1 .left)
-          (
-          at-fresh-yes _ _ _ _ _ (pre .0) (loop .inv .3) (loop .inv .2) (loop-test .taken) (entry3 .ensures)
-          (is-fresh .ensures) (if2 .taken)
-          ) (lose .ensures),
-    )
+    let entry4 = c .before .before .before .before .before .before .before .before .before .before .before .before .before .before .before .before .before .entry4 in
+    let loop-test = c .before .before .before .before .before .before .before .before .before .before .before .before .before .before .before .before .before .before .loop-test in
+    let loop = c .before .before .before .before .before .before .before .before .before .before .before .before .before .before .before .before .before .before .before .loop in
+    let pre = c .before .before .before .before .before .before .before .before .before .before .before .before .before .before .before .before .before .before .before .before .before .before .before .before .before .before .before .before .before .before .before .pre in
+    at-lose _ _ _ _ _ (pre .0) (loop .inv) (loop-test .taken) (entry4 .ensures) (entry5 .ensures) (entry6 .ensures)
+    (other .ensures) (if1 .left)
+    (
+    at-fresh-yes _ _ _ _ _ (pre .0) (loop .inv) (loop-test .taken) (entry4 .ensures) (is-fresh .ensures)
+    (if2 .taken)
+    ) (lose .kept .1 .1 .1 .1 .0) (lose .kept .1 .1 .1 .1 .1 .0) (lose .kept .1 .1 .1 .1 .1 .1 .0) (lose .ensures)
 
--- src/peel.rt:60:5
+-- src/peel.rt:93:5
 loop-less-2 : tie.Need-loop-less-2 Inv-loop μ-loop
 loop-less-2 c =
-    let loop-test = c .before .before .before .before .loop-test in
+    let loop-test = c .before .before .before .before .before .loop-test in
     omega (arith, loop-test .taken)
 
--- src/peel.rt:60:5
+-- src/peel.rt:93:5
 loop-again-2 : tie.Need-loop-again-2 Inv-loop μ-loop
 loop-again-2 c =
     let is-fresh = c .before .is-fresh in
-    let entry3 = c .before .before .before .entry3 in
-    let loop-test = c .before .before .before .before .loop-test in
-    let loop = c .before .before .before .before .before .loop in
-    let pre = c .before .before .before .before .before .before .before .before .before .before .before .before .before .before .before .pre in (
-      loop .inv .0,
-      loop .inv .1,
-      loop .inv .2,
-      at-skip _ _ _ _ _ (pre .0) (loop .inv .3) (loop .inv .2) (loop-test .taken) (entry3 .ensures)
-          (
-          at-fresh-no _ _ _ _ _ (pre .0) (loop .inv .3) (loop .inv .2) (loop-test .taken) (entry3 .ensures)
-          (is-fresh .ensures) (c .if2 .left)
-          ),
-    )
+    let entry4 = c .before .before .before .before .entry4 in
+    let loop-test = c .before .before .before .before .before .loop-test in
+    let loop = c .before .before .before .before .before .before .loop in
+    let pre = c .before .before .before .before .before .before .before .before .before .before .before .before .before .before .before .before .before .before .pre in
+    let if2 = c .if2 in
+    at-skip _ _ _ _ _ (pre .0) (loop .inv) (loop-test .taken) (entry4 .ensures)
+    (at-fresh-no _ _ _ _ _ (pre .0) (loop .inv) (loop-test .taken) (entry4 .ensures) (is-fresh .ensures) (if2 .left))
 
--- src/peel.rt:51:1
+-- src/peel.rt:115:15
+add-t21 : tie.Need-add-t21 Inv-loop μ-loop
+add-t21 c =
+    let pre = c .before .before .before .before .before .before .before .before .before .before .before .before .before .before .pre in
+    omega (arith, head-small _ _ _ _ _ (pre .0) (pre .1))
+
+-- src/peel.rt:72:1
 same-length-4 : tie.Need-same-length-4 Inv-loop μ-loop
 same-length-4 c =
-    let loop = c .before .loop in
-    loop .inv .1 .0
+    let loop = c .before .before .loop in
+    loop .inv .lengths .times
 
--- src/peel.rt:51:1
+-- src/peel.rt:72:1
 same-length-5 : tie.Need-same-length-5 Inv-loop μ-loop
 same-length-5 c =
-    let loop = c .before .loop in
-    loop .inv .1 .1
+    let loop = c .before .before .loop in
+    loop .inv .lengths .left
 
--- src/peel.rt:51:1
+-- src/peel.rt:72:1
 same-length-6 : tie.Need-same-length-6 Inv-loop μ-loop
 same-length-6 c =
-    let loop = c .before .loop in
-    loop .inv .1 .2
+    let loop = c .before .before .loop in
+    loop .inv .lengths .queue
 
--- src/peel.rt:51:1
+-- src/peel.rt:72:1
 returns-2 : tie.Need-returns-2 Inv-loop μ-loop
 returns-2 c =
-    let loop = c .before .loop in
-    let pre = c .before .before .before .before .before .before .before .before .before .before .before .pre in
-    at-out _ _ _ _ _ (pre .0) (loop .inv .3) (loop .inv .2) (c .loop-test .left)
+    let loop-test = c .before .loop-test in
+    let loop = c .before .before .loop in
+    let pre = c .before .before .before .before .before .before .before .before .before .before .before .before .before .before .pre in
+    at-out _ _ _ _ _ (pre .0) (loop .inv) (loop-test .left)
 
 pub walk-spec : {M : Type 1} → statement M
 walk-spec =
     tie.close
     (
-    tie.spec Inv-loop μ-loop entry-requires add-entry entry-requires-2 loop-holds add-entry-2 entry-requires-3
-    same-length same-length-2 same-length-3 returns add-p is-fresh-requires entry-requires-4 entry-requires-5
-    other-requires lose-requires loop-less loop-again loop-less-2 loop-again-2 same-length-4 same-length-5
-    same-length-6 returns-2
+    tie.spec Inv-loop μ-loop entry-requires entry-requires-2 add-entry entry-requires-3 loop-holds add-entry-2
+    entry-requires-4 add-t24 same-length same-length-2 same-length-3 returns add-p is-fresh-requires
+    entry-requires-5 entry-requires-6 other-requires lose-requires loop-less loop-again loop-less-2 loop-again-2
+    add-t21 same-length-4 same-length-5 same-length-6 returns-2
     )

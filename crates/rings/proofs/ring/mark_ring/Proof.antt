@@ -1,9 +1,8 @@
 -- `ring::mark_ring` meets its contract: days never fall, so the rows of the window are those from lo to end, and their ring among 0s is the whole ring (PartLaws).
 -- Assumes nothing.
-use mathlib.Core.Path.{_∙_, ap}
+use mathlib.Core.Path.{refl, _∙_, ap}
 use Prim.Native.Nat.{ℕ}
 use lib.ListN.{replicate}
-use Rattle.rings.specs.Ring.{query}
 use Rattle.rings.proofs.PartLaws.{part-sound, part-same, room-long, part-room, part-from, part-to, part-members, part-marks}
 use Rattle.rings.proofs.DayLaws.{span-of}
 use borrow.Author.Needs.{needs}
@@ -33,7 +32,7 @@ sub-room : tie.Need-sub-room
 sub-room c =
     let rows-before = c .before .rows-before in
     let pre = c .before .before .before .before .before .before .before .pre in
-    span-of (pre .1 .1) (rows-before .ensures) (c .rows-before2 .ensures) .ordered
+    span-of (pre .1 .0 .ordered) (rows-before .ensures) (c .rows-before2 .ensures) .ordered
 
 -- src/ring.rt:156:23
 mul-room : tie.Need-mul-room
@@ -57,7 +56,7 @@ sub-mark-part c =
     let rows-before2 = c .before .before .before .before .rows-before2 in
     let rows-before = c .before .before .before .before .before .rows-before in
     let pre = c .before .before .before .before .before .before .before .before .before .before .before .pre in
-    span-of (pre .1 .1) (rows-before .ensures) (rows-before2 .ensures) .ordered
+    span-of (pre .1 .0 .ordered) (rows-before .ensures) (rows-before2 .ensures) .ordered
 
 -- src/ring.rt:159:9
 part-mark-part-start : tie.Need-part-mark-part-start
@@ -65,7 +64,7 @@ part-mark-part-start c =
     let rows-before2 = c .before .before .before .before .rows-before2 in
     let rows-before = c .before .before .before .before .before .rows-before in
     let pre = c .before .before .before .before .before .before .before .before .before .before .before .pre in
-    span-of (pre .1 .1) (rows-before .ensures) (rows-before2 .ensures) .ordered
+    span-of (pre .1 .0 .ordered) (rows-before .ensures) (rows-before2 .ensures) .ordered
 
 -- src/ring.rt:159:9
 part-mark-part-end : tie.Need-part-mark-part-end
@@ -81,7 +80,7 @@ sub-mark-part-2 c =
     let rows-before2 = c .before .before .before .before .before .rows-before2 in
     let rows-before = c .before .before .before .before .before .before .rows-before in
     let pre = c .before .before .before .before .before .before .before .before .before .before .before .before .pre in
-    span-of (pre .1 .1) (rows-before .ensures) (rows-before2 .ensures) .ordered
+    span-of (pre .1 .0 .ordered) (rows-before .ensures) (rows-before2 .ensures) .ordered
 
 -- src/ring.rt:160:9
 part-mark-part-start-2 : tie.Need-part-mark-part-start-2
@@ -89,7 +88,7 @@ part-mark-part-start-2 c =
     let rows-before2 = c .before .before .before .before .before .rows-before2 in
     let rows-before = c .before .before .before .before .before .before .rows-before in
     let pre = c .before .before .before .before .before .before .before .before .before .before .before .before .pre in
-    span-of (pre .1 .1) (rows-before .ensures) (rows-before2 .ensures) .ordered
+    span-of (pre .1 .0 .ordered) (rows-before .ensures) (rows-before2 .ensures) .ordered
 
 -- src/ring.rt:160:9
 part-mark-part-end-2 : tie.Need-part-mark-part-end-2
@@ -105,7 +104,7 @@ sub-mark-part-3 c =
     let rows-before2 = c .before .before .before .before .before .before .rows-before2 in
     let rows-before = c .before .before .before .before .before .before .before .rows-before in
     let pre = c .before .before .before .before .before .before .before .before .before .before .before .before .before .pre in
-    span-of (pre .1 .1) (rows-before .ensures) (rows-before2 .ensures) .ordered
+    span-of (pre .1 .0 .ordered) (rows-before .ensures) (rows-before2 .ensures) .ordered
 
 -- src/ring.rt:161:9
 part-mark-part-start-3 : tie.Need-part-mark-part-start-3
@@ -113,7 +112,7 @@ part-mark-part-start-3 c =
     let rows-before2 = c .before .before .before .before .before .before .rows-before2 in
     let rows-before = c .before .before .before .before .before .before .before .rows-before in
     let pre = c .before .before .before .before .before .before .before .before .before .before .before .before .before .pre in
-    span-of (pre .1 .1) (rows-before .ensures) (rows-before2 .ensures) .ordered
+    span-of (pre .1 .0 .ordered) (rows-before .ensures) (rows-before2 .ensures) .ordered
 
 -- src/ring.rt:161:9
 part-mark-part-end-3 : tie.Need-part-mark-part-end-3
@@ -125,7 +124,7 @@ sub-mark-part-4 c =
     let rows-before2 = c .before .before .before .before .before .before .before .rows-before2 in
     let rows-before = c .before .before .before .before .before .before .before .before .rows-before in
     let pre = c .before .before .before .before .before .before .before .before .before .before .before .before .before .before .pre in
-    span-of (pre .1 .1) (rows-before .ensures) (rows-before2 .ensures) .ordered
+    span-of (pre .1 .0 .ordered) (rows-before .ensures) (rows-before2 .ensures) .ordered
 
 -- src/ring.rt:165:9
 part-mark-part-start-4 : tie.Need-part-mark-part-start-4
@@ -133,7 +132,7 @@ part-mark-part-start-4 c =
     let rows-before2 = c .before .before .before .before .before .before .before .rows-before2 in
     let rows-before = c .before .before .before .before .before .before .before .before .rows-before in
     let pre = c .before .before .before .before .before .before .before .before .before .before .before .before .before .before .pre in
-    span-of (pre .1 .1) (rows-before .ensures) (rows-before2 .ensures) .ordered
+    span-of (pre .1 .0 .ordered) (rows-before .ensures) (rows-before2 .ensures) .ordered
 
 -- src/ring.rt:165:9
 part-mark-part-end-4 : tie.Need-part-mark-part-end-4
@@ -151,8 +150,8 @@ slice-aggregate-mark-part c =
     let args = c .before .before .before .before .before .before .before .before .before .before .before .before .before .before .before .before .args in
     let pre = c .before .before .before .before .before .before .before .before .before .before .before .before .before .before .before .before .pre in
     let a = args in
-    let o = span-of (pre .1 .1) (rows-before .ensures) (rows-before2 .ensures) in room-long (a .days .now)
-    (a .first .now) (a .second .now) _ _ (o .ordered) (o .within) (a .scratch .now) (pre .1 .4)
+    let o = span-of (pre .1 .0 .ordered) (rows-before .ensures) (rows-before2 .ensures) in room-long (a .days .now)
+    (a .first .now) (a .second .now) _ _ (o .ordered) (o .within) (a .scratch .now) (pre .1 .1 .scratch)
 
 -- src/ring.rt:158:9
 mark-part-requires : tie.Need-mark-part-requires
@@ -165,15 +164,11 @@ mark-part-requires c κs =
     let a = args in
     let l = rows-before in
     let r = rows-before2 in
-    let o = span-of (pre .1 .1) (l .ensures) (r .ensures) in (
-      part-sound _ _ _ _ _ (o .ordered) (o .within) (pre .0),
-      (
-        (pre .1 .0, pre .1 .1, pre .1 .2, part-same _ (a .first .now) (a .second .now) _ _ (o .ordered) (o .within) (clear-marks .ensures) (pre .1 .3), part-room _ (a .first .now) (a .second .now) _ _ (o .ordered) (o .within) (a .scratch .now) (pre .1 .4)),
-        (
-          part-from _ (a .first .now) (a .second .now) _ _ (o .ordered) (o .within) (l .ensures),
-          part-to _ (a .first .now) (a .second .now) _ _ (o .ordered) (o .within) (r .ensures),
-        ),
-      ),
+    let o = span-of (pre .1 .0 .ordered) (l .ensures) (r .ensures) in (
+      record
+          { sound = part-sound _ _ _ _ _ (o .ordered) (o .within) (pre .0); asked = pre .1 .0; lo = refl; from = part-from _ (a .first .now) (a .second .now) _ _ (o .ordered) (o .within) (l .ensures); to = part-to _ (a .first .now) (a .second .now) _ _ (o .ordered) (o .within) (r .ensures) },
+      record
+          { marks = part-same _ (a .first .now) (a .second .now) _ _ (o .ordered) (o .within) (clear-marks .ensures) (pre .1 .1 .marks); scratch = part-room _ (a .first .now) (a .second .now) _ _ (o .ordered) (o .within) (a .scratch .now) (pre .1 .1 .scratch) },
     )
 
 -- src/ring.rt:168:5
@@ -202,14 +197,11 @@ returns c =
     let a = args in
     let l = rows-before in
     let r = rows-before2 in
-    let o = span-of (pre .1 .1) (l .ensures) (r .ensures) in (
-      part-members (a .days .now) (a .first .now) (a .second .now) (l .result) (r .result) (o .ordered) (o .within)
-          (query (a .k)) (a .s) (a .e) (l .ensures) (r .ensures) (mark-part .ensures .0),
-      part-marks (a .days .now) (a .first .now) (a .second .now) (l .result) (r .result) (o .ordered) (o .within)
-          (query (a .k)) (a .s) (a .e) (l .ensures) (r .ensures) (clear-marks .ensures) (pre .1 .3)
-          (mark-part .ensures .1),
-      clear .ensures ∙ ap (λ (m : ℕ). replicate {A = ℕ} m 0) (scratch .given .1),
-    )
+    let o = span-of (pre .1 .0 .ordered) (l .ensures) (r .ensures) in record {
+      marked = record
+          { number = part-members (a .days .now) (a .first .now) (a .second .now) (l .result) (r .result) (o .ordered) (o .within) (a .query) (a .start) (a .stop) (l .ensures) (r .ensures) (mark-part .ensures .number); marks = part-marks (a .days .now) (a .first .now) (a .second .now) (l .result) (r .result) (o .ordered) (o .within) (a .query) (a .start) (a .stop) (l .ensures) (r .ensures) (clear-marks .ensures) (pre .1 .1 .marks) (mark-part .ensures .marks) };
+      cleared = clear .ensures ∙ ap (λ (m : ℕ). replicate {A = ℕ} m 0) (scratch .given .1);
+    }
 
 pub mark-ring-spec : {M : Type 1} → statement M
 mark-ring-spec =

@@ -33,17 +33,11 @@ mark-ring-requires c κs =
     let enum-told = c .before .before .enum-told in
     let check-call = c .before .before .before .before .check-call in
     let is-window = c .before .before .before .before .before .is-window in
-    let args = c .before .before .before .before .before .before .before .before .before .before .before .args in (
-      call-sound _ _ _ _ _ _ _ (sym (check-call .ensures) ∙ enum-told .given .1),
-      (
-        call-k _ _ _ _ _ _ _ (sym (check-call .ensures) ∙ enum-told .given .1) .0,
-        window-e (args .s) (args .e) (is-window .ensures)
-            (call-window _ _ _ _ _ _ _ (sym (check-call .ensures) ∙ enum-told .given .1)) .1,
-        window-e (args .s) (args .e) (is-window .ensures)
-            (call-window _ _ _ _ _ _ _ (sym (check-call .ensures) ∙ enum-told .given .1)) .2,
-        eqb-true _ _ (call-lengths _ _ _ _ _ _ _ (sym (check-call .ensures) ∙ enum-told .given .1)),
-        call-scratch _ _ _ _ _ _ _ (sym (check-call .ensures) ∙ enum-told .given .1),
-      ),
+    let args = c .before .before .before .before .before .before .before .before .before .before .before .args in
+    let accepted = sym (check-call .ensures) ∙ enum-told .given .1 in let window = window-e (args .s) (args .e)
+    (is-window .ensures) (call-window _ _ _ _ _ _ _ accepted) in (
+      call-sound _ _ _ _ _ _ _ accepted,
+      (record { some-k = call-k _ _ _ _ _ _ _ accepted .0; ordered = window .1; last-day = window .2 }, record { marks = eqb-true _ _ (call-lengths _ _ _ _ _ _ _ accepted); scratch = call-scratch _ _ _ _ _ _ _ accepted }),
     )
 
 -- src/ring.rt:89:1
@@ -73,8 +67,8 @@ returns-2 c =
     let is-window = c .before .before .before .before .before .before .before .before .before .before .is-window in
     let args = c .before .before .before .before .before .before .before .before .before .before .before .before .before .before .before .before .args in
     ring-done _ _ _ _ (args .marks .now) (args .scratch .now) (is-window .ensures)
-    (sym (check-call .ensures) ∙ enum-told .given .1) (mark-ring .ensures .0) (mark-ring .ensures .1)
-    (mark-ring .ensures .2)
+    (sym (check-call .ensures) ∙ enum-told .given .1) (mark-ring .ensures .marked .number)
+    (mark-ring .ensures .marked .marks) (mark-ring .ensures .cleared)
 
 pub window-ring-spec : {M : Type 1} → statement M
 window-ring-spec =

@@ -12,7 +12,7 @@ use Rattle.rings.proofs.settle.spare_none.Reads as spare-none-reads
 peel-requires : tie.Need-peel-requires
 peel-requires c κs =
     let pre = c .before .before .before .before .before .before .before .before .before .before .pre in
-    (pre .0, (pre .1 .0, (pre .1 .1 .0, pre .1 .1 .1, omega (arith, pre .1 .1 .2))))
+    (pre .0, (pre .1 .0, record { times = pre .1 .1 .0; left = pre .1 .1 .1; queue = omega (arith, pre .1 .1 .2) }))
 
 -- src/settle.rt:422:5
 spare-none-requires : tie.Need-spare-none-requires

@@ -39,20 +39,13 @@ find-times-requires c κs =
     let check-call = c .before .before .before .before .before .check-call in
     let are-equal = c .before .before .before .before .before .before .are-equal in
     let is-start = c .before .before .before .before .before .before .before .is-start in
-    let args = c .before .before .before .before .before .before .before .before .before .before .before .before .before .before .args in (
-      call-sound _ _ _ _ _ _ _ (sym (check-call .ensures) ∙ enum-told .given .1),
-      (
-        call-k _ _ _ _ _ _ _ (sym (check-call .ensures) ∙ enum-told .given .1) .0,
-        start-e (args .ts) (args .s) (args .te) (is-start .ensures)
-            (call-window _ _ _ _ _ _ _ (sym (check-call .ensures) ∙ enum-told .given .1)) .0,
-        start-e (args .ts) (args .s) (args .te) (is-start .ensures)
-            (call-window _ _ _ _ _ _ _ (sym (check-call .ensures) ∙ enum-told .given .1)) .1,
-        lengths-e (length (args .accounts .now)) 4096 (length (args .rows .now)) (length (args .days .now))
-            (are-equal .ensures) (call-lengths _ _ _ _ _ _ _ (sym (check-call .ensures) ∙ enum-told .given .1)) .0,
-        lengths-e (length (args .accounts .now)) 4096 (length (args .rows .now)) (length (args .days .now))
-            (are-equal .ensures) (call-lengths _ _ _ _ _ _ _ (sym (check-call .ensures) ∙ enum-told .given .1)) .1,
-        call-scratch _ _ _ _ _ _ _ (sym (check-call .ensures) ∙ enum-told .given .1),
-      ),
+    let args = c .before .before .before .before .before .before .before .before .before .before .before .before .before .before .args in
+    let accepted = sym (check-call .ensures) ∙ enum-told .given .1 in let window = start-e (args .ts) (args .s)
+    (args .te) (is-start .ensures) (call-window _ _ _ _ _ _ _ accepted) in let lengths = lengths-e
+    (length (args .accounts .now)) 4096 (length (args .rows .now)) (length (args .days .now)) (are-equal .ensures)
+    (call-lengths _ _ _ _ _ _ _ accepted) in (
+      call-sound _ _ _ _ _ _ _ accepted,
+      (record { some-k = call-k _ _ _ _ _ _ _ accepted .0; ordered = window .0; last-day = window .1 }, record { accounts = lengths .0; rows = lengths .1; scratch = call-scratch _ _ _ _ _ _ _ accepted }),
     )
 
 -- src/times.rt:81:1
@@ -88,8 +81,8 @@ returns-2 c =
     let is-start = c .before .before .before .before .before .before .before .before .before .before .before .before .before .before .is-start in
     let args = c .before .before .before .before .before .before .before .before .before .before .before .before .before .before .before .before .before .before .before .before .before .args in
     times-done _ _ _ _ _ (args .accounts .now) (args .rows .now) (args .scratch .now) (is-start .ensures)
-    (are-equal .ensures) (sym (check-call .ensures) ∙ enum-told .given .1) (find-times .ensures .0)
-    (find-times .ensures .1) (find-times .ensures .2)
+    (are-equal .ensures) (sym (check-call .ensures) ∙ enum-told .given .1) (find-times .ensures .accounts)
+    (find-times .ensures .rows) (find-times .ensures .cleared)
 
 pub core-times-spec : {M : Type 1} → statement M
 core-times-spec =

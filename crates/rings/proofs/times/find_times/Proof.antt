@@ -54,9 +54,10 @@ peel-requires c κs =
     let move-heads = c .before .before .before .before .before .before .move-heads in
     let rows-before2 = c .before .before .before .before .before .before .before .before .before .before .before .before .rows-before2 in
     let rows-before = c .before .before .before .before .before .before .before .before .before .before .before .before .before .rows-before in
-    let pre = c .before .before .before .before .before .before .before .before .before .before .before .before .before .before .before .before .before .before .before .before .pre in (
-      ready-of (pre .0) (move-heads .ensures .linked) (pre .1 .0) (pre .1 .2) (rows-before .ensures),
-      (span-of (pre .1 .1) (rows-before .ensures) (rows-before2 .ensures), (pre .1 .3, refl, omega arith)),
+    let pre = c .before .before .before .before .before .before .before .before .before .before .before .before .before .before .before .before .before .before .before .before .pre in
+    let asked = pre .1 .0 in (
+      ready-of (pre .0) (move-heads .ensures .linked) (asked .some-k) (asked .last-day) (rows-before .ensures),
+      (span-of (asked .ordered) (rows-before .ensures) (rows-before2 .ensures), record { times = pre .1 .1 .accounts; left = refl; queue = omega arith }),
     )
 
 -- src/times.rt:134:5
@@ -65,9 +66,10 @@ time-rows-requires c κs =
     let peel = c .before .before .before .before .before .before .peel in
     let rows-before2 = c .before .before .before .before .before .before .before .before .before .before .before .before .before .before .before .before .before .before .before .rows-before2 in
     let rows-before = c .before .before .before .before .before .before .before .before .before .before .before .before .before .before .before .before .before .before .before .before .rows-before in
-    let pre = c .before .before .before .before .before .before .before .before .before .before .before .before .before .before .before .before .before .before .before .before .before .before .before .before .before .before .before .pre in (
-      framed-of (pre .0) (pre .1 .0) (pre .1 .2) (rows-before .ensures),
-      (span-of (pre .1 .1) (rows-before .ensures) (rows-before2 .ensures), (peel .ensures, pre .1 .4)),
+    let pre = c .before .before .before .before .before .before .before .before .before .before .before .before .before .before .before .before .before .before .before .before .before .before .before .before .before .before .before .pre in
+    let asked = pre .1 .0 in (
+      framed-of (pre .0) (asked .some-k) (asked .last-day) (rows-before .ensures),
+      (span-of (asked .ordered) (rows-before .ensures) (rows-before2 .ensures), (peel .ensures, pre .1 .1 .rows)),
     )
 
 -- src/times.rt:146:5
@@ -93,11 +95,13 @@ returns c =
     let time-rows = c .before .before .before .before .before .before .time-rows in
     let peel = c .before .before .before .before .before .before .before .before .before .before .before .before .before .peel in
     let move-heads = c .before .before .before .before .before .before .before .before .before .before .before .before .before .before .before .before .before .before .before .before .move-heads in
-    let link = c .before .before .before .before .before .before .before .before .before .before .before .before .before .before .before .before .before .before .before .before .before .before .before .before .link in (
-      accounts-are (peel .ensures),
-      time-rows .ensures,
-      clear .ensures ∙ ap (λ (m : ℕ). replicate m 0) (move-heads .kept .1 .1 .1 .0 ∙ link .kept .1 .1 .1 .0),
-    )
+    let link = c .before .before .before .before .before .before .before .before .before .before .before .before .before .before .before .before .before .before .before .before .before .before .before .before .link in
+    record {
+      accounts = accounts-are (peel .ensures);
+      rows = time-rows .ensures;
+      cleared = clear .ensures ∙ ap (λ (m : ℕ). replicate m 0)
+          (move-heads .kept .1 .1 .1 .0 ∙ link .kept .1 .1 .1 .0);
+    }
 
 pub find-times-spec : {M : Type 1} → statement M
 find-times-spec =
