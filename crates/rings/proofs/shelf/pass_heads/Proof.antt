@@ -1,4 +1,5 @@
-use Prim.Native.Nat.{_-_, _≤_, _<_}
+use mathlib.Core.List.{List}
+use Prim.Native.Nat.{ℕ, _-_, _≤_, _<_}
 use native.Mathlib.Omega.{arith}
 use mathlib.Core.Path.{_≡_, refl, sym, _∙_, subst}
 use lib.ListN.{length}
@@ -13,9 +14,14 @@ use Rattle.rings.proofs.shelf.pass_heads.Lts as lts
 use Rattle.rings.proofs.links.entry.Reads as entry-reads
 use Rattle.rings.proofs.shelf.pass_head.Reads as pass-head-reads
 
+-- what holds at the test of the loop
+record Held (days first second scratch₀ : List ℕ) (lo next : ℕ) (scratch : List ℕ) (j : ℕ) : Type 0 where
+  long : length scratch ≡ length scratch₀
+  passed : HeadsPassed (tableOf days first second) lo scratch₀ j scratch
+  within : j ≤ next
+
 abbrev Inv-loop : tie.InvT-loop
-Inv-loop days first second scratch₀ lo next j₀ scratch j =
-    (length scratch ≡ length scratch₀) × HeadsPassed (tableOf days first second) lo scratch₀ j scratch × (j ≤ next)
+Inv-loop days first second scratch₀ lo next j₀ scratch j = Held days first second scratch₀ lo next scratch j
 
 abbrev μ-loop : tie.MeasureT-loop
 μ-loop days first second scratch₀ lo next j₀ scratch j = next - j
@@ -24,7 +30,11 @@ abbrev μ-loop : tie.MeasureT-loop
 loop-holds : tie.Need-loop-holds Inv-loop μ-loop
 loop-holds c =
     let pre = c .before .before .before .before .pre in
-    (refl, heads-start _ (pre .shelves), pre .ordered)
+    record {
+      long = refl;
+      passed = heads-start _ (pre .shelves);
+      within = pre .ordered;
+    }
 
 -- src/shelf.rt:45:13
 entry-requires : tie.Need-entry-requires Inv-loop μ-loop
@@ -46,7 +56,7 @@ pass-head-requires c κs =
     let loop-test = c .before .before .before .loop-test in
     let loop = c .before .before .before .before .loop in
     let pre = c .before .before .before .before .before .before .before .before .before .pre in
-    heads-asks (pre .sound .most) (loop .inv .1 .shelves)
+    heads-asks (pre .sound .most) (loop .inv .passed .shelves)
     (
     subst (λ u. u < 4096) (sym (entry .ensures))
     (first-small _ _ _ (pre .sound) _ (omega (arith, loop-test .taken, pre .within)))
@@ -63,7 +73,7 @@ pass-head-requires-2 c κs =
     let pre = c .before .before .before .before .before .before .before .before .before .before .before .before .before .pre in
     heads-asks (pre .sound .most)
     (
-    heads-mid (loop .inv .1)
+    heads-mid (loop .inv .passed)
     (
     subst (λ u. u < 4096) (sym (entry .ensures))
     (first-small _ _ _ (pre .sound) _ (omega (arith, loop-test .taken, pre .within)))
@@ -96,9 +106,10 @@ loop-again c =
     let entry = c .before .before .before .before .before .before .before .before .before .entry in
     let loop-test = c .before .before .before .before .before .before .before .before .before .before .loop-test in
     let loop = c .before .before .before .before .before .before .before .before .before .before .before .loop in
-    let pre = c .before .before .before .before .before .before .before .before .before .before .before .before .before .before .before .before .pre in (
-      passing-long (pass-head2 .ensures) ∙ (passing-long (pass-head .ensures) ∙ loop .inv .0),
-      heads-next (loop .inv .1)
+    let pre = c .before .before .before .before .before .before .before .before .before .before .before .before .before .before .before .before .pre in
+    record {
+      long = passing-long (pass-head2 .ensures) ∙ (passing-long (pass-head .ensures) ∙ loop .inv .long);
+      passed = heads-next (loop .inv .passed)
           (
           subst (λ u. u < 4096) (sym (entry .ensures))
           (first-small _ _ _ (pre .sound) _ (omega (arith, loop-test .taken, pre .within)))
@@ -106,21 +117,21 @@ loop-again c =
           (
           subst (λ u. u < 4096) (sym (entry2 .ensures))
           (second-small _ _ _ (pre .sound) _ (omega (arith, loop-test .taken, pre .within)))
-          ) (pass-head .ensures) (pass-head2 .ensures),
-      omega (arith, loop-test .taken),
-    )
+          ) (pass-head .ensures) (pass-head2 .ensures);
+      within = omega (arith, loop-test .taken);
+    }
 
 -- src/shelf.rt:31:1
 same-length : tie.Need-same-length Inv-loop μ-loop
 same-length c =
     let loop = c .before .loop in
-    loop .inv .0
+    loop .inv .long
 
 -- src/shelf.rt:31:1
 returns : tie.Need-returns Inv-loop μ-loop
 returns c =
     let loop = c .before .loop in
-    heads-end (loop .inv .1) (loop .inv .2)
+    heads-end (loop .inv .passed) (loop .inv .within)
 
 pub pass-heads-spec : {M : Type 1} → statement M
 pass-heads-spec =

@@ -1,5 +1,6 @@
+use mathlib.Core.List.{List}
 use borrow.Author.Needs.{needs}
-use Prim.Native.Nat.{_-_}
+use Prim.Native.Nat.{ℕ, _-_}
 use native.Mathlib.Omega.{arith}
 use mathlib.Core.Path.{_≡_, _∙_}
 use lib.ListN.{getD}
@@ -17,9 +18,13 @@ use Rattle.rings.proofs.links.entry.Reads as entry-reads
 use Rattle.rings.proofs.links.put.Reads as put-reads
 use Rattle.rings.proofs.links.wide.Reads as wide-reads
 
+-- what holds at the test of the loop
+record Held (days first second scratch₀ times : List ℕ) (u last : ℕ) (scratch : List ℕ) (p end : ℕ) : Type 0 where
+  cursor : last ≡ getD scratch₀ u 0
+  sift : Sift (tableOf days first second) (guess times) u scratch₀ p end scratch
+
 abbrev Inv-loop : tie.InvT-loop
-Inv-loop days first second scratch₀ times u last p₀ end₀ scratch p end =
-    (last ≡ getD scratch₀ u 0) × Sift (tableOf days first second) (guess times) u scratch₀ p end scratch
+Inv-loop days first second scratch₀ times u last p₀ end₀ scratch p end = Held days first second scratch₀ times u last scratch p end
 
 abbrev μ-loop : tie.MeasureT-loop
 μ-loop days first second scratch₀ times u last p₀ end₀ scratch p end = last - p
@@ -47,7 +52,10 @@ loop-holds : tie.Need-loop-holds Inv-loop μ-loop
 loop-holds c =
     let entry = c .before .before .entry in
     let pre = c .before .before .before .before .before .before .before .before .before .pre in
-    (entry .ensures, sift-start _ (pre .shelves .shelf _ (pre .account)) (c .entry2 .ensures))
+    record {
+      cursor = entry .ensures;
+      sift = sift-start _ (pre .shelves .shelf _ (pre .account)) (c .entry2 .ensures);
+    }
 
 -- src/shelf.rt:73:13
 row-at-requires : tie.Need-row-at-requires Inv-loop μ-loop
@@ -55,7 +63,7 @@ row-at-requires c κs =
     let pre = c .before .before .before .before .before .before .before .before .before .before .before .before .pre in
     let loop = c .before .before .loop in
     let loop-test = c .before .loop-test in
-    sift-stands (pre .sound) (pre .shelves) (pre .account) (loop .inv .1) (omega (arith, loop .inv .0, loop-test .taken))
+    sift-stands (pre .sound) (pre .shelves) (pre .account) (loop .inv .sift) (omega (arith, loop .inv .cursor, loop-test .taken))
 
 -- src/shelf.rt:75:21
 mul-timed : tie.Need-mul-timed Inv-loop μ-loop
@@ -75,7 +83,7 @@ add-put : tie.Need-add-put Inv-loop μ-loop
 add-put c =
     let pre = c .before .before .before .before .before .before .before .before .before .before .before .before .before .before .before .pre in
     let loop = c .before .before .before .before .before .loop in
-    omega (arith, sift-few (pre .shelves) (pre .account) (loop .inv .1) (pre .sound .most))
+    omega (arith, sift-few (pre .shelves) (pre .account) (loop .inv .sift) (pre .sound .most))
 
 -- src/shelf.rt:76:9
 put-requires : tie.Need-put-requires Inv-loop μ-loop
@@ -84,7 +92,7 @@ put-requires c κs =
     let loop = c .before .before .before .before .before .loop in
     let loop-test = c .before .before .before .before .loop-test in
     let row-at = c .before .before .row-at in (
-      sift-place (pre .shelves) (pre .account) (loop .inv .1) (omega (arith, loop .inv .0, loop-test .taken)) (row-at .ensures .row) .1,
+      sift-place (pre .shelves) (pre .account) (loop .inv .sift) (omega (arith, loop .inv .cursor, loop-test .taken)) (row-at .ensures .row) .1,
       omega (arith, row-at .ensures .below, pre .sound .most),
     )
 
@@ -103,14 +111,14 @@ add-end c =
     let loop = c .before .before .before .before .before .before .before .before .before .before .loop in
     let wide = c .wide in
     let one = c .before .one in
-    omega (arith, sift-few (pre .shelves) (pre .account) (loop .inv .1) (pre .sound .most), wide .ensures, by-most (one .ensures))
+    omega (arith, sift-few (pre .shelves) (pre .account) (loop .inv .sift) (pre .sound .most), wide .ensures, by-most (one .ensures))
 
 -- src/shelf.rt:78:9
 add-p : tie.Need-add-p Inv-loop μ-loop
 add-p c =
     let pre = c .before .before .before .before .before .before .before .before .before .before .before .before .before .before .before .before .before .before .before .before .pre in
     let loop = c .before .before .before .before .before .before .before .before .before .before .loop in
-    omega (arith, sift-few (pre .shelves) (pre .account) (loop .inv .1) (pre .sound .most))
+    omega (arith, sift-few (pre .shelves) (pre .account) (loop .inv .sift) (pre .sound .most))
 
 -- src/shelf.rt:72:5
 loop-less : tie.Need-loop-less Inv-loop μ-loop
@@ -128,19 +136,20 @@ loop-again c =
     let put = c .before .before .before .before .put in
     let wide = c .wide in
     let one = c .before .one in
-    let args = c .before .before .before .before .before .before .before .before .before .before .before .before .before .before .before .before .before .before .before .before .args in (
-      loop .inv .0,
-      sift-next (pre .shelves) (pre .account) (loop .inv .1) (omega (arith, loop .inv .0, loop-test .taken)) (row-at .ensures .row) (put .ensures)
+    let args = c .before .before .before .before .before .before .before .before .before .before .before .before .before .before .before .before .before .before .before .before .args in
+    record {
+      cursor = loop .inv .cursor;
+      sift = sift-next (pre .shelves) (pre .account) (loop .inv .sift) (omega (arith, loop .inv .cursor, loop-test .taken)) (row-at .ensures .row) (put .ensures)
           (λ n. wide .ensures ∙ one .ensures .0 (sift-timed (args .times .now) (pre .times) (row-at .ensures .small) (row-at .ensures .other) n))
-          (omega (arith, wide .ensures, by-most (one .ensures))),
-    )
+          (omega (arith, wide .ensures, by-most (one .ensures)));
+    }
 
 -- src/shelf.rt:80:5
 put-requires-2 : tie.Need-put-requires-2 Inv-loop μ-loop
 put-requires-2 c κs =
     let loop = c .before .before .loop in
     let pre = c .before .before .before .before .before .before .before .before .before .before .before .before .pre in
-    (omega (arith, loop .inv .1 .long, pre .shelves .long, pre .account), omega (arith, sift-few (pre .shelves) (pre .account) (loop .inv .1) (pre .sound .most)))
+    (omega (arith, loop .inv .sift .long, pre .shelves .long, pre .account), omega (arith, sift-few (pre .shelves) (pre .account) (loop .inv .sift) (pre .sound .most)))
 
 -- src/shelf.rt:57:1
 same-length : tie.Need-same-length Inv-loop μ-loop
@@ -149,7 +158,7 @@ same-length c =
     let loop = c .before .before .before .before .before .loop in
     let loop-test = c .before .before .before .before .loop-test in
     let put2 = c .before .before .put2 in
-    sift-end (pre .shelves) (pre .account) (loop .inv .1) (omega (arith, loop .inv .0, loop-test .left)) (put2 .ensures) .long
+    sift-end (pre .shelves) (pre .account) (loop .inv .sift) (omega (arith, loop .inv .cursor, loop-test .left)) (put2 .ensures) .long
 
 -- src/shelf.rt:57:1
 returns : tie.Need-returns Inv-loop μ-loop
@@ -158,7 +167,7 @@ returns c =
     let loop = c .before .before .before .before .before .loop in
     let loop-test = c .before .before .before .before .loop-test in
     let put2 = c .before .before .put2 in
-    sift-end (pre .shelves) (pre .account) (loop .inv .1) (omega (arith, loop .inv .0, loop-test .left)) (put2 .ensures)
+    sift-end (pre .shelves) (pre .account) (loop .inv .sift) (omega (arith, loop .inv .cursor, loop-test .left)) (put2 .ensures)
 
 pub trim-account-spec : {M : Type 1} → statement M
 trim-account-spec =
