@@ -24,7 +24,7 @@ use Rattle.rings.specs.Sound.{Sound}
 use Rattle.rings.specs.Inner.Links.{rank, placeOf, Book, Head, Linked, HeadInside, headPassed, HeadsMoved, Ahead}
 use Rattle.rings.proofs.WordLaws.{look, same-or}
 use Rattle.rings.proofs.RingLaws.{touch-first, touch-second}
-use Rattle.rings.proofs.LinkLaws.{rank-less, places-most, place-step, entry-below}
+use Rattle.rings.proofs.LinkLaws.{first-small, second-small, rank-less, places-most, place-step, entry-below}
 use Rattle.rings.proofs.AlongLaws.{ahead-of}
 
 -- what lies outside the heads is as before
@@ -161,10 +161,10 @@ module _ (d f g : List ℕ) (S : Sound d f g) where
       apart = let x = S .rows j l .accounts in omega arith
 
       moving-second : b < 4096
-      moving-second = let y = S .rows j l .account-to in omega arith
+      moving-second = second-small S l eb
 
       moving-first : a < 4096
-      moving-first = let x = apart in let y = moving-second in omega arith
+      moving-first = first-small S l ea
 
       has-a : touches t j a ≡ true
       unfolding firstOf at

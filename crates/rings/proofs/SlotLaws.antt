@@ -101,12 +101,6 @@ module _ (d f s : List ℕ) (S : Sound d f s) where
   abbrev t : Table
   t = tableOf d f s
 
-  pub row-first : {j a : ℕ} → j < length d → a ≡ getD f j 0 → a < 4096
-  row-first {j} l e = let x = S .rows j l .accounts in let y = S .rows j l .account-to in omega arith
-
-  pub row-second : {j b : ℕ} → j < length d → b ≡ getD s j 0 → b < 4096
-  row-second {j} l e = let y = S .rows j l .account-to in omega arith
-
   pub row-slot : (j : ℕ) {a b h : ℕ} → a ≡ getD f j 0 → b ≡ getD s j 0 → h ≡ slot a b → h ≡ slotOf t j
   unfolding slotOf firstOf secondOf at
   row-slot j {a} {b} ea eb e = e ∙ (ap (λ (x : ℕ). slot x b) ea ∙ ap (slot (getD f j 0)) eb)

@@ -1,11 +1,11 @@
 use mathlib.Core.List.{List}
-use Prim.Native.Nat.{ℕ, _-_, _≤_, _<_}
+use Prim.Native.Nat.{ℕ, _-_, _≤_}
 use native.Mathlib.Omega.{arith}
-use mathlib.Core.Path.{_≡_, refl, sym, _∙_, subst}
+use mathlib.Core.Path.{_≡_, refl, _∙_}
 use lib.ListN.{length}
 use Rattle.rings.specs.Table.{tableOf}
 use Rattle.rings.specs.Inner.Links.{HeadsPassed}
-use Rattle.rings.proofs.BookLaws.{first-small, second-small}
+use Rattle.rings.proofs.LinkLaws.{first-small, second-small}
 use Rattle.rings.proofs.TrimLaws.{heads-start, heads-asks, heads-mid, heads-next, heads-end, passing-long}
 use Rattle.rings.proofs.shelf.pass_heads.Statement.{statement}
 use Rattle.rings.proofs.shelf.pass_heads.Tie as tie
@@ -57,10 +57,7 @@ pass-head-requires c κs =
     let loop = c .before .before .before .before .loop in
     let pre = c .before .before .before .before .before .before .before .before .before .pre in
     heads-asks (pre .sound .most) (loop .inv .passed .shelves)
-    (
-    subst (λ u. u < 4096) (sym (entry .ensures))
-    (first-small _ _ _ (pre .sound) _ (omega (arith, loop-test .taken, pre .within)))
-    )
+    (first-small (pre .sound) (omega (arith, loop-test .taken, pre .within)) (entry .ensures))
 
 -- src/shelf.rt:48:9
 pass-head-requires-2 : tie.Need-pass-head-requires-2 Inv-loop μ-loop
@@ -74,15 +71,9 @@ pass-head-requires-2 c κs =
     heads-asks (pre .sound .most)
     (
     heads-mid (loop .inv .passed)
-    (
-    subst (λ u. u < 4096) (sym (entry .ensures))
-    (first-small _ _ _ (pre .sound) _ (omega (arith, loop-test .taken, pre .within)))
-    ) (pass-head .ensures)
+    (first-small (pre .sound) (omega (arith, loop-test .taken, pre .within)) (entry .ensures)) (pass-head .ensures)
     )
-    (
-    subst (λ u. u < 4096) (sym (entry2 .ensures))
-    (second-small _ _ _ (pre .sound) _ (omega (arith, loop-test .taken, pre .within)))
-    )
+    (second-small (pre .sound) (omega (arith, loop-test .taken, pre .within)) (entry2 .ensures))
 
 -- src/shelf.rt:49:9
 add-j : tie.Need-add-j Inv-loop μ-loop
@@ -110,14 +101,8 @@ loop-again c =
     record {
       long = passing-long (pass-head2 .ensures) ∙ (passing-long (pass-head .ensures) ∙ loop .inv .long);
       passed = heads-next (loop .inv .passed)
-          (
-          subst (λ u. u < 4096) (sym (entry .ensures))
-          (first-small _ _ _ (pre .sound) _ (omega (arith, loop-test .taken, pre .within)))
-          )
-          (
-          subst (λ u. u < 4096) (sym (entry2 .ensures))
-          (second-small _ _ _ (pre .sound) _ (omega (arith, loop-test .taken, pre .within)))
-          ) (pass-head .ensures) (pass-head2 .ensures);
+          (first-small (pre .sound) (omega (arith, loop-test .taken, pre .within)) (entry .ensures))
+          (second-small (pre .sound) (omega (arith, loop-test .taken, pre .within)) (entry2 .ensures)) (pass-head .ensures) (pass-head2 .ensures);
       within = omega (arith, loop-test .taken);
     }
 
