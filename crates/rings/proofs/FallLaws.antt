@@ -1,6 +1,16 @@
 -- Laws of peeling by counts (specs/Inner/Peeling.antt): each step of the code keeps the state, and the end of it is the core times.
---     lost-step                     an account loses a neighbour
---     walk-start, walk-to, walk-lost, walk-skip, walk-end     the walk over the rows of an account that fell
+--     fell-look, room                  an account has fallen or not; while one has not, the queue has room
+--     guess-at, guess-far              the times as a guess of the core times
+--     Pass, losable, lost-step         an account may lose a neighbour, and loses one
+--     touch-small, other-small         accounts of a row are below 4,096
+--     fall-lower                       an account with fewer than k rows that count is met in no ring before the day
+--     now-e, still, times-fall, queue-fall     one account falls
+--     not-walked, stable-walked        who has not fallen has not been walked; where nobody waits, who fell was
+--     walk-start, walk-small, walk-to, next-small, walk-losable, walk-lost, walk-skip, walk-end     the walk over the rows of an account that fell
+--     leave-row, leave-stale, leave-fell, leave-first-one, leave-second-one, leave-both     the last row leaves
+--     stable-supported, next-day       from one day to the next
+--     all-fell, fall-times             all rows have left: the times are the core times
+--     stays-met, fell-not              none has left: who has not fallen is met in the ring, and nobody else
 -- Assumes nothing.
 use Prim.Native.Nat.{ℕ, zero, suc, _+_, _-_, _≤_, _<_}
 use native.Mathlib.Nat.{le-refl, le-trans, eq-or-lt-of-le, not-suc-le-zero, le-of-suc-le-suc}
@@ -22,7 +32,8 @@ use Rattle.rings.specs.Inner.Support.{supports, supporters}
 use Rattle.rings.specs.Inner.Peeling.{Losable, Lost, Setting, Fell, Here, Rows, Place, fallen, Queue, guess, Times, Fall, nothing, passing, Walk}
 use Rattle.rings.specs.declared.Query.{Query}
 use Rattle.rings.specs.declared.frame.Frame.{Frame}
-use Rattle.rings.proofs.WordLaws.{look, clash, and-i, and-l, and-r, or-l, or-r, or-e, no-i, no-e, same-truth, count-mono, count-less, count-same, count-le, count-none, same-or}
+use Rattle.rings.proofs.WordLaws.{look, clash, and-i, and-l, and-r, or-l, or-r, or-e, no-i, no-e, same-truth, count-mono, count-less, count-same}
+use Rattle.rings.proofs.WordLaws.{count-le, count-none, same-or}
 use Rattle.rings.proofs.RingLaws.{joins-touch, touch-cases, touch-first, touch-second, met-i, met-e, neighbour-e, ring-degree, in-marked}
 use Rattle.rings.proofs.OthersLaws.{touch-named}
 use Rattle.rings.proofs.PairLaws.{Partner, count-inject, count-drop, other-first, other-second, joins-other, joins-same, joins-swap, joins-ends}
@@ -75,7 +86,8 @@ supporters-mono : (t : Table) (x x′ : ℕ → ℕ) (s c u : ℕ) → ((w : ℕ
 unfolding supporters
 supporters-mono t x x′ s c u f =
     count-mono (supports t x s c u) (supports t x′ s c u) (names t)
-    (λ v l h. let b = supports-e t x s c u v h in supports-i t x′ s c u v (record { row = b .row; below = b .below; join = b .join; opens = b .opens; other = f v (b .other) }))
+    (λ v l h. let b = supports-e t x s c u v h in
+    supports-i t x′ s c u v (record { row = b .row; below = b .below; join = b .join; opens = b .opens; other = f v (b .other) }))
 
 -- of the pairs of row and account one more has been passed
 pub record Pass (passed passed′ : ℕ → ℕ → Bool) (j v : ℕ) : Type 0 where
@@ -87,13 +99,17 @@ without live j v i u = live i u and no (eqb i j and eqb u v)
 
 without-e : (live : ℕ → ℕ → Bool) (j v i u : ℕ) → without live j v i u ≡ true → (live i u ≡ true) × ((i ≡ j) × (u ≡ v) → ⊥)
 unfolding without
-without-e live j v i u h =
-    (and-l (live i u) (no (eqb i j and eqb u v)) h, λ e. clash (and-i (eq-eqb i j (e .0)) (eq-eqb u v (e .1))) (no-e (eqb i j and eqb u v) (and-r (live i u) (no (eqb i j and eqb u v)) h)))
+without-e live j v i u h = (
+  and-l (live i u) (no (eqb i j and eqb u v)) h,
+  λ e. clash (and-i (eq-eqb i j (e .0)) (eq-eqb u v (e .1))) (no-e (eqb i j and eqb u v) (and-r (live i u) (no (eqb i j and eqb u v)) h)),
+)
 
 without-i : (live : ℕ → ℕ → Bool) (j v i u : ℕ) → live i u ≡ true → ((i ≡ j) × (u ≡ v) → ⊥) → without live j v i u ≡ true
 unfolding without
 without-i live j v i u h n =
-    and-i h (no-i (⊎-elim (λ y. absurd (n (eqb-true i j (and-l (eqb i j) (eqb u v) y), eqb-true u v (and-r (eqb i j) (eqb u v) y)))) (λ y. y) (look (eqb i j and eqb u v))))
+    and-i h (no-i
+    (⊎-elim (λ y. absurd (n (eqb-true i j (and-l (eqb i j) (eqb u v) y), eqb-true u v (and-r (eqb i j) (eqb u v) y)))) (λ y. y)
+    (look (eqb i j and eqb u v))))
 
 without-this : (live : ℕ → ℕ → Bool) (j v : ℕ) → without live j v j v ≡ false
 without-this live j v = ⊎-elim (λ y. absurd (without-e live j v j v y .1 (refl, refl))) (λ y. y) (look (without live j v j v))
@@ -101,21 +117,26 @@ without-this live j v = ⊎-elim (λ y. absurd (without-e live j v j v y .1 (ref
 without-other : (live : ℕ → ℕ → Bool) (j v i u : ℕ) → ((i ≡ j) × (u ≡ v) → ⊥) → without live j v i u ≡ live i u
 without-other live j v i u n = same-truth (without live j v i u) (live i u) (λ h. without-e live j v i u h .0) (λ h. without-i live j v i u h n)
 
-rows-pass : {t : Table} {lo r : ℕ} {passed passed′ : ℕ → ℕ → Bool} {walked : ℕ → Bool} {live : ℕ → ℕ → Bool} (j v : ℕ) → Pass passed passed′ j v → Rows t lo r passed walked live → Rows t lo r passed′ walked (without live j v)
+rows-pass : {t : Table} {lo r : ℕ} {passed passed′ : ℕ → ℕ → Bool} {walked : ℕ → Bool} {live : ℕ → ℕ → Bool} (j v : ℕ) → Pass passed passed′ j v
+    → Rows t lo r passed walked live → Rows t lo r passed′ walked (without live j v)
 rows-pass {t} {lo} {r} {passed} {passed′} {walked} {live} j v p R =
     record {
       live-row = λ i u h. R .live-row i u (without-e live j v i u h .0);
       live-not = λ i u h. R .live-not i u (without-e live j v i u h .0);
       live-passed = λ i u h. let e = without-e live j v i u h in p .rest i u (e .1) ∙ R .live-passed i u (e .0);
-      live-all = λ i u a b c. let n : (i ≡ j) × (u ≡ v) → ⊥ = λ e. clash (subst (λ (y : ℕ). passed′ i y ≡ true) (sym (e .1)) (subst (λ (y : ℕ). passed′ y v ≡ true) (sym (e .0)) (p .this))) c in without-i live j v i u (R .live-all i u a b (sym (p .rest i u n) ∙ c)) n;
+      live-all = λ i u a b c. let n : (i ≡ j) × (u ≡ v)
+          → ⊥ = λ e. clash (subst (λ (y : ℕ). passed′ i y ≡ true) (sym (e .1)) (subst (λ (y : ℕ). passed′ y v ≡ true) (sym (e .0)) (p .this))) c in
+          without-i live j v i u (R .live-all i u a b (sym (p .rest i u n) ∙ c)) n;
     }
 
 -- the same state under other names
-moved : {t : Table} {frame : Frame} {b e r head tail tail′ : ℕ} {passed : ℕ → ℕ → Bool} {x d w x′ d′ w′ : List ℕ} → x′ ≡ x → d′ ≡ d → w′ ≡ w → tail′ ≡ tail → Fall t frame b e r head tail passed x d w → Fall t frame b e r head tail′ passed x′ d′ w′
+moved : {t : Table} {frame : Frame} {b e r head tail tail′ : ℕ} {passed : ℕ → ℕ → Bool} {x d w x′ d′ w′ : List ℕ} → x′ ≡ x → d′ ≡ d → w′ ≡ w → tail′ ≡ tail
+    → Fall t frame b e r head tail passed x d w → Fall t frame b e r head tail′ passed x′ d′ w′
 moved ex ed ew et F = rw (ex, ed, ew, et) F
 
 -- the same pairs, passed under another name
-renamed : {t : Table} {frame : Frame} {b e r head tail : ℕ} {passed : ℕ → ℕ → Bool} {x d w : List ℕ} → Fall t frame b e r head tail nothing x d w → ((j v : ℕ) → passed j v ≡ false) → Fall t frame b e r head tail passed x d w
+renamed : {t : Table} {frame : Frame} {b e r head tail : ℕ} {passed : ℕ → ℕ → Bool} {x d w : List ℕ} → Fall t frame b e r head tail nothing x d w
+    → ((j v : ℕ) → passed j v ≡ false) → Fall t frame b e r head tail passed x d w
 renamed F none =
     record {
       buffers = F .buffers;
@@ -125,7 +146,13 @@ renamed F none =
       counts = F .counts;
       times = F .times;
       left-why = F .left-why;
-      rows = record { live-row = F .rows .live-row; live-not = F .rows .live-not; live-passed = λ j v h. none j v; live-all = λ j v a c p. F .rows .live-all j v a c refl };
+      rows =
+          record {
+            live-row = F .rows .live-row;
+            live-not = F .rows .live-not;
+            live-passed = λ j v h. none j v;
+            live-all = λ j v a c p. F .rows .live-all j v a c refl;
+          };
       passed-why = λ j v l p. clash p (none j v);
     }
 
@@ -136,7 +163,8 @@ grown (Lost.falls h ex ed ew et) l = omega arith
 
 same-front : {k e head tail v tail′ : ℕ} {x d w x′ d′ w′ : List ℕ} → Lost k e tail v x d w x′ d′ w′ tail′ → head < tail → getD w′ head 0 ≡ getD w head 0
 same-front {head = head} (Lost.stays h ex ed ew et) l = ap (λ (y : List ℕ). getD y head 0) ew
-same-front {head = head} {tail = tail} {v = v} {w = w} (Lost.falls h ex ed ew et) l = ap (λ (y : List ℕ). getD y head 0) ew ∙ getD-set-other w tail head v 0 (λ y. omega arith)
+same-front {head = head} {tail = tail} {v = v} {w = w} (Lost.falls h ex ed ew et) l = ap (λ (y : List ℕ). getD y head 0) ew
+    ∙ getD-set-other w tail head v 0 (λ y. omega arith)
 
 module _ (t : Table) (q : Query) (s hi lo : ℕ) (S : Setting t q s hi lo) where
   other-joins : (j u v : ℕ) → j < size t → joins t j u v ≡ true → otherOf t j u ≡ v
@@ -172,7 +200,8 @@ module _ (t : Table) (frame : Frame) (S : Setting t (frame .query) (frame .start
     unfallen : (c u : ℕ) → c < e → s ≤ c → c ≤ hi → met t (ring t q s c) u ≡ true → u < 4096 → Fell x u → ⊥
     unfallen c u l a b m k f = let y = T .lower u c k f a b m in let z = T .above u k f in omega arith
 
-    ring-live : (v c : ℕ) → c < e → s ≤ c → c ≤ hi → met t (ring t q s c) v ≡ true → (w : ℕ) → neighbour t (ring t q s c) v w ≡ true → Partner (λ j. live j v) (λ w j. joins t j v w ≡ true) (size t) w
+    ring-live : (v c : ℕ) → c < e → s ≤ c → c ≤ hi → met t (ring t q s c) v ≡ true → (w : ℕ) → neighbour t (ring t q s c) v w ≡ true
+        → Partner (λ j. live j v) (λ w j. joins t j v w ≡ true) (size t) w
     ring-live v c l a b m w n =
         let y = neighbour-e t (ring t q s c) v w n in
         let i = y .row in
@@ -193,14 +222,16 @@ module _ (t : Table) (frame : Frame) (S : Setting t (frame .query) (frame .start
         }
       where
         not-left : (j : ℕ) → j < size t → dayOf t j ≤ c → j < r
-        not-left j k d = ⊎-elim (λ y. ⊎-elim (λ z. absurd (omega arith)) (λ z. absurd (omega arith)) (lw j (leb-true r j y) k)) (λ y. leb-false r j y) (look (leb r j))
+        not-left j k d = ⊎-elim (λ y. ⊎-elim (λ z. absurd (omega arith)) (λ z. absurd (omega arith)) (lw j (leb-true r j y) k)) (λ y. leb-false r j y)
+            (look (leb r j))
 
         not-walked : (w : ℕ) → met t (ring t q s c) w ≡ true → walked w ≡ false
         not-walked w k = ⊎-elim (λ y. let f = fell w y in absurd (unfallen c w l a b k (f .0) (f .1))) (λ y. y) (look (walked w))
 
         not-passed : (j v w : ℕ) → j < size t → dayOf t j ≤ c → otherOf t j v ≡ w → met t (ring t q s c) w ≡ true → w < 4096 → passed j v ≡ false
         not-passed j v w k d o k′ small =
-            ⊎-elim (λ y. ⊎-elim (λ z. absurd (unfallen c w l a b k′ small (subst (Fell x) o (z .1)))) (λ z. absurd (omega arith)) (pw j v k y)) (λ y. y) (look (passed j v))
+            ⊎-elim (λ y. ⊎-elim (λ z. absurd (unfallen c w l a b k′ small (subst (Fell x) o (z .1)))) (λ z. absurd (omega arith)) (pw j v k y)) (λ y. y)
+            (look (passed j v))
 
     pub fall-lower : (v : ℕ) → count (λ j. live j v) (size t) < q .k → (c : ℕ) → s ≤ c → c ≤ hi → met t (ring t q s c) v ≡ true → e ≤ c
     unfolding degree
@@ -209,7 +240,9 @@ module _ (t : Table) (frame : Frame) (S : Setting t (frame .query) (frame .start
         (λ y.
         let l = leb-false e c y in
         let k : q .k ≤ count (neighbour t (ring t q s c) v) (names t) = ring-degree t q s c v m in
-        let n : count (neighbour t (ring t q s c) v) (names t) ≤ count (λ j. live j v) (size t) = count-inject (neighbour t (ring t q s c) v) (names t) (λ j. live j v) (size t) (λ w j. joins t j v w ≡ true) (λ w o h. ring-live v c l a b m w h) (λ w w′ j h h′. joins-same t j v w w′ h h′) in
+        let n : count (neighbour t (ring t q s c) v) (names t) ≤ count (λ j. live j v) (size t) =
+        count-inject (neighbour t (ring t q s c) v) (names t) (λ j. live j v) (size t) (λ w j. joins t j v w ≡ true) (λ w o h. ring-live v c l a b m w h)
+        (λ w w′ j h h′. joins-same t j v w w′ h h′) in
         absurd (omega arith)) (look (leb e c))
 
   -- ---- one account falls
@@ -233,11 +266,21 @@ module _ (t : Table) (frame : Frame) (S : Setting t (frame .query) (frame .start
         record {
           e-pos = T .e-pos;
           e-day = T .e-day;
-          valued = λ u k f. ⊎-elim (λ y. subst (λ (a : ℕ). (a ≤ hi) ⊎ (a ≡ never)) (sym (at-v u y)) (T .e-day)) (λ y. subst (λ (a : ℕ). (a ≤ hi) ⊎ (a ≡ never)) (sym (still u y)) (T .valued u k (fell-other x u v e y f))) (same-or u v);
-          above = λ u k f. ⊎-elim (λ y. subst (λ (a : ℕ). e ≤ a) (sym (at-v u y)) (le-refl e)) (λ y. subst (λ (a : ℕ). e ≤ a) (sym (still u y)) (T .above u k (fell-other x u v e y f))) (same-or u v);
-          lower = λ u c k f a b m. ⊎-elim (λ y. subst (λ (g : ℕ). g ≤ c) (sym (at-v u y)) (low c a b (subst (λ (g : ℕ). met t (ring t q s c) g ≡ true) y m))) (λ y. subst (λ (g : ℕ). g ≤ c) (sym (still u y)) (T .lower u c k (fell-other x u v e y f) a b m)) (same-or u v);
-          closed = λ u k f. ⊎-elim (λ y. subst (λ (a : ℕ). (a ≡ never) ⊎ (q .k ≤ supporters t (guess (set x v e)) s a u)) (sym (at-v u y)) (raised e (le-refl e) u (subst (λ (g : ℕ). (e ≡ never) ⊎ (q .k ≤ supporters t (guess x) s e g)) (sym y) (T .backed v l z))))
-              (λ y. subst (λ (a : ℕ). (a ≡ never) ⊎ (q .k ≤ supporters t (guess (set x v e)) s a u)) (sym (still u y)) (raised (getD x u 0) (T .above u k (fell-other x u v e y f)) u (T .closed u k (fell-other x u v e y f)))) (same-or u v);
+          valued =
+              λ u k f. ⊎-elim (λ y. subst (λ (a : ℕ). (a ≤ hi) ⊎ (a ≡ never)) (sym (at-v u y)) (T .e-day))
+              (λ y. subst (λ (a : ℕ). (a ≤ hi) ⊎ (a ≡ never)) (sym (still u y)) (T .valued u k (fell-other x u v e y f))) (same-or u v);
+          above =
+              λ u k f. ⊎-elim (λ y. subst (λ (a : ℕ). e ≤ a) (sym (at-v u y)) (le-refl e))
+              (λ y. subst (λ (a : ℕ). e ≤ a) (sym (still u y)) (T .above u k (fell-other x u v e y f))) (same-or u v);
+          lower =
+              λ u c k f a b m. ⊎-elim (λ y. subst (λ (g : ℕ). g ≤ c) (sym (at-v u y)) (low c a b (subst (λ (g : ℕ). met t (ring t q s c) g ≡ true) y m)))
+              (λ y. subst (λ (g : ℕ). g ≤ c) (sym (still u y)) (T .lower u c k (fell-other x u v e y f) a b m)) (same-or u v);
+          closed =
+              λ u k f. ⊎-elim
+              (λ y. subst (λ (a : ℕ). (a ≡ never) ⊎ (q .k ≤ supporters t (guess (set x v e)) s a u)) (sym (at-v u y))
+              (raised e (le-refl e) u (subst (λ (g : ℕ). (e ≡ never) ⊎ (q .k ≤ supporters t (guess x) s e g)) (sym y) (T .backed v l z))))
+              (λ y. subst (λ (a : ℕ). (a ≡ never) ⊎ (q .k ≤ supporters t (guess (set x v e)) s a u)) (sym (still u y))
+              (raised (getD x u 0) (T .above u k (fell-other x u v e y f)) u (T .closed u k (fell-other x u v e y f)))) (same-or u v);
           backed = λ u k g. ⊎-elim (λ y. absurd (pos (sym (at-v u y) ∙ g))) (λ y. raised e (le-refl e) u (T .backed u k (sym (still u y) ∙ g))) (same-or u v);
         }
       where
@@ -250,15 +293,22 @@ module _ (t : Table) (frame : Frame) (S : Setting t (frame .query) (frame .start
         raised : (c : ℕ) → e ≤ c → (u : ℕ) → (c ≡ never) ⊎ (q .k ≤ supporters t (guess x) s c u) → (c ≡ never) ⊎ (q .k ≤ supporters t (guess (set x v e)) s c u)
         raised c h u = ⊎-elim _⊎_.inl (λ k. _⊎_.inr (le-trans k (supporters-mono t (guess x) (guess (set x v e)) s c u (guess-keeps c h))))
 
-    pub queue-fall : {head tail : ℕ} {walked : ℕ → Bool} {w : List ℕ} → 4096 ≤ length w → Queue head tail walked x w → Queue head (tail + 1) walked (set x v e) (set w tail v)
+    pub queue-fall : {head tail : ℕ} {walked : ℕ → Bool} {w : List ℕ} → 4096 ≤ length w → Queue head tail walked x w
+        → Queue head (tail + 1) walked (set x v e) (set w tail v)
     queue-fall {head} {tail} {walked} {w} m Q =
         record {
           walked-fell = λ u h. let f = Q .walked-fell u h in (f .0, keep-fell u (f .1));
-          waits = λ u k f h. ⊎-elim (λ y. record { place = tail; from = Q .in-order; below = omega arith; is = here ∙ sym y }) (λ y. let p = Q .waits u k (fell-other x u v e y f) h in let o = p .below in record { place = p .place; from = p .from; below = omega arith; is = old (p .place) o ∙ p .is }) (same-or u v);
+          waits =
+              λ u k f h. ⊎-elim (λ y. record { place = tail; from = Q .in-order; below = omega arith; is = here ∙ sym y })
+              (λ y. let p = Q .waits u k (fell-other x u v e y f) h in let o = p .below in
+              record { place = p .place; from = p .from; below = omega arith; is = old (p .place) o ∙ p .is }) (same-or u v);
           waiting-small = λ i a b. split i b (λ c. c < 4096) l (λ o. Q .waiting-small i a o);
           waiting-fell = λ i a b. split i b (Fell (set x v e)) fell-v (λ o. keep-fell (getD w i 0) (Q .waiting-fell i a o));
           waiting-not = λ i a b. split i b (λ c. walked c ≡ false) not-v (λ o. Q .waiting-not i a o);
-          apart = λ i i′ a o b g. ⊎-elim (λ y. Q .waiting-fell i a (omega arith) (ap (λ (c : ℕ). getD x c 0) (sym (old i (omega arith)) ∙ (g ∙ (ap (λ (c : ℕ). getD (set w tail v) c 0) y ∙ here))) ∙ z))
+          apart =
+              λ i i′ a o b g. ⊎-elim
+              (λ y. Q .waiting-fell i a (omega arith)
+              (ap (λ (c : ℕ). getD x c 0) (sym (old i (omega arith)) ∙ (g ∙ (ap (λ (c : ℕ). getD (set w tail v) c 0) y ∙ here))) ∙ z))
               (λ y. Q .apart i i′ a o y (sym (old i (omega arith)) ∙ (g ∙ old i′ y))) (last i′ b);
           in-order = let o = Q .in-order in omega arith;
           tail-is = let p = Q .tail-is in let c : fallen (set x v e) ≡ suc (fallen x) = fallen-more x v e l n z (T .e-pos) in omega arith;
@@ -292,22 +342,30 @@ module _ (t : Table) (frame : Frame) (S : Setting t (frame .query) (frame .start
 
   -- v, which has not fallen, loses the row j
   counts-lost : (live : ℕ → ℕ → Bool) (x d : List ℕ) (j v : ℕ) → j < size t → v < 4096 → length d ≡ 4096 → live j v ≡ true → getD x v 0 ≡ 0
-      → ((u : ℕ) → u < 4096 → getD x u 0 ≡ 0 → getD d u 0 ≡ count (λ i. live i u) (size t)) → (u : ℕ) → u < 4096 → getD x u 0 ≡ 0 → getD (set d v (getD d v 0 - 1)) u 0 ≡ count (λ i. without live j v i u) (size t)
+      → ((u : ℕ) → u < 4096 → getD x u 0 ≡ 0 → getD d u 0 ≡ count (λ i. live i u) (size t)) → (u : ℕ) → u < 4096 → getD x u 0 ≡ 0
+      → getD (set d v (getD d v 0 - 1)) u 0 ≡ count (λ i. without live j v i u) (size t)
   counts-lost live x d j v b l n h z D u k g =
-      ⊎-elim (λ y. ap (λ (c : ℕ). getD (set d v (getD d v 0 - 1)) c 0) y ∙ (getD-set-same d v (getD d v 0 - 1) 0 (omega arith) ∙ (one-less ∙ ap (λ (c : ℕ). count (λ i. without live j v i c) (size t)) (sym y))))
-      (λ y. getD-set-other d v u (getD d v 0 - 1) 0 y ∙ (D u k g ∙ sym (count-same (λ i. without live j v i u) (λ i. live i u) (size t) (λ i o. without-other live j v i u (λ e. y (e .1)))))) (same-or u v)
+      ⊎-elim (λ y. ap (λ (c : ℕ). getD (set d v (getD d v 0 - 1)) c 0) y
+      ∙ (getD-set-same d v (getD d v 0 - 1) 0 (omega arith) ∙ (one-less ∙ ap (λ (c : ℕ). count (λ i. without live j v i c) (size t)) (sym y))))
+      (λ y. getD-set-other d v u (getD d v 0 - 1) 0 y
+      ∙ (D u k g ∙ sym (count-same (λ i. without live j v i u) (λ i. live i u) (size t) (λ i o. without-other live j v i u (λ e. y (e .1)))))) (same-or u v)
     where
       one-less : getD d v 0 - 1 ≡ count (λ i. without live j v i v) (size t)
       one-less =
           let a : getD d v 0 ≡ count (λ i. live i v) (size t) = D v l z in
-          let c : count (λ i. live i v) (size t) ≡ suc (count (λ i. without live j v i v) (size t)) = count-drop (λ i. live i v) (λ i. without live j v i v) (size t) j b h (without-this live j v) (λ i y. without-other live j v i v (λ e. y (e .0))) in
+          let c : count (λ i. live i v) (size t) ≡ suc (count (λ i. without live j v i v) (size t)) =
+          count-drop (λ i. live i v) (λ i. without live j v i v) (size t) j b h (without-this live j v) (λ i y. without-other live j v i v (λ e. y (e .0)))
+          in
           omega arith
 
   -- an account that has fallen counts no more: its rows may be passed freely
   counts-kept : (live : ℕ → ℕ → Bool) (x d : List ℕ) (j v : ℕ) → Fell x v
-      → ((u : ℕ) → u < 4096 → getD x u 0 ≡ 0 → getD d u 0 ≡ count (λ i. live i u) (size t)) → (u : ℕ) → u < 4096 → getD x u 0 ≡ 0 → getD d u 0 ≡ count (λ i. without live j v i u) (size t)
+      → ((u : ℕ) → u < 4096 → getD x u 0 ≡ 0 → getD d u 0 ≡ count (λ i. live i u) (size t)) → (u : ℕ) → u < 4096 → getD x u 0 ≡ 0
+      → getD d u 0 ≡ count (λ i. without live j v i u) (size t)
   counts-kept live x d j v f D u k g =
-      D u k g ∙ sym (count-same (λ i. without live j v i u) (λ i. live i u) (size t) (λ i o. without-other live j v i u (λ e. f (ap (λ (c : ℕ). getD x c 0) (sym (e .1)) ∙ g))))
+      D u k g
+      ∙ sym (count-same (λ i. without live j v i u) (λ i. live i u) (size t)
+      (λ i o. without-other live j v i u (λ e. f (ap (λ (c : ℕ). getD x c 0) (sym (e .1)) ∙ g))))
 
   module _ {e r head tail : ℕ} {passed passed′ : ℕ → ℕ → Bool} {x d w : List ℕ} (F : Fall t frame 4096 e r head tail passed x d w) (j v : ℕ)
       (k : v < 4096) (here : Here t lo r j v) (fresh-other : F .walked (otherOf t j v) ≡ false) (new : passed j v ≡ false) (P : Pass passed passed′ j v)
@@ -316,10 +374,13 @@ module _ (t : Table) (frame : Frame) (S : Setting t (frame .query) (frame .start
     counted = F .rows .live-all j v here fresh-other new
 
     one-fewer : count (λ i. F .live i v) (size t) ≡ suc (count (λ i. without (F .live) j v i v) (size t))
-    one-fewer = count-drop (λ i. F .live i v) (λ i. without (F .live) j v i v) (size t) j (here .below) counted (without-this (F .live) j v) (λ i y. without-other (F .live) j v i v (λ e. y (e .0)))
+    one-fewer =
+        count-drop (λ i. F .live i v) (λ i. without (F .live) j v i v) (size t) j (here .below) counted (without-this (F .live) j v)
+        (λ i y. without-other (F .live) j v i v (λ e. y (e .0)))
 
     most-live : count (λ i. F .live i v) (size t) ≤ getD d v 0
-    most-live = ⊎-elim (λ z. let a : getD d v 0 ≡ count (λ i. F .live i v) (size t) = F .counts .degrees v k z in omega arith) (λ f. F .counts .many v k f) (fell-look x v)
+    most-live = ⊎-elim (λ z. let a : getD d v 0 ≡ count (λ i. F .live i v) (size t) = F .counts .degrees v k z in omega arith) (λ f. F .counts .many v k f)
+        (fell-look x v)
 
     -- v has a neighbour to lose
     lose-one : 0 < getD d v 0
@@ -341,19 +402,26 @@ module _ (t : Table) (frame : Frame) (S : Setting t (frame .query) (frame .start
     -- of v, and of those who have fallen
     many-now : (u : ℕ) → u < 4096 → (u ≡ v) ⊎ Fell x u → count (λ i. without (F .live) j v i u) (size t) ≤ getD (set d v (getD d v 0 - 1)) u 0
     many-now u a o =
-        ⊎-elim (λ y. subst (λ (c : ℕ). count (λ i. without (F .live) j v i c) (size t) ≤ getD (set d v (getD d v 0 - 1)) c 0) (sym y) (let m = most-live in let n = one-fewer in let g = now-less in omega arith))
+        ⊎-elim (λ y. subst (λ (c : ℕ). count (λ i. without (F .live) j v i c) (size t) ≤ getD (set d v (getD d v 0 - 1)) c 0) (sym y)
+        (let m = most-live in let n = one-fewer in let g = now-less in omega arith))
         (λ y. let g : getD (set d v (getD d v 0 - 1)) u 0 ≡ getD d u 0 = getD-set-other d v u (getD d v 0 - 1) 0 y in
-        let c : count (λ i. without (F .live) j v i u) (size t) ≡ count (λ i. F .live i u) (size t) = count-same (λ i. without (F .live) j v i u) (λ i. F .live i u) (size t) (λ i b. without-other (F .live) j v i u (λ e. y (e .1))) in
+        let c : count (λ i. without (F .live) j v i u) (size t) ≡ count (λ i. F .live i u) (size t) =
+        count-same (λ i. without (F .live) j v i u) (λ i. F .live i u) (size t) (λ i b. without-other (F .live) j v i u (λ e. y (e .1))) in
         ⊎-elim (λ e. absurd (y e)) (λ f. let m = F .counts .many u a f in omega arith) o) (same-or u v)
 
     few-now : (u : ℕ) → u < 4096 → (u ≡ v → getD d v 0 ≤ q .k) → (u ≡ v) ⊎ Fell x u → getD (set d v (getD d v 0 - 1)) u 0 < q .k
     few-now u a le o =
-        ⊎-elim (λ y. subst (λ (c : ℕ). getD (set d v (getD d v 0 - 1)) c 0 < q .k) (sym y) (let m = le y in let n = lose-one in let g = now-less in omega arith))
-        (λ y. let g : getD (set d v (getD d v 0 - 1)) u 0 ≡ getD d u 0 = getD-set-other d v u (getD d v 0 - 1) 0 y in ⊎-elim (λ e. absurd (y e)) (λ f. let m = F .counts .few u a f in omega arith) o) (same-or u v)
+        ⊎-elim (λ y. subst (λ (c : ℕ). getD (set d v (getD d v 0 - 1)) c 0 < q .k) (sym y)
+        (let m = le y in let n = lose-one in let g = now-less in omega arith))
+        (λ y. let g : getD (set d v (getD d v 0 - 1)) u 0 ≡ getD d u 0 =
+        getD-set-other d v u (getD d v 0 - 1) 0 y in ⊎-elim (λ e. absurd (y e)) (λ f. let m = F .counts .few u a f in omega arith) o) (same-or u v)
 
     why-all : (i u : ℕ) → i < size t → passed′ i u ≡ true → ((otherOf t i u < 4096) × Fell x (otherOf t i u)) ⊎ (e ≤ dayOf t i)
     why-all i u l h =
-        ⊎-elim (λ a. ⊎-elim (λ b. subst (λ (y : ℕ). ((otherOf t i y < 4096) × Fell x (otherOf t i y)) ⊎ (e ≤ dayOf t i)) (sym b) (subst (λ (y : ℕ). ((otherOf t y v < 4096) × Fell x (otherOf t y v)) ⊎ (e ≤ dayOf t y)) (sym a) why)) (λ b. F .passed-why i u l (sym (P .rest i u (λ e. b (e .1))) ∙ h)) (same-or u v))
+        ⊎-elim (λ a. ⊎-elim
+        (λ b. subst (λ (y : ℕ). ((otherOf t i y < 4096) × Fell x (otherOf t i y)) ⊎ (e ≤ dayOf t i)) (sym b)
+        (subst (λ (y : ℕ). ((otherOf t y v < 4096) × Fell x (otherOf t y v)) ⊎ (e ≤ dayOf t y)) (sym a) why))
+        (λ b. F .passed-why i u l (sym (P .rest i u (λ e. b (e .1))) ∙ h)) (same-or u v))
         (λ a. F .passed-why i u l (sym (P .rest i u (λ e. a (e .0))) ∙ h)) (same-or i j)
 
     -- the three outcomes of a loss
@@ -389,7 +457,11 @@ module _ (t : Table) (frame : Frame) (S : Setting t (frame .query) (frame .start
           queue = F .queue;
           counts = record {
             degrees = counts-lost (F .live) x d j v (here .below) k (F .buffers .left) counted z (F .counts .degrees);
-            enough = λ u a b g. ⊎-elim (λ y. subst (λ (c : ℕ). q .k ≤ getD (set d v (getD d v 0 - 1)) c 0) (sym y) (rw (getD-set-same d v (getD d v 0 - 1) 0 (let n = F .buffers .left in omega arith)) (omega arith))) (λ y. rw (getD-set-other d v u (getD d v 0 - 1) 0 y) (F .counts .enough u a b g)) (same-or u v);
+            enough =
+                λ u a b g. ⊎-elim
+                (λ y. subst (λ (c : ℕ). q .k ≤ getD (set d v (getD d v 0 - 1)) c 0) (sym y)
+                (rw (getD-set-same d v (getD d v 0 - 1) 0 (let n = F .buffers .left in omega arith)) (omega arith)))
+                (λ y. rw (getD-set-other d v u (getD d v 0 - 1) 0 y) (F .counts .enough u a b g)) (same-or u v);
             many = λ u a g. many-now u a (_⊎_.inr g);
             few = λ u a g. few-now u a (λ y. absurd (g (ap (λ (c : ℕ). getD x c 0) y ∙ z))) (_⊎_.inr g);
           };
@@ -401,14 +473,22 @@ module _ (t : Table) (frame : Frame) (S : Setting t (frame .query) (frame .start
     fall-state : getD x v 0 ≡ 0 → getD d v 0 ≤ q .k → Fall t frame 4096 e r head (tail + 1) passed′ (set x v e) (set d v (getD d v 0 - 1)) (set w tail v)
     fall-state z h =
         record {
-          buffers = record { times = length-set x v e ∙ F .buffers .times; left = length-set d v (getD d v 0 - 1) ∙ F .buffers .left; queue = let a = length-set w tail v in let b = F .buffers .queue in omega arith };
+          buffers =
+              record {
+                times = length-set x v e ∙ F .buffers .times;
+                left = length-set d v (getD d v 0 - 1) ∙ F .buffers .left;
+                queue = let a = length-set w tail v in let b = F .buffers .queue in omega arith;
+              };
           walked = F .walked;
           live = without (F .live) j v;
           rows = R;
           queue = queue-fall (F .buffers .times) (F .times) v k z (F .buffers .queue) (F .queue);
           counts = record {
             degrees = λ u a g. ⊎-elim (λ y. absurd (fell-v u y g)) (λ y. D u a (sym (still (F .buffers .times) (F .times) v k z u y) ∙ g)) (same-or u v);
-            enough = λ u a b g. ⊎-elim (λ y. absurd (fell-v u y g)) (λ y. rw (getD-set-other d v u (getD d v 0 - 1) 0 y) (F .counts .enough u a b (sym (still (F .buffers .times) (F .times) v k z u y) ∙ g))) (same-or u v);
+            enough =
+                λ u a b g. ⊎-elim (λ y. absurd (fell-v u y g))
+                (λ y. rw (getD-set-other d v u (getD d v 0 - 1) 0 y) (F .counts .enough u a b (sym (still (F .buffers .times) (F .times) v k z u y) ∙ g)))
+                (same-or u v);
             many = λ u a g. many-now u a (fell-now u g);
             few = λ u a g. few-now u a (λ y. h) (fell-now u g);
           };
@@ -433,18 +513,22 @@ module _ (t : Table) (frame : Frame) (S : Setting t (frame .query) (frame .start
             let g : getD (set d v (getD d v 0 - 1)) v 0 ≡ count (λ i. without (F .live) j v i v) (size t) = D v k z in omega arith
 
         fell-v : (u : ℕ) → u ≡ v → getD (set x v e) u 0 ≡ 0 → ⊥
-        fell-v u y g = let p = F .times .e-pos in let a : getD (set x v e) u 0 ≡ e = ap (λ (c : ℕ). getD (set x v e) c 0) y ∙ now-e (F .buffers .times) (F .times) v k z in omega arith
+        fell-v u y g = let p = F .times .e-pos in let a : getD (set x v e) u 0 ≡ e = ap (λ (c : ℕ). getD (set x v e) c 0) y
+            ∙ now-e (F .buffers .times) (F .times) v k z in omega arith
 
         keep-fell : (u : ℕ) → Fell x u → Fell (set x v e) u
         keep-fell u f = ⊎-elim (λ y. fell-v u y) (λ y g. f (sym (still (F .buffers .times) (F .times) v k z u y) ∙ g)) (same-or u v)
 
     -- what `lose` leaves
     pub lost-step : {x′ d′ w′ : List ℕ} {tail′ : ℕ} → Lost (q .k) e tail v x d w x′ d′ w′ tail′ → Fall t frame 4096 e r head tail′ passed′ x′ d′ w′
-    lost-step (Lost.stays h ex ed ew et) = moved ex ed ew et (⊎-elim (λ z. lower-state z (⊎-elim (λ y. absurd (h (sym y))) (λ y. y) (eq-or-lt-of-le (F .counts .enough v k k z)))) kept-state (fell-look x v))
+    lost-step (Lost.stays h ex ed ew et) =
+        moved ex ed ew et
+        (⊎-elim (λ z. lower-state z (⊎-elim (λ y. absurd (h (sym y))) (λ y. y) (eq-or-lt-of-le (F .counts .enough v k k z)))) kept-state (fell-look x v))
     lost-step (Lost.falls h ex ed ew et) = moved ex ed ew et (fall-state (not-yet h) (omega arith))
 
   -- who has not fallen has not been walked
-  pub not-walked : {b e r head tail : ℕ} {passed : ℕ → ℕ → Bool} {x d w : List ℕ} (F : Fall t frame b e r head tail passed x d w) (u : ℕ) → getD x u 0 ≡ 0 → F .walked u ≡ false
+  pub not-walked : {b e r head tail : ℕ} {passed : ℕ → ℕ → Bool} {x d w : List ℕ} (F : Fall t frame b e r head tail passed x d w) (u : ℕ) → getD x u 0 ≡ 0
+      → F .walked u ≡ false
   not-walked F u z = ⊎-elim (λ y. absurd (F .queue .walked-fell u y .1 z)) (λ y. y) (look (F .walked u))
 
   -- ---- the walk over the rows of an account that fell
@@ -459,9 +543,11 @@ module _ (t : Table) (frame : Frame) (S : Setting t (frame .query) (frame .start
 
   passing-same : (u b b′ j v : ℕ) → (joins t j u v ≡ true → j < b → j < b′) → (joins t j u v ≡ true → j < b′ → j < b) → passing t u b′ j v ≡ passing t u b j v
   passing-same u b b′ j v f g =
-      same-truth (passing t u b′ j v) (passing t u b j v) (λ h. let p = passing-e u b′ j v h in passing-i u b j v (p .0) (g (p .0) (p .1))) (λ h. let p = passing-e u b j v h in passing-i u b′ j v (p .0) (f (p .0) (p .1)))
+      same-truth (passing t u b′ j v) (passing t u b j v) (λ h. let p = passing-e u b′ j v h in passing-i u b j v (p .0) (g (p .0) (p .1)))
+      (λ h. let p = passing-e u b j v h in passing-i u b′ j v (p .0) (f (p .0) (p .1)))
 
-  pub walk-start : {e r head tail : ℕ} {x d w : List ℕ} → Fall t frame 4096 e r head tail nothing x d w → head < tail → Walk t frame 0 e r head tail (getD w head 0) x d w
+  pub walk-start : {e r head tail : ℕ} {x d w : List ℕ} → Fall t frame 4096 e r head tail nothing x d w → head < tail
+      → Walk t frame 0 e r head tail (getD w head 0) x d w
   walk-start {e} {r} {head} {tail} {x} {d} {w} F l = record { state = renamed F none; front = l; at-front = refl }
     where
       none : (j v : ℕ) → passing t (getD w head 0) 0 j v ≡ false
@@ -497,11 +583,14 @@ module _ (t : Table) (frame : Frame) (S : Setting t (frame .query) (frame .start
                 live-passed = λ i v h. agree i v (F .rows .live-row i v h .is-fresh) ∙ F .rows .live-passed i v h;
                 live-all = λ i v a c p. F .rows .live-all i v a c (sym (agree i v (a .is-fresh)) ∙ p);
               };
-              passed-why = λ i v k p. let o = other-joins t q s hi lo S i v u k (joins-swap t i u v (passing-e u m i v p .0)) in _⊎_.inl (subst (λ (a : ℕ). (a < 4096) × Fell x a) (sym o) (walk-small, walk-fell));
+              passed-why = λ i v k p. let o = other-joins t q s hi lo S i v u k (joins-swap t i u v (passing-e u m i v p .0)) in
+                  _⊎_.inl (subst (λ (a : ℕ). (a < 4096) × Fell x a) (sym o) (walk-small, walk-fell));
             }
           where
             agree : (i v : ℕ) → fresh t lo i ≡ true → passing t u m i v ≡ passing t u b i v
-            agree i v g = passing-same u b m i v (λ h k. omega arith) (λ h k. ⊎-elim (λ z. clash g (stale i (leb-true b i z) k (joins-touch t i u v h .0))) (λ z. leb-false b i z) (look (leb b i)))
+            agree i v g =
+                passing-same u b m i v (λ h k. omega arith)
+                (λ h k. ⊎-elim (λ z. clash g (stale i (leb-true b i z) k (joins-touch t i u v h .0))) (λ z. leb-false b i z) (look (leb b i)))
 
     -- the next row of u is j
     module _ (j : ℕ) (low : b ≤ j) (l : j < size t) (touch : touches t j u ≡ true) (none : (i : ℕ) → b ≤ i → i < j → touches t i u ≡ false) where
@@ -512,7 +601,12 @@ module _ (t : Table) (frame : Frame) (S : Setting t (frame .query) (frame .start
       next-pass =
           record {
             this = passing-i u (j + 1) j (otherOf t j u) (joins-other t j u (S .accounts j l) touch) (omega arith);
-            rest = λ i v n. passing-same u b (j + 1) i v (λ h k. omega arith) (λ h k. ⊎-elim (λ y. absurd (n (y, sym (joins-same t j u (otherOf t j u) v (joins-other t j u (S .accounts j l) touch) (subst (λ (a : ℕ). joins t a u v ≡ true) y h))))) (λ y. before i v h y) (eq-or-lt-of-le (omega arith)));
+            rest =
+                λ i v n. passing-same u b (j + 1) i v (λ h k. omega arith)
+                (λ h k. ⊎-elim
+                (λ y. absurd (n
+                (y, sym (joins-same t j u (otherOf t j u) v (joins-other t j u (S .accounts j l) touch) (subst (λ (a : ℕ). joins t a u v ≡ true) y h)))))
+                (λ y. before i v h y) (eq-or-lt-of-le (omega arith)));
           }
         where
           before : (i v : ℕ) → joins t i u v ≡ true → i < j → i < b
@@ -537,12 +631,20 @@ module _ (t : Table) (frame : Frame) (S : Setting t (frame .query) (frame .start
       pub walk-losable : j < r → fresh t lo j ≡ true → Losable (q .k) tail (otherOf t j u) x d w
       walk-losable k f = losable (W .state) j (otherOf t j u) next-small (next-here k f) next-not next-new next-pass next-why
 
-      pub walk-lost : j < r → fresh t lo j ≡ true → {x′ d′ w′ : List ℕ} {tail′ : ℕ} → Lost (q .k) e tail (otherOf t j u) x d w x′ d′ w′ tail′ → Walk t frame (j + 1) e r head tail′ u x′ d′ w′
-      walk-lost k f L = record { state = lost-step (W .state) j (otherOf t j u) next-small (next-here k f) next-not next-new next-pass next-why L; front = grown L (W .front); at-front = same-front L (W .front) ∙ W .at-front }
+      pub walk-lost : j < r → fresh t lo j ≡ true → {x′ d′ w′ : List ℕ} {tail′ : ℕ} → Lost (q .k) e tail (otherOf t j u) x d w x′ d′ w′ tail′
+          → Walk t frame (j + 1) e r head tail′ u x′ d′ w′
+      walk-lost k f L =
+          record {
+            state = lost-step (W .state) j (otherOf t j u) next-small (next-here k f) next-not next-new next-pass next-why L;
+            front = grown L (W .front);
+            at-front = same-front L (W .front) ∙ W .at-front;
+          }
 
       -- a row that is not fresh is passed over
       pub walk-skip : fresh t lo j ≡ false → Walk t frame (j + 1) e r head tail u x d w
-      walk-skip f = walk-to (j + 1) (omega arith) (λ i a k h. ⊎-elim (λ y. subst (λ (c : ℕ). fresh t lo c ≡ false) (sym y) f) (λ y. clash h (none i a y)) (eq-or-lt-of-le (omega arith)))
+      walk-skip f =
+          walk-to (j + 1) (omega arith)
+          (λ i a k h. ⊎-elim (λ y. subst (λ (c : ℕ). fresh t lo c ≡ false) (sym y) f) (λ y. clash h (none i a y)) (eq-or-lt-of-le (omega arith)))
 
     -- the walk ends where no row of u from b on is below r
     pub walk-end : ((i : ℕ) → b ≤ i → i < r → i < size t → touches t i u ≡ false) → Fall t frame 4096 e r (head + 1) tail nothing x d w
@@ -559,14 +661,21 @@ module _ (t : Table) (frame : Frame) (S : Setting t (frame .query) (frame .start
             live-row = F .rows .live-row;
             live-not = λ i v h. off (F .rows .live-not i v h) (λ y. clash (all-passed i v (F .rows .live-row i v h) y) (F .rows .live-passed i v h));
             live-passed = λ i v h. refl;
-            live-all = λ i v a c p. F .rows .live-all i v a (left c) (⊎-elim (λ h. absurd (right c (other-joins t q s hi lo S i v u (a .below) (joins-swap t i u v (passing-e u b i v h .0))))) (λ h. h) (look (passing t u b i v)));
+            live-all =
+                λ i v a c p. F .rows .live-all i v a (left c)
+                (⊎-elim (λ h. absurd (right c (other-joins t q s hi lo S i v u (a .below) (joins-swap t i u v (passing-e u b i v h .0))))) (λ h. h)
+                (look (passing t u b i v)));
           };
           queue = record {
-            walked-fell = λ a h. ⊎-elim (λ y. F .queue .walked-fell a y) (λ y. subst (λ (c : ℕ). (c < 4096) × Fell x c) (sym (eqb-true a u y)) (walk-small, walk-fell)) (or-e (F .walked a) (eqb a u) h);
-            waits = λ a k f h. let p = F .queue .waits a k f (left h) in record { place = p .place; from = not-head a (right h) p; below = p .below; is = p .is };
+            walked-fell =
+                λ a h. ⊎-elim (λ y. F .queue .walked-fell a y) (λ y. subst (λ (c : ℕ). (c < 4096) × Fell x c) (sym (eqb-true a u y)) (walk-small, walk-fell))
+                (or-e (F .walked a) (eqb a u) h);
+            waits = λ a k f h. let p = F .queue .waits a k f (left h) in
+                record { place = p .place; from = not-head a (right h) p; below = p .below; is = p .is };
             waiting-small = λ i a c. F .queue .waiting-small i (omega arith) c;
             waiting-fell = λ i a c. F .queue .waiting-fell i (omega arith) c;
-            waiting-not = λ i a c. off (F .queue .waiting-not i (omega arith) c) (λ y. F .queue .apart head i (le-refl head) (omega arith) c (W .at-front ∙ sym y));
+            waiting-not =
+                λ i a c. off (F .queue .waiting-not i (omega arith) c) (λ y. F .queue .apart head i (le-refl head) (omega arith) c (W .at-front ∙ sym y));
             apart = λ i i′ a o c. F .queue .apart i i′ (omega arith) o c;
             in-order = let o = W .front in omega arith;
             tail-is = F .queue .tail-is;
@@ -590,16 +699,20 @@ module _ (t : Table) (frame : Frame) (S : Setting t (frame .query) (frame .start
 
         all-passed : (i v : ℕ) → Here t lo r i v → otherOf t i v ≡ u → passing t u b i v ≡ true
         all-passed i v a y =
-            let jn : joins t i u v ≡ true = joins-swap t i v u (subst (λ (c : ℕ). joins t i v c ≡ true) y (joins-other t i v (S .accounts i (a .below)) (a .touch))) in
-            passing-i u b i v jn (⊎-elim (λ z. clash (joins-touch t i u v jn .0) (none i (leb-true b i z) (a .before) (a .below))) (λ z. leb-false b i z) (look (leb b i)))
+            let jn : joins t i u v ≡ true =
+            joins-swap t i v u (subst (λ (c : ℕ). joins t i v c ≡ true) y (joins-other t i v (S .accounts i (a .below)) (a .touch))) in
+            passing-i u b i v jn
+            (⊎-elim (λ z. clash (joins-touch t i u v jn .0) (none i (leb-true b i z) (a .before) (a .below))) (λ z. leb-false b i z) (look (leb b i)))
 
         not-head : (a : ℕ) → (a ≡ u → ⊥) → (p : Place w head tail a) → head + 1 ≤ p .place
-        not-head a n p = ⊎-elim (λ y. absurd (n (sym (p .is) ∙ (ap (λ (c : ℕ). getD w c 0) (sym y) ∙ W .at-front)))) (λ y. omega arith) (eq-or-lt-of-le (p .from))
+        not-head a n p = ⊎-elim (λ y. absurd (n (sym (p .is) ∙ (ap (λ (c : ℕ). getD w c 0) (sym y) ∙ W .at-front)))) (λ y. omega arith)
+            (eq-or-lt-of-le (p .from))
 
   -- ---- rows leave from the last on
 
   -- row j, for which no account that has not fallen counts any more, leaves
-  pub leave-row : {e j head tail : ℕ} {passed : ℕ → ℕ → Bool} {x d w : List ℕ} (F : Fall t frame 4096 e (suc j) head tail passed x d w) → e ≤ dayOf t j → ((u : ℕ) → u < 4096 → getD x u 0 ≡ 0 → F .live j u ≡ false) → ((i u : ℕ) → passed i u ≡ true → i ≡ j)
+  pub leave-row : {e j head tail : ℕ} {passed : ℕ → ℕ → Bool} {x d w : List ℕ} (F : Fall t frame 4096 e (suc j) head tail passed x d w) → e ≤ dayOf t j
+      → ((u : ℕ) → u < 4096 → getD x u 0 ≡ 0 → F .live j u ≡ false) → ((i u : ℕ) → passed i u ≡ true → i ≡ j)
       → Fall t frame 4096 e j head tail nothing x d w
   leave-row {e} {j} {head} {tail} {passed} {x} {d} {w} F day gone only =
       record {
@@ -611,12 +724,22 @@ module _ (t : Table) (frame : Frame) (S : Setting t (frame .query) (frame .start
         passed-why = λ i v k p. clash refl (sym p);
         left-why = λ i k l. ⊎-elim (λ y. _⊎_.inl (subst (λ (a : ℕ). e ≤ dayOf t a) y day)) (λ y. F .left-why i y l) (eq-or-lt-of-le k);
         rows = record {
-          live-row = λ i v h. let a = F .rows .live-row i v (old i v h) in record { below = a .below; before = ltb-true i j (and-r (F .live i v) (ltb i j) h); is-fresh = a .is-fresh; touch = a .touch };
+          live-row = λ i v h. let a = F .rows .live-row i v (old i v h) in
+              record { below = a .below; before = ltb-true i j (and-r (F .live i v) (ltb i j) h); is-fresh = a .is-fresh; touch = a .touch };
           live-not = λ i v h. F .rows .live-not i v (old i v h);
           live-passed = λ i v h. refl;
-          live-all = λ i v a c p. let b = a .before in and-i (F .rows .live-all i v (record { below = a .below; before = omega arith; is-fresh = a .is-fresh; touch = a .touch }) c (⊎-elim (λ y. let o = only i v y in absurd (omega arith)) (λ y. y) (look (passed i v)))) (lt-ltb i j b);
+          live-all = λ i v a c p. let b = a .before in
+              and-i (F .rows .live-all i v (record { below = a .below; before = omega arith; is-fresh = a .is-fresh; touch = a .touch }) c
+              (⊎-elim (λ y. let o = only i v y in absurd (omega arith)) (λ y. y) (look (passed i v)))) (lt-ltb i j b);
         };
-        counts = record { degrees = λ u k g. F .counts .degrees u k g ∙ count-same (λ i. F .live i u) (λ i. live′ i u) (size t) (λ i o. same-truth (F .live i u) (live′ i u) (new u k g i) (old i u)); enough = F .counts .enough; many = λ u k g. le-trans (count-mono (λ i. live′ i u) (λ i. F .live i u) (size t) (λ i o. old i u)) (F .counts .many u k g); few = F .counts .few };
+        counts =
+            record {
+              degrees = λ u k g. F .counts .degrees u k g
+                  ∙ count-same (λ i. F .live i u) (λ i. live′ i u) (size t) (λ i o. same-truth (F .live i u) (live′ i u) (new u k g i) (old i u));
+              enough = F .counts .enough;
+              many = λ u k g. le-trans (count-mono (λ i. live′ i u) (λ i. F .live i u) (size t) (λ i o. old i u)) (F .counts .many u k g);
+              few = F .counts .few;
+            };
       }
     where
       live′ : ℕ → ℕ → Bool
@@ -631,17 +754,26 @@ module _ (t : Table) (frame : Frame) (S : Setting t (frame .query) (frame .start
           and-i h (lt-ltb i j (⊎-elim (λ y. clash (subst (λ (a : ℕ). F .live a u ≡ true) y h) (gone u k g)) (λ y. y) (eq-or-lt-of-le (le-of-suc-le-suc b))))
 
   -- nobody waits: who fell was walked
-  pub stable-walked : {b e r head : ℕ} {passed : ℕ → ℕ → Bool} {x d w : List ℕ} (F : Fall t frame b e r head head passed x d w) (u : ℕ) → u < 4096 → F .walked u ≡ false → getD x u 0 ≡ 0
-  stable-walked {x = x} F u k h = ⊎-elim (λ z. z) (λ f. let p = F .queue .waits u k f h in let a = p .from in let b = p .below in absurd (omega arith)) (fell-look x u)
+  pub stable-walked : {b e r head : ℕ} {passed : ℕ → ℕ → Bool} {x d w : List ℕ} (F : Fall t frame b e r head head passed x d w) (u : ℕ) → u < 4096
+      → F .walked u ≡ false → getD x u 0 ≡ 0
+  stable-walked {x = x} F u k h = ⊎-elim (λ z. z) (λ f. let p = F .queue .waits u k f h in let a = p .from in let b = p .below in absurd (omega arith))
+      (fell-look x u)
 
   -- a row that is not fresh leaves without a word
-  pub leave-stale : {e j head : ℕ} {x d w : List ℕ} → Fall t frame 4096 e (suc j) head head nothing x d w → e ≤ dayOf t j → fresh t lo j ≡ false → Fall t frame 4096 e j head head nothing x d w
-  leave-stale {j = j} F day f = leave-row F day (λ u k g. ⊎-elim (λ h. clash (F .rows .live-row j u h .is-fresh) f) (λ h. h) (look (F .live j u))) (λ i u p. clash p refl)
+  pub leave-stale : {e j head : ℕ} {x d w : List ℕ} → Fall t frame 4096 e (suc j) head head nothing x d w → e ≤ dayOf t j → fresh t lo j ≡ false
+      → Fall t frame 4096 e j head head nothing x d w
+  leave-stale {j = j} F day f =
+      leave-row F day (λ u k g. ⊎-elim (λ h. clash (F .rows .live-row j u h .is-fresh) f) (λ h. h) (look (F .live j u))) (λ i u p. clash p refl)
 
   -- and so does a row one account of which has fallen
-  pub leave-fell : {e j head : ℕ} {x d w : List ℕ} → Fall t frame 4096 e (suc j) head head nothing x d w → e ≤ dayOf t j → j < size t → (a : ℕ) → touches t j a ≡ true → Fell x a → Fall t frame 4096 e j head head nothing x d w
+  pub leave-fell : {e j head : ℕ} {x d w : List ℕ} → Fall t frame 4096 e (suc j) head head nothing x d w → e ≤ dayOf t j → j < size t → (a : ℕ)
+      → touches t j a ≡ true → Fell x a → Fall t frame 4096 e j head head nothing x d w
   leave-fell {e} {j} {head} {x} F day l a touch fell =
-      leave-row F day (λ u k g. ⊎-elim (λ h. absurd (fell (stable-walked F a (touch-small t q s hi lo S j a l touch) (subst (λ (c : ℕ). F .walked c ≡ false) (other u k g h) (F .rows .live-not j u h))))) (λ h. h) (look (F .live j u))) (λ i u p. clash p refl)
+      leave-row F day
+      (λ u k g. ⊎-elim
+      (λ h. absurd (fell
+      (stable-walked F a (touch-small t q s hi lo S j a l touch) (subst (λ (c : ℕ). F .walked c ≡ false) (other u k g h) (F .rows .live-not j u h)))))
+      (λ h. h) (look (F .live j u))) (λ i u p. clash p refl)
     where
       -- an account that has not fallen is the other one
       other : (u : ℕ) → u < 4096 → getD x u 0 ≡ 0 → F .live j u ≡ true → otherOf t j u ≡ a
@@ -651,11 +783,16 @@ module _ (t : Table) (frame : Frame) (S : Setting t (frame .query) (frame .start
         where
           two : (u : ℕ) → touches t j u ≡ true → (u ≡ a → ⊥) → joins t j u a ≡ true
           two u tu n =
-              ⊎-elim (λ y. ⊎-elim (λ z. absurd (n (sym y ∙ z))) (λ z. subst (λ (c : ℕ). joins t j c a ≡ true) y (subst (λ (c : ℕ). joins t j (firstOf t j) c ≡ true) z (joins-ends t j))) (touch-cases t j a touch))
-              (λ y. ⊎-elim (λ z. subst (λ (c : ℕ). joins t j c a ≡ true) y (subst (λ (c : ℕ). joins t j (secondOf t j) c ≡ true) z (joins-swap t j (firstOf t j) (secondOf t j) (joins-ends t j)))) (λ z. absurd (n (sym y ∙ z))) (touch-cases t j a touch)) (touch-cases t j u tu)
+              ⊎-elim (λ y. ⊎-elim (λ z. absurd (n (sym y ∙ z)))
+              (λ z. subst (λ (c : ℕ). joins t j c a ≡ true) y (subst (λ (c : ℕ). joins t j (firstOf t j) c ≡ true) z (joins-ends t j)))
+              (touch-cases t j a touch))
+              (λ y. ⊎-elim (λ z. subst (λ (c : ℕ). joins t j c a ≡ true) y
+              (subst (λ (c : ℕ). joins t j (secondOf t j) c ≡ true) z (joins-swap t j (firstOf t j) (secondOf t j) (joins-ends t j))))
+              (λ z. absurd (n (sym y ∙ z))) (touch-cases t j a touch)) (touch-cases t j u tu)
 
   -- a fresh row both accounts of which have not fallen: first one, then the other loses a neighbour
-  module _ {e j head : ℕ} {x d w : List ℕ} (F : Fall t frame 4096 e (suc j) head head nothing x d w) (day : e ≤ dayOf t j) (l : j < size t) (f : fresh t lo j ≡ true)
+  module _ {e j head : ℕ} {x d w : List ℕ} (F : Fall t frame 4096 e (suc j) head head nothing x d w) (day : e ≤ dayOf t j) (l : j < size t)
+      (f : fresh t lo j ≡ true)
       (za : getD x (firstOf t j) 0 ≡ 0) (zb : getD x (secondOf t j) 0 ≡ 0) where
     pair : ℕ → ℕ → ℕ → Bool
     pair v i u = eqb i j and eqb u v
@@ -669,7 +806,11 @@ module _ (t : Table) (frame : Frame) (S : Setting t (frame .query) (frame .start
     pair-here v = and-i (eq-eqb j j refl) (eq-eqb v v refl)
 
     first-pass : Pass nothing (pair (firstOf t j)) j (firstOf t j)
-    first-pass = record { this = pair-here (firstOf t j); rest = λ i u n. ⊎-elim (λ h. absurd (n (pair-e (firstOf t j) i u h))) (λ h. h) (look (pair (firstOf t j) i u)) }
+    first-pass =
+        record {
+          this = pair-here (firstOf t j);
+          rest = λ i u n. ⊎-elim (λ h. absurd (n (pair-e (firstOf t j) i u h))) (λ h. h) (look (pair (firstOf t j) i u));
+        }
 
     both : ℕ → ℕ → Bool
     both i u = pair (firstOf t j) i u or pair (secondOf t j) i u
@@ -679,7 +820,10 @@ module _ (t : Table) (frame : Frame) (S : Setting t (frame .query) (frame .start
     second-pass =
         record {
           this = or-r (pair (firstOf t j) j (secondOf t j)) (pair (secondOf t j) j (secondOf t j)) (pair-here (secondOf t j));
-          rest = λ i u n. same-truth (both i u) (pair (firstOf t j) i u) (λ h. ⊎-elim (λ y. y) (λ y. absurd (n (pair-e (secondOf t j) i u y))) (or-e (pair (firstOf t j) i u) (pair (secondOf t j) i u) h)) (λ h. or-l (pair (firstOf t j) i u) (pair (secondOf t j) i u) h);
+          rest =
+              λ i u n. same-truth (both i u) (pair (firstOf t j) i u)
+              (λ h. ⊎-elim (λ y. y) (λ y. absurd (n (pair-e (secondOf t j) i u y))) (or-e (pair (firstOf t j) i u) (pair (secondOf t j) i u) h))
+              (λ h. or-l (pair (firstOf t j) i u) (pair (secondOf t j) i u) h);
         }
 
     here-row : (v : ℕ) → touches t j v ≡ true → Here t lo (suc j) j v
@@ -693,54 +837,78 @@ module _ (t : Table) (frame : Frame) (S : Setting t (frame .query) (frame .start
 
     pub leave-first-one : Losable (q .k) head (firstOf t j) x d w
     leave-first-one =
-        losable F j (firstOf t j) first-small (here-row (firstOf t j) (touch-first t j)) (not-walked F (otherOf t j (firstOf t j)) (ap (λ (c : ℕ). getD x c 0) (other-first t j) ∙ zb)) refl first-pass (_⊎_.inr day)
+        losable F j (firstOf t j) first-small (here-row (firstOf t j) (touch-first t j))
+        (not-walked F (otherOf t j (firstOf t j)) (ap (λ (c : ℕ). getD x c 0) (other-first t j) ∙ zb)) refl first-pass (_⊎_.inr day)
 
-    after-first : {x₁ d₁ w₁ : List ℕ} {tail₁ : ℕ} → Lost (q .k) e head (firstOf t j) x d w x₁ d₁ w₁ tail₁ → Fall t frame 4096 e (suc j) head tail₁ (pair (firstOf t j)) x₁ d₁ w₁
-    after-first L = lost-step F j (firstOf t j) first-small (here-row (firstOf t j) (touch-first t j)) (not-walked F (otherOf t j (firstOf t j)) (ap (λ (c : ℕ). getD x c 0) (other-first t j) ∙ zb)) refl first-pass (_⊎_.inr day) L
+    after-first : {x₁ d₁ w₁ : List ℕ} {tail₁ : ℕ} → Lost (q .k) e head (firstOf t j) x d w x₁ d₁ w₁ tail₁
+        → Fall t frame 4096 e (suc j) head tail₁ (pair (firstOf t j)) x₁ d₁ w₁
+    after-first L =
+        lost-step F j (firstOf t j) first-small (here-row (firstOf t j) (touch-first t j))
+        (not-walked F (otherOf t j (firstOf t j)) (ap (λ (c : ℕ). getD x c 0) (other-first t j) ∙ zb)) refl first-pass (_⊎_.inr day) L
 
     -- the first account has not been walked after that either
-    first-not : {x₁ d₁ w₁ : List ℕ} {tail₁ : ℕ} (L : Lost (q .k) e head (firstOf t j) x d w x₁ d₁ w₁ tail₁) (G : Fall t frame 4096 e (suc j) head tail₁ (pair (firstOf t j)) x₁ d₁ w₁) → G .walked (firstOf t j) ≡ false
+    first-not : {x₁ d₁ w₁ : List ℕ} {tail₁ : ℕ} (L : Lost (q .k) e head (firstOf t j) x d w x₁ d₁ w₁ tail₁)
+        (G : Fall t frame 4096 e (suc j) head tail₁ (pair (firstOf t j)) x₁ d₁ w₁) → G .walked (firstOf t j) ≡ false
     first-not (Lost.stays h ex ed ew et) G = not-walked G (firstOf t j) (ap (λ (y : List ℕ). getD y (firstOf t j) 0) ex ∙ za)
     first-not {w₁ = w₁} (Lost.falls h ex ed ew et) G =
-        subst (λ (c : ℕ). G .walked c ≡ false) (ap (λ (y : List ℕ). getD y head 0) ew ∙ getD-set-same w head (firstOf t j) 0 (let a : head < 4096 = subst (λ (c : ℕ). c < 4096) (sym (F .queue .tail-is)) (room x (firstOf t j) first-small za) in let b = F .buffers .queue in omega arith))
+        subst (λ (c : ℕ). G .walked c ≡ false)
+        (ap (λ (y : List ℕ). getD y head 0) ew
+        ∙ getD-set-same w head (firstOf t j) 0
+        (let a : head < 4096 = subst (λ (c : ℕ). c < 4096) (sym (F .queue .tail-is)) (room x (firstOf t j) first-small za) in let b = F .buffers .queue in
+        omega arith))
         (G .queue .waiting-not head (le-refl head) (omega arith))
 
-    second-other : {x₁ d₁ w₁ : List ℕ} {tail₁ : ℕ} (L : Lost (q .k) e head (firstOf t j) x d w x₁ d₁ w₁ tail₁) (G : Fall t frame 4096 e (suc j) head tail₁ (pair (firstOf t j)) x₁ d₁ w₁) → G .walked (otherOf t j (secondOf t j)) ≡ false
+    second-other : {x₁ d₁ w₁ : List ℕ} {tail₁ : ℕ} (L : Lost (q .k) e head (firstOf t j) x d w x₁ d₁ w₁ tail₁)
+        (G : Fall t frame 4096 e (suc j) head tail₁ (pair (firstOf t j)) x₁ d₁ w₁) → G .walked (otherOf t j (secondOf t j)) ≡ false
     second-other L G = subst (λ (c : ℕ). G .walked c ≡ false) (sym (other-second t j (S .accounts j l))) (first-not L G)
 
     second-new : pair (firstOf t j) j (secondOf t j) ≡ false
-    second-new = ⊎-elim (λ h. let y = pair-e (firstOf t j) j (secondOf t j) h .1 in let a = S .accounts j l in absurd (omega arith)) (λ h. h) (look (pair (firstOf t j) j (secondOf t j)))
+    second-new = ⊎-elim (λ h. let y = pair-e (firstOf t j) j (secondOf t j) h .1 in let a = S .accounts j l in absurd (omega arith)) (λ h. h)
+        (look (pair (firstOf t j) j (secondOf t j)))
 
     module _ {x₁ d₁ w₁ : List ℕ} {tail₁ : ℕ} (L : Lost (q .k) e head (firstOf t j) x d w x₁ d₁ w₁ tail₁) where
       pub leave-second-one : Losable (q .k) tail₁ (secondOf t j) x₁ d₁ w₁
-      leave-second-one = losable (after-first L) j (secondOf t j) second-small (here-row (secondOf t j) (touch-second t j)) (second-other L (after-first L)) second-new second-pass (_⊎_.inr day)
+      leave-second-one =
+          losable (after-first L) j (secondOf t j) second-small (here-row (secondOf t j) (touch-second t j)) (second-other L (after-first L))
+          second-new second-pass (_⊎_.inr day)
 
-      pub leave-both : {x₂ d₂ w₂ : List ℕ} {tail₂ : ℕ} → Lost (q .k) e tail₁ (secondOf t j) x₁ d₁ w₁ x₂ d₂ w₂ tail₂ → Fall t frame 4096 e j head tail₂ nothing x₂ d₂ w₂
+      pub leave-both : {x₂ d₂ w₂ : List ℕ} {tail₂ : ℕ} → Lost (q .k) e tail₁ (secondOf t j) x₁ d₁ w₁ x₂ d₂ w₂ tail₂
+          → Fall t frame 4096 e j head tail₂ nothing x₂ d₂ w₂
       unfolding both
-      leave-both {x₂} {d₂} {w₂} {tail₂} M = leave-row G day (λ u k g. ⊎-elim (λ h. clash (passed-here u (G .rows .live-row j u h .touch)) (G .rows .live-passed j u h)) (λ h. h) (look (G .live j u)))
-          (λ i u h. ⊎-elim (λ y. pair-e (firstOf t j) i u y .0) (λ y. pair-e (secondOf t j) i u y .0) (or-e (pair (firstOf t j) i u) (pair (secondOf t j) i u) h))
+      leave-both {x₂} {d₂} {w₂} {tail₂} M =
+          leave-row G day
+          (λ u k g. ⊎-elim (λ h. clash (passed-here u (G .rows .live-row j u h .touch)) (G .rows .live-passed j u h)) (λ h. h) (look (G .live j u)))
+          (λ i u h. ⊎-elim (λ y. pair-e (firstOf t j) i u y .0) (λ y. pair-e (secondOf t j) i u y .0)
+          (or-e (pair (firstOf t j) i u) (pair (secondOf t j) i u) h))
         where
           G : Fall t frame 4096 e (suc j) head tail₂ both x₂ d₂ w₂
-          G = lost-step (after-first L) j (secondOf t j) second-small (here-row (secondOf t j) (touch-second t j)) (second-other L (after-first L)) second-new second-pass (_⊎_.inr day) M
+          G =
+              lost-step (after-first L) j (secondOf t j) second-small (here-row (secondOf t j) (touch-second t j)) (second-other L (after-first L))
+              second-new second-pass (_⊎_.inr day) M
 
           passed-here : (u : ℕ) → touches t j u ≡ true → both j u ≡ true
           passed-here u h =
-              ⊎-elim (λ y. or-l (pair (firstOf t j) j u) (pair (secondOf t j) j u) (subst (λ (c : ℕ). pair (firstOf t j) j c ≡ true) y (pair-here (firstOf t j))))
-              (λ y. or-r (pair (firstOf t j) j u) (pair (secondOf t j) j u) (subst (λ (c : ℕ). pair (secondOf t j) j c ≡ true) y (pair-here (secondOf t j)))) (touch-cases t j u h)
+              ⊎-elim (λ y. or-l (pair (firstOf t j) j u) (pair (secondOf t j) j u)
+              (subst (λ (c : ℕ). pair (firstOf t j) j c ≡ true) y (pair-here (firstOf t j))))
+              (λ y. or-r (pair (firstOf t j) j u) (pair (secondOf t j) j u) (subst (λ (c : ℕ). pair (secondOf t j) j c ≡ true) y (pair-here (secondOf t j))))
+              (touch-cases t j u h)
 
   -- ---- from one day to the next, and the end
 
   -- nobody waits: who has not fallen has at least k supporters at c, if every row that has not left is dated by c
-  pub stable-supported : {e r head : ℕ} {x d w : List ℕ} (F : Fall t frame 4096 e r head head nothing x d w) (c : ℕ) → ((j : ℕ) → j < r → j < size t → dayOf t j ≤ c) → (u : ℕ) → u < 4096 → getD x u 0 ≡ 0 → q .k ≤ supporters t (guess x) s c u
+  pub stable-supported : {e r head : ℕ} {x d w : List ℕ} (F : Fall t frame 4096 e r head head nothing x d w) (c : ℕ)
+      → ((j : ℕ) → j < r → j < size t → dayOf t j ≤ c) → (u : ℕ) → u < 4096 → getD x u 0 ≡ 0 → q .k ≤ supporters t (guess x) s c u
   unfolding supporters
   stable-supported {e} {r} {head} {x} {d} {w} F c days u k z =
       let a : q .k ≤ getD d u 0 = F .counts .enough u k k z in
       let b : getD d u 0 ≡ count (λ j. F .live j u) (size t) = F .counts .degrees u k z in
       let n : count (λ j. F .live j u) (size t) ≤ count (supports t (guess x) s c u) (names t) =
-      count-inject (λ j. F .live j u) (size t) (supports t (guess x) s c u) (names t) (λ j v. (F .live j u ≡ true) × (joins t j u v ≡ true)) partner (λ i i′ v p p′. fresh-one t lo i i′ u v (F .rows .live-row i u (p .0) .is-fresh) (F .rows .live-row i′ u (p′ .0) .is-fresh) (p .1) (p′ .1)) in
+      count-inject (λ j. F .live j u) (size t) (supports t (guess x) s c u) (names t) (λ j v. (F .live j u ≡ true) × (joins t j u v ≡ true)) partner
+      (λ i i′ v p p′. fresh-one t lo i i′ u v (F .rows .live-row i u (p .0) .is-fresh) (F .rows .live-row i′ u (p′ .0) .is-fresh) (p .1) (p′ .1)) in
       omega arith
     where
-      partner : (j : ℕ) → j < size t → F .live j u ≡ true → Partner (supports t (guess x) s c u) (λ j v. (F .live j u ≡ true) × (joins t j u v ≡ true)) (names t) j
+      partner : (j : ℕ) → j < size t → F .live j u ≡ true
+          → Partner (supports t (guess x) s c u) (λ j v. (F .live j u ≡ true) × (joins t j u v ≡ true)) (names t) j
       partner j l h =
           let here = F .rows .live-row j u h in
           let v = otherOf t j u in
@@ -751,11 +919,20 @@ module _ (t : Table) (frame : Frame) (S : Setting t (frame .query) (frame .start
             it = v;
             below = touch-named t j v (joins-touch t j u v jn .1);
             to = (h, jn);
-            has = supports-i t (guess x) s c u v (record { row = j; below = l; join = jn; opens = lead-opens t q s hi lo S j c l (here .is-fresh) (days j (here .before) l); other = let g : guess x v ≡ getD x v 0 = guess-at x v (F .buffers .times) small in omega arith });
+            has =
+                supports-i t (guess x) s c u v
+                (record {
+                  row = j;
+                  below = l;
+                  join = jn;
+                  opens = lead-opens t q s hi lo S j c l (here .is-fresh) (days j (here .before) l);
+                  other = let g : guess x v ≡ getD x v 0 = guess-at x v (F .buffers .times) small in omega arith;
+                });
           }
 
   -- the rows from j on have left; the next is dated e'
-  pub next-day : {e j head : ℕ} {x d w : List ℕ} → Fall t frame 4096 e (suc j) head head nothing x d w → j < size t → 1 ≤ dayOf t j → dayOf t j ≤ hi → dayOf t j ≤ e → Fall t frame 4096 (dayOf t j) (suc j) head head nothing x d w
+  pub next-day : {e j head : ℕ} {x d w : List ℕ} → Fall t frame 4096 e (suc j) head head nothing x d w → j < size t → 1 ≤ dayOf t j → dayOf t j ≤ hi
+      → dayOf t j ≤ e → Fall t frame 4096 (dayOf t j) (suc j) head head nothing x d w
   next-day {e} {j} {head} {x} {d} {w} F l one to le =
       record {
         buffers = F .buffers;
@@ -785,7 +962,10 @@ module _ (t : Table) (frame : Frame) (S : Setting t (frame .query) (frame .start
   all-fell {e} {head} {x} {d} F u k z =
       let a : q .k ≤ getD d u 0 = F .counts .enough u k k z in
       let b : getD d u 0 ≡ count (λ j. F .live j u) (size t) = F .counts .degrees u k z in
-      let n : count (λ j. F .live j u) (size t) ≡ 0 = count-none (λ j. F .live j u) (size t) (λ j l. ⊎-elim (λ h. let y = F .rows .live-row j u h in let p = y .before in let g = fresh-from t lo j (y .is-fresh) in absurd (omega arith)) (λ h. h) (look (F .live j u))) in
+      let n : count (λ j. F .live j u) (size t) ≡ 0 =
+      count-none (λ j. F .live j u) (size t)
+      (λ j l. ⊎-elim (λ h. let y = F .rows .live-row j u h in let p = y .before in let g = fresh-from t lo j (y .is-fresh) in absurd (omega arith)) (λ h. h)
+      (look (F .live j u))) in
       let o = S .some-k in omega arith
 
   pub fall-times : {e head : ℕ} {x d w : List ℕ} (F : Fall t frame 4096 e lo head head nothing x d w) (u : ℕ) → u < 4096 → getD x u 0 ≡ accountTime t q hi s u
@@ -798,17 +978,30 @@ module _ (t : Table) (frame : Frame) (S : Setting t (frame .query) (frame .start
       split v = ⊎-elim (λ y. _⊎_.inr (leb-true 4096 v y)) (λ y. _⊎_.inl (leb-false 4096 v y)) (look (leb 4096 v))
 
       closed : (v : ℕ) → Closed t q s (guess x) v
-      closed v = record { enough-or-never = ⊎-elim (λ l. subst (λ (c : ℕ). (c ≡ never) ⊎ (q .k ≤ supporters t (guess x) s c v)) (sym (guess-at x v (F .buffers .times) l)) (F .times .closed v l (all-fell F v l))) (λ l. _⊎_.inl (far v l)) (split v) }
+      closed v =
+          record {
+            enough-or-never = ⊎-elim
+                (λ l. subst (λ (c : ℕ). (c ≡ never) ⊎ (q .k ≤ supporters t (guess x) s c v)) (sym (guess-at x v (F .buffers .times) l))
+                (F .times .closed v l (all-fell F v l))) (λ l. _⊎_.inl (far v l)) (split v);
+          }
 
       days : (v : ℕ) → (guess x v ≤ hi) ⊎ (guess x v ≡ never)
-      days v = ⊎-elim (λ l. subst (λ (c : ℕ). (c ≤ hi) ⊎ (c ≡ never)) (sym (guess-at x v (F .buffers .times) l)) (F .times .valued v l (all-fell F v l))) (λ l. _⊎_.inr (far v l)) (split v)
+      days v = ⊎-elim (λ l. subst (λ (c : ℕ). (c ≤ hi) ⊎ (c ≡ never)) (sym (guess-at x v (F .buffers .times) l)) (F .times .valued v l (all-fell F v l)))
+          (λ l. _⊎_.inr (far v l)) (split v)
 
       lower : Lower t q hi s (guess x)
-      lower = record { under = λ v c a b m. let l = met-small (ring t q s c) v m in subst (λ (g : ℕ). g ≤ c) (sym (guess-at x v (F .buffers .times) l)) (F .times .lower v c l (all-fell F v l) a b m) }
+      lower =
+          record {
+            under = λ v c a b m. let l = met-small (ring t q s c) v m in
+                subst (λ (g : ℕ). g ≤ c) (sym (guess-at x v (F .buffers .times) l)) (F .times .lower v c l (all-fell F v l) a b m);
+          }
 
   -- no row has left yet, nobody waits: who has not fallen is met in the ring of [s, hi], and nobody else
-  pub stays-met : {r head : ℕ} {x d w : List ℕ} (F : Fall t frame 4096 never r head head nothing x d w) → ((j : ℕ) → j < r → j < size t → dayOf t j ≤ hi) → (u : ℕ) → u < 4096 → getD x u 0 ≡ 0 → met t (ring t q s hi) u ≡ true
-  stays-met {r} {head} {x} F days u k z = subst (λ (c : ℕ). met t (ring t q s c) u ≡ true) (y-stays u k z) (closed-met t q hi s y (S .fits) closed (S .some-k) u (subst (λ (c : ℕ). c ≤ hi) (sym (y-stays u k z)) (le-refl hi)))
+  pub stays-met : {r head : ℕ} {x d w : List ℕ} (F : Fall t frame 4096 never r head head nothing x d w) → ((j : ℕ) → j < r → j < size t → dayOf t j ≤ hi)
+      → (u : ℕ) → u < 4096 → getD x u 0 ≡ 0 → met t (ring t q s hi) u ≡ true
+  stays-met {r} {head} {x} F days u k z =
+      subst (λ (c : ℕ). met t (ring t q s c) u ≡ true) (y-stays u k z)
+      (closed-met t q hi s y (S .fits) closed (S .some-k) u (subst (λ (c : ℕ). c ≤ hi) (sym (y-stays u k z)) (le-refl hi)))
     where
       -- the guess that who has not fallen has hi, and others never
       y : ℕ → ℕ
@@ -832,16 +1025,22 @@ module _ (t : Table) (frame : Frame) (S : Setting t (frame .query) (frame .start
           not-far : (v : ℕ) → ltb v 4096 and eqb (getD x v 0) 0 ≡ false → guess x v ≤ hi → ⊥
           not-far v a h =
               let f = S .fits in
-              ⊎-elim (λ l. ⊎-elim (λ g. clash (and-i (lt-ltb v 4096 l) (eq-eqb (getD x v 0) 0 g)) a) (λ g. let p = F .times .above v l g in let o : guess x v ≡ getD x v 0 = guess-at x v (F .buffers .times) l in omega arith) (fell-look x v))
-              (λ l. let o : guess x v ≡ never = guess-far x v (F .buffers .times) l in omega arith) (⊎-elim (λ b. _⊎_.inr (leb-true 4096 v b)) (λ b. _⊎_.inl (leb-false 4096 v b)) (look (leb 4096 v)))
+              ⊎-elim (λ l. ⊎-elim (λ g. clash (and-i (lt-ltb v 4096 l) (eq-eqb (getD x v 0) 0 g)) a)
+              (λ g. let p = F .times .above v l g in let o : guess x v ≡ getD x v 0 = guess-at x v (F .buffers .times) l in omega arith) (fell-look x v))
+              (λ l. let o : guess x v ≡ never = guess-far x v (F .buffers .times) l in omega arith)
+              (⊎-elim (λ b. _⊎_.inr (leb-true 4096 v b)) (λ b. _⊎_.inl (leb-false 4096 v b)) (look (leb 4096 v)))
 
       closed : (v : ℕ) → Closed t q s y v
       closed v =
           record {
             enough-or-never =
-                ⊎-elim (λ a. _⊎_.inr (subst (λ (c : ℕ). q .k ≤ supporters t y s c v) (sym (y-yes v a)) (le-trans (stable-supported F hi days v (ltb-true v 4096 (and-l (ltb v 4096) (eqb (getD x v 0) 0) a)) (eqb-true (getD x v 0) 0 (and-r (ltb v 4096) (eqb (getD x v 0) 0) a))) (supporters-mono t (guess x) y s hi v below))))
+                ⊎-elim (λ a. _⊎_.inr
+                (subst (λ (c : ℕ). q .k ≤ supporters t y s c v) (sym (y-yes v a))
+                (le-trans (stable-supported F hi days v (ltb-true v 4096 (and-l (ltb v 4096) (eqb (getD x v 0) 0) a))
+                (eqb-true (getD x v 0) 0 (and-r (ltb v 4096) (eqb (getD x v 0) 0) a))) (supporters-mono t (guess x) y s hi v below))))
                 (λ a. _⊎_.inl (y-no v a)) (look (ltb v 4096 and eqb (getD x v 0) 0));
           }
 
-  pub fell-not : {r head : ℕ} {passed : ℕ → ℕ → Bool} {x d w : List ℕ} (F : Fall t frame 4096 never r head head passed x d w) (u : ℕ) → u < 4096 → Fell x u → s ≤ hi → met t (ring t q s hi) u ≡ true → ⊥
+  pub fell-not : {r head : ℕ} {passed : ℕ → ℕ → Bool} {x d w : List ℕ} (F : Fall t frame 4096 never r head head passed x d w) (u : ℕ) → u < 4096 → Fell x u
+      → s ≤ hi → met t (ring t q s hi) u ≡ true → ⊥
   fell-not F u k f o m = let a = F .times .lower u hi k f o (le-refl hi) m in let b = F .times .above u k f in let c = S .fits in omega arith

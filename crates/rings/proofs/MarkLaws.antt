@@ -48,25 +48,38 @@ pub mark-start : (g : ℕ → Bool) (m : List ℕ) → Marking g 0 0 m m
 unfolding count
 mark-start g m = record { long = refl; done = λ i h. absurd (not-suc-le-zero h); counted = refl }
 
-mark-one : {g : ℕ → Bool} {j n : ℕ} {m₀ m : List ℕ} (b : ℕ) → Marking g j n m₀ m → j < length m → b ≡ mark (g j) → (i : ℕ) → i < j + 1 → getD (set m j b) i 0 ≡ mark (g i)
+mark-one : {g : ℕ → Bool} {j n : ℕ} {m₀ m : List ℕ} (b : ℕ) → Marking g j n m₀ m → j < length m → b ≡ mark (g j) → (i : ℕ) → i < j + 1
+    → getD (set m j b) i 0 ≡ mark (g i)
 mark-one {g} {j} {n} {m₀} {m} b M l e i h =
-    ⊎-elim (λ y. ap (λ (c : ℕ). getD (set m j b) c 0) y ∙ (getD-set-same m j b 0 l ∙ (e ∙ ap (λ (c : ℕ). mark (g c)) (sym y)))) (λ o. getD-set-other m j i b 0 (λ y. omega arith) ∙ M .done i o) (eq-or-lt-of-le (omega arith))
+    ⊎-elim (λ y. ap (λ (c : ℕ). getD (set m j b) c 0) y ∙ (getD-set-same m j b 0 l ∙ (e ∙ ap (λ (c : ℕ). mark (g c)) (sym y))))
+    (λ o. getD-set-other m j i b 0 (λ y. omega arith) ∙ M .done i o) (eq-or-lt-of-le (omega arith))
 
 pub mark-yes : {g : ℕ → Bool} {j n : ℕ} {m₀ m : List ℕ} → Marking g j n m₀ m → j < length m → g j ≡ true → Marking g (j + 1) (n + 1) m₀ (set m j 1)
 unfolding count mark
 mark-yes {g} {j} {n} {m₀} {m} M l y =
-    record { long = length-set m j 1 ∙ M .long; done = mark-one 1 M l (sym (ap mark y)); counted = let c = M .counted in rw (add-one j) (let t = tally-yes (count g j) y in omega arith) }
+    record {
+      long = length-set m j 1 ∙ M .long;
+      done = mark-one 1 M l (sym (ap mark y));
+      counted = let c = M .counted in
+          rw (add-one j) (let t = tally-yes (count g j) y in omega arith);
+    }
 
 pub mark-no : {g : ℕ → Bool} {j n : ℕ} {m₀ m : List ℕ} → Marking g j n m₀ m → j < length m → g j ≡ false → Marking g (j + 1) n m₀ (set m j 0)
 unfolding count mark
 mark-no {g} {j} {n} {m₀} {m} M l y =
-    record { long = length-set m j 0 ∙ M .long; done = mark-one 0 M l (sym (ap mark y)); counted = let c = M .counted in rw (add-one j) (let t = tally-no (count g j) y in omega arith) }
+    record {
+      long = length-set m j 0 ∙ M .long;
+      done = mark-one 0 M l (sym (ap mark y));
+      counted = let c = M .counted in
+          rw (add-one j) (let t = tally-no (count g j) y in omega arith);
+    }
 
 -- the count is at most the rows passed
 pub mark-few : {g : ℕ → Bool} {j n : ℕ} {m₀ m : List ℕ} → Marking g j n m₀ m → n ≤ j
 mark-few {g} {j} M = subst (λ (c : ℕ). c ≤ j) (sym (M .counted)) (Rattle.rings.proofs.WordLaws.count-le g j)
 
-pub mark-end : (t : Table) (q : Query) (start stop : ℕ) {g : ℕ → Bool} {j n : ℕ} {m₀ m : List ℕ} → Marking g j n m₀ m → length m₀ ≡ size t → j ≡ size t → ((i : ℕ) → i < size t → marked (ring t q start stop) i ≡ g i) → RingMarked t q start stop n m
+pub mark-end : (t : Table) (q : Query) (start stop : ℕ) {g : ℕ → Bool} {j n : ℕ} {m₀ m : List ℕ} → Marking g j n m₀ m → length m₀ ≡ size t → j ≡ size t
+    → ((i : ℕ) → i < size t → marked (ring t q start stop) i ≡ g i) → RingMarked t q start stop n m
 unfolding members marks marked mark
 mark-end t q start stop {g} {j} {n} {m₀} {m} M e y same =
     record {
@@ -91,7 +104,8 @@ module _ (d f s : List ℕ) (q : Frame) where
   rg = ring t (q .query) (q .start) (q .stop)
 
   -- peeling leaves those who are met in the ring
-  pub remaining-of : (links : List ℕ) → Ready d f s links q → q .start ≤ q .stop → {end : ℕ} → Span d (q .stop) (q .lo) end → {r : Removal} {x l w : List ℕ} → QueueEmpty d f s q (allRows end) r x l w → Remaining t q x
+  pub remaining-of : (links : List ℕ) → Ready d f s links q → q .start ≤ q .stop → {end : ℕ} → Span d (q .stop) (q .lo) end → {r : Removal} {x l w : List ℕ}
+      → QueueEmpty d f s q (allRows end) r x l w → Remaining t q x
   unfolding dayOf at
   remaining-of links R order {end} Sp {r} {x} {l} {w} Q =
       record {
@@ -143,4 +157,5 @@ module _ (d f s : List ℕ) (q : Frame) where
         comes h =
             marked-in t (q .query) (q .start) (q .stop) j
             (opens-ring t (q .query) (q .start) (q .stop) j b inside
-            (M .is-met (getD f j 0) rank-a (eqb-true (getD x (getD f j 0) 0) 0 (and-l za zb h))) (M .is-met (getD s j 0) rank-b (eqb-true (getD x (getD s j 0) 0) 0 (and-r za zb h))))
+            (M .is-met (getD f j 0) rank-a (eqb-true (getD x (getD f j 0) 0) 0 (and-l za zb h)))
+            (M .is-met (getD s j 0) rank-b (eqb-true (getD x (getD s j 0) 0) 0 (and-r za zb h))))

@@ -53,7 +53,8 @@ touch-same t t′ i j u a b = ap (λ (x : ℕ). eqb x u or eqb (secondOf t′ i)
 joins-alike : (t t′ : Table) (i j u v : ℕ) → firstOf t′ i ≡ firstOf t j → secondOf t′ i ≡ secondOf t j → joins t′ i u v ≡ joins t j u v
 unfolding joins
 joins-alike t t′ i j u v a b =
-    ap (λ (x : ℕ). (eqb x u and eqb (secondOf t′ i) v) or (eqb x v and eqb (secondOf t′ i) u)) a ∙ ap (λ (y : ℕ). (eqb (firstOf t j) u and eqb y v) or (eqb (firstOf t j) v and eqb y u)) b
+    ap (λ (x : ℕ). (eqb x u and eqb (secondOf t′ i) v) or (eqb x v and eqb (secondOf t′ i) u)) a
+    ∙ ap (λ (y : ℕ). (eqb (firstOf t j) u and eqb y v) or (eqb (firstOf t j) v and eqb y u)) b
 
 module _ {t t′ : Table} {m m′ : List Bool} (C : Copies t m t′ m′) where
   pub copy-met : (u : ℕ) → met t m u ≡ true → met t′ m′ u ≡ true
@@ -71,7 +72,8 @@ module _ {t t′ : Table} {m m′ : List Bool} (C : Copies t m t′ m′) where
   pub copy-degree : (u : ℕ) → degree t m u ≤ degree t′ m′ u
   unfolding degree
   copy-degree u =
-      count-inject (neighbour t m u) (names t) (neighbour t′ m′ u) (names t′) (λ v w. v ≡ w) (λ v l h. let n = copy-neighbour u v h in record { it = v; below = neighbour-named t′ m′ u v n; has = n; to = refl })
+      count-inject (neighbour t m u) (names t) (neighbour t′ m′ u) (names t′) (λ v w. v ≡ w)
+      (λ v l h. let n = copy-neighbour u v h in record { it = v; below = neighbour-named t′ m′ u v n; has = n; to = refl })
       (λ i i′ j a b. a ∙ sym b)
 
 pub copy-good : (q : Query) {t t′ : Table} {m m′ : List Bool} → Copies t m t′ m′ → Copies t′ m′ t m → Good t q m → Good t′ q m′
@@ -165,7 +167,8 @@ module _ (d f g : List ℕ) (lo end : ℕ) (order : lo ≤ end) (inside : end �
       record {
         within = zero-le;
         before = λ j h. absurd (not-suc-le-zero h);
-        after = λ j a b. let n = long in let h : j < end - lo = omega arith in let e = part-at d j h in let x = A .after (lo + j) (omega arith) (omega arith) in omega arith;
+        after = λ j a b. let n = long in let h : j < end - lo = omega arith in let e = part-at d j h in let x = A .after (lo + j) (omega arith) (omega arith) in
+            omega arith;
       }
 
   pub part-to : {day : ℕ} → Split d day end → Split (part lo end d) day (length (part lo end d))
@@ -230,7 +233,8 @@ module _ (d f g : List ℕ) (lo end : ℕ) (order : lo ≤ end) (inside : end �
     wide-i j h =
         let b = below-part j h in
         let y : j ≡ (lo + j) - lo = omega arith in
-        marked-run-i (λ i. leb lo i and marked (ring p q s e) (i - lo)) (length d) (lo + j) (omega arith) (and-i (le-leb lo (lo + j) (omega arith)) (subst (λ (k : ℕ). marked (ring p q s e) k ≡ true) y h))
+        marked-run-i (λ i. leb lo i and marked (ring p q s e) (i - lo)) (length d) (lo + j) (omega arith)
+        (and-i (le-leb lo (lo + j) (omega arith)) (subst (λ (k : ℕ). marked (ring p q s e) k ≡ true) y h))
 
     wide-e : (i : ℕ) → marked wide i ≡ true → (lo ≤ i) × (marked (ring p q s e) (i - lo) ≡ true)
     unfolding wide
@@ -252,7 +256,17 @@ module _ (d f g : List ℕ) (lo end : ℕ) (order : lo ≤ end) (inside : end �
 
     -- a row of the part has its like in the whole table, and the other way round
     up : {m m′ : List Bool} → ((j : ℕ) → marked m j ≡ true → (j < end - lo) × (marked m′ (lo + j) ≡ true)) → Copies p m t m′
-    up k = record { each = λ j l h. let x = k j h in record { it = lo + j; below = let n = x .0 in omega arith; has = x .1; same-first = sym (first-at j (x .0)); same-second = sym (second-at j (x .0)) } }
+    up k =
+        record {
+          each = λ j l h. let x = k j h in
+              record {
+                it = lo + j;
+                below = let n = x .0 in omega arith;
+                has = x .1;
+                same-first = sym (first-at j (x .0));
+                same-second = sym (second-at j (x .0));
+              };
+        }
 
     down : {m m′ : List Bool} → ((i : ℕ) → marked m i ≡ true → (lo ≤ i) × (i < end) × (marked m′ (i - lo) ≡ true)) → Copies t m p m′
     down k =
@@ -263,7 +277,13 @@ module _ (d f g : List ℕ) (lo end : ℕ) (order : lo ≤ end) (inside : end �
               let b = x .1 in
               let y : lo + (i - lo) ≡ i = omega arith in
               let z : i - lo < end - lo = omega arith in
-              record { it = i - lo; below = let n = long in omega arith; has = x .2; same-first = first-at (i - lo) z ∙ ap (firstOf t) y; same-second = second-at (i - lo) z ∙ ap (secondOf t) y };
+              record {
+                it = i - lo;
+                below = let n = long in omega arith;
+                has = x .2;
+                same-first = first-at (i - lo) z ∙ ap (firstOf t) y;
+                same-second = second-at (i - lo) z ∙ ap (secondOf t) y;
+              };
         }
 
     wide-row : (i : ℕ) → marked wide i ≡ true → (lo ≤ i) × (i < end) × (marked (ring p q s e) (i - lo) ≡ true)
@@ -299,9 +319,11 @@ module _ (d f g : List ℕ) (lo end : ℕ) (order : lo ≤ end) (inside : end �
     unfolding members
     part-members y = y ∙ le-antisymm
         (count-inject (marked (ring p q s e)) (length (ring p q s e)) (marked (ring t q s e)) (length (ring t q s e)) (λ j i. i ≡ lo + j)
-        (λ j l h. let x = widened j h in record { it = lo + j; below = marked-below (ring t q s e) (lo + j) x; has = x; to = refl }) (λ j j′ i a b. omega arith))
+        (λ j l h. let x = widened j h in record { it = lo + j; below = marked-below (ring t q s e) (lo + j) x; has = x; to = refl })
+        (λ j j′ i a b. omega arith))
         (count-inject (marked (ring t q s e)) (length (ring t q s e)) (marked (ring p q s e)) (length (ring p q s e)) (λ i j. i ≡ lo + j)
-        (λ i l h. let x = narrowed i h in let a = x .0 in record { it = i - lo; below = marked-below (ring p q s e) (i - lo) (x .2); has = x .2; to = omega arith }) (λ i i′ j a b. a ∙ sym b))
+        (λ i l h. let x = narrowed i h in let a = x .0 in
+        record { it = i - lo; below = marked-below (ring p q s e) (i - lo) (x .2); has = x .2; to = omega arith }) (λ i i′ j a b. a ∙ sym b))
 
     outside : (i : ℕ) → ((lo ≤ i) × (i < end) → ⊥) → 0 ≡ mark (marked (ring t q s e) i)
     unfolding mark
@@ -320,9 +342,11 @@ module _ (d f g : List ℕ) (lo end : ℕ) (order : lo ≤ end) (inside : end �
     unfolding marks
     marks-long r = length-map r mark
 
-    pub part-marks : {xs ys : List ℕ} {n : ℕ} → xs ≡ replicate n 0 → n ≡ length d → ys ≡ marks (ring p q s e) → putMid lo (end - lo) xs ys ≡ marks (ring t q s e)
+    pub part-marks : {xs ys : List ℕ} {n : ℕ} → xs ≡ replicate n 0 → n ≡ length d → ys ≡ marks (ring p q s e)
+        → putMid lo (end - lo) xs ys ≡ marks (ring t q s e)
     part-marks {xs} {ys} e₀ h₀ ey =
-        ext-getD 0 (putMid lo (end - lo) xs ys) (marks (ring t q s e)) (same-len-mid lo (end - lo) xs ys (long-ys ∙ sym (part-long xs long-xs)) ∙ (long-xs ∙ sym (marks-long (ring t q s e) ∙ ring-sized t q s e)))
+        ext-getD 0 (putMid lo (end - lo) xs ys) (marks (ring t q s e))
+        (same-len-mid lo (end - lo) xs ys (long-ys ∙ sym (part-long xs long-xs)) ∙ (long-xs ∙ sym (marks-long (ring t q s e) ∙ ring-sized t q s e)))
         (λ i l. entry-is i ∙ sym (marks-at (ring t q s e) i))
       where
         ex : xs ≡ replicate (length d) 0
@@ -346,7 +370,8 @@ module _ (d f g : List ℕ) (lo end : ℕ) (order : lo ≤ end) (inside : end �
             ∙ (ap (λ (l : List ℕ). getD l j 0) ey ∙ (marks-at (ring p q s e) j ∙ ap mark (alike j l)))
 
         past-it : (j : ℕ) → getD (putMid lo (end - lo) xs ys) (lo + (length ys + j)) 0 ≡ mark (marked (ring t q s e) (lo + (length ys + j)))
-        past-it j = put-after lo (end - lo) xs ys room j ∙ (zero-at (lo + ((end - lo) + j)) ∙ outside (lo + (length ys + j)) (λ x. let b = x .1 in let n = long-ys in omega arith))
+        past-it j = put-after lo (end - lo) xs ys room j
+            ∙ (zero-at (lo + ((end - lo) + j)) ∙ outside (lo + (length ys + j)) (λ x. let b = x .1 in let n = long-ys in omega arith))
 
         entry-is : (i : ℕ) → getD (putMid lo (end - lo) xs ys) i 0 ≡ mark (marked (ring t q s e) i)
         entry-is i =

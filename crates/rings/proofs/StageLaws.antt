@@ -33,17 +33,22 @@ use Rattle.rings.proofs.WordLaws.{look, clash, and-i, and-l, and-r, no-
 use Rattle.rings.proofs.RingLaws.{touch-cases, touch-first, touch-second}
 use Rattle.rings.proofs.PairLaws.{count-drop}
 use Rattle.rings.proofs.LeadLaws.{fresh-from, fresh-test}
-use Rattle.rings.proofs.FallLaws.{fell-look, room, times-fall, queue-fall, fall-lower, leave-stale, leave-fell, leave-first-one, leave-second-one, leave-both, next-day, fall-times}
+use Rattle.rings.proofs.FallLaws.{fell-look, room, times-fall, queue-fall, fall-lower, leave-stale, leave-fell, leave-first-one, leave-second-one}
+use Rattle.rings.proofs.FallLaws.{leave-both, next-day, fall-times}
 
 -- nobody has fallen exactly where all times are 0
 fallen-none : (x : List ℕ) → ((u : ℕ) → u < 4096 → getD x u 0 ≡ 0) → fallen x ≡ 0
 unfolding fallen
-fallen-none x f = count-none (λ u. no (eqb (getD x u 0) 0)) 4096 (λ u k. ⊎-elim (λ h. clash (eq-eqb (getD x u 0) 0 (f u k)) (no-e (eqb (getD x u 0) 0) h)) (λ h. h) (look (no (eqb (getD x u 0) 0))))
+fallen-none x f =
+    count-none (λ u. no (eqb (getD x u 0) 0)) 4096
+    (λ u k. ⊎-elim (λ h. clash (eq-eqb (getD x u 0) 0 (f u k)) (no-e (eqb (getD x u 0) 0) h)) (λ h. h) (look (no (eqb (getD x u 0) 0))))
 
 none-fallen : (x : List ℕ) → fallen x ≡ 0 → (u : ℕ) → u < 4096 → getD x u 0 ≡ 0
 unfolding fallen
 none-fallen x e u k =
-    ⊎-elim (λ z. z) (λ f. let p : 0 < count (λ u. no (eqb (getD x u 0) 0)) 4096 = count-pos (λ u. no (eqb (getD x u 0) 0)) 4096 u k (no-i (ne-eqb (getD x u 0) 0 f)) in absurd (omega arith)) (fell-look x u)
+    ⊎-elim (λ z. z)
+    (λ f. let p : 0 < count (λ u. no (eqb (getD x u 0) 0)) 4096 = count-pos (λ u. no (eqb (getD x u 0) 0)) 4096 u k (no-i (ne-eqb (getD x u 0) 0 f)) in
+    absurd (omega arith)) (fell-look x u)
 
 -- ---- the lengths of the three lists, which no step changes
 
@@ -55,7 +60,8 @@ pub record SameLengths (x₀ l₀ w₀ x l w : List ℕ) : Type 0 where
 pub same-start : (x l w : List ℕ) → SameLengths x l w x l w
 same-start x l w = record { times = refl; left = refl; queue = refl }
 
-pub same-next : {x₀ l₀ w₀ x l w x′ l′ w′ : List ℕ} → SameLengths x₀ l₀ w₀ x l w → length x′ ≡ length x → length l′ ≡ length l → length w′ ≡ length w → SameLengths x₀ l₀ w₀ x′ l′ w′
+pub same-next : {x₀ l₀ w₀ x l w x′ l′ w′ : List ℕ} → SameLengths x₀ l₀ w₀ x l w → length x′ ≡ length x → length l′ ≡ length l → length w′ ≡ length w
+    → SameLengths x₀ l₀ w₀ x′ l′ w′
 same-next S ex el ew = record { times = ex ∙ S .times; left = el ∙ S .left; queue = ew ∙ S .queue }
 
 -- ---- the invariants of the loops
@@ -104,8 +110,13 @@ module _ (d f s links : List ℕ) (q : Frame) (R : Ready d f s links q) where
   drain-start {m} {x} {l} {w} F = record { lengths = same-start x l w; goes-on = record { state = F; day = refl; end = refl } }
 
   module _ {m state : Removal} {x₀ l₀ w₀ x l w : List ℕ} (D : Drain d f s q m state x₀ l₀ w₀ x l w) where
-    pub drain-next : {r : Removal} {x′ l′ w′ : List ℕ} → length x′ ≡ length x → length l′ ≡ length l → length w′ ≡ length w → HeadWalked d f s q state r x′ l′ w′ → Drain d f s q m r x₀ l₀ w₀ x′ l′ w′
-    drain-next ex el ew W = record { lengths = same-next (D .lengths) ex el ew; goes-on = record { state = W .goes-on .state; day = W .goes-on .day ∙ D .goes-on .day; end = W .goes-on .end ∙ D .goes-on .end } }
+    pub drain-next : {r : Removal} {x′ l′ w′ : List ℕ} → length x′ ≡ length x → length l′ ≡ length l → length w′ ≡ length w
+        → HeadWalked d f s q state r x′ l′ w′ → Drain d f s q m r x₀ l₀ w₀ x′ l′ w′
+    drain-next ex el ew W =
+        record {
+          lengths = same-next (D .lengths) ex el ew;
+          goes-on = record { state = W .goes-on .state; day = W .goes-on .day ∙ D .goes-on .day; end = W .goes-on .end ∙ D .goes-on .end };
+        }
 
     pub drain-end : state .tail ≤ state .head → QueueEmpty d f s q m state x l w
     drain-end h = record { goes-on = D .goes-on; idle = le-antisymm (D .goes-on .state .queue .in-order) h }
@@ -134,7 +145,9 @@ module _ (d f s links : List ℕ) (q : Frame) (R : Ready d f s links q) where
     G =
         let z = L .fade .dated j (omega (arith, one-more)) in
         subst (λ (c : ℕ). Falls 4096 c (suc j) tail tail x l w) (sym day)
-        (next-day t q (R .setting) (subst (λ (c : ℕ). Falls 4096 (m .day) c tail tail x l w) one-more (subst (λ (c : ℕ). Falls 4096 (m .day) (m .end) c tail x l w) (L .fade .idle) (L .fade .state)))
+        (next-day t q (R .setting)
+        (subst (λ (c : ℕ). Falls 4096 (m .day) c tail tail x l w) one-more
+        (subst (λ (c : ℕ). Falls 4096 (m .day) (m .end) c tail x l w) (L .fade .idle) (L .fade .state)))
         b (z .0) (z .1) (L .fade .above j (omega (arith, one-more))))
 
     e-day : e ≤ dayOf t j
@@ -176,17 +189,22 @@ module _ (d f s links : List ℕ) (q : Frame) (R : Ready d f s links q) where
 
     -- it has left, and nobody fell
     gone : Falls 4096 e j tail tail x l w → RowLeft d f s q m (record { day = e; end = j; head = tail; tail = tail }) x l w
-    gone F = leave-left {n = record { day = e; end = j; head = tail; tail = tail }} refl refl (record { goes-on = record { state = F; day = refl; end = refl }; idle = refl })
+    gone F =
+        leave-left {n = record { day = e; end = j; head = tail; tail = tail }} refl refl
+        (record { goes-on = record { state = F; day = refl; end = refl }; idle = refl })
 
-    pub leave-old : {y : Bool} → y ≡ (leb (q .lo) j and leb (getD links (8192 + 2 * length d + j) 0) (q .lo)) → y ≡ false → RowLeft d f s q m (record { day = e; end = j; head = tail; tail = tail }) x l w
+    pub leave-old : {y : Bool} → y ≡ (leb (q .lo) j and leb (getD links (8192 + 2 * length d + j) 0) (q .lo)) → y ≡ false
+        → RowLeft d f s q m (record { day = e; end = j; head = tail; tail = tail }) x l w
     leave-old h g = gone (leave-stale t q (R .setting) G e-day (fresh-is h ∙ g))
 
-    pub leave-a-fell : {a v : ℕ} → a ≡ getD f j 0 → v ≡ getD x a 0 → (v ≡ 0 → ⊥) → RowLeft d f s q m (record { day = e; end = j; head = tail; tail = tail }) x l w
+    pub leave-a-fell : {a v : ℕ} → a ≡ getD f j 0 → v ≡ getD x a 0 → (v ≡ 0 → ⊥)
+        → RowLeft d f s q m (record { day = e; end = j; head = tail; tail = tail }) x l w
     unfolding firstOf at
     leave-a-fell {a} {v} ea ev n =
         gone (leave-fell t q (R .setting) G e-day b a (subst (λ (c : ℕ). touches t j c ≡ true) (sym ea) (touch-first t j)) (λ z. n (ev ∙ z)))
 
-    pub leave-b-fell : {c v : ℕ} → c ≡ getD s j 0 → v ≡ getD x c 0 → (v ≡ 0 → ⊥) → RowLeft d f s q m (record { day = e; end = j; head = tail; tail = tail }) x l w
+    pub leave-b-fell : {c v : ℕ} → c ≡ getD s j 0 → v ≡ getD x c 0 → (v ≡ 0 → ⊥)
+        → RowLeft d f s q m (record { day = e; end = j; head = tail; tail = tail }) x l w
     unfolding secondOf at
     leave-b-fell {c} {v} ec ev n =
         gone (leave-fell t q (R .setting) G e-day b c (subst (λ (g : ℕ). touches t j g ≡ true) (sym ec) (touch-second t j)) (λ z. n (ev ∙ z)))
@@ -221,7 +239,8 @@ module _ (d f s links : List ℕ) (q : Frame) (R : Ready d f s links q) where
         leave-room-b = subst (λ (g : ℕ). Losable (q .query .k) one g x₁ l₁ w₁) (sym c-is) (leave-second-one t q (R .setting) G e-day b f-is zero-a zero-c A′)
 
         pub leave-now : {x₂ l₂ w₂ : List ℕ} {two : ℕ} → Lost (q .query .k) e one c x₁ l₁ w₁ x₂ l₂ w₂ two → Falls 4096 e j tail two x₂ l₂ w₂
-        leave-now {x₂} {l₂} {w₂} {two} M = leave-both t q (R .setting) G e-day b f-is zero-a zero-c A′ (subst (λ (g : ℕ). Lost (q .query .k) e one g x₁ l₁ w₁ x₂ l₂ w₂ two) c-is M)
+        leave-now {x₂} {l₂} {w₂} {two} M =
+            leave-both t q (R .setting) G e-day b f-is zero-a zero-c A′ (subst (λ (g : ℕ). Lost (q .query .k) e one g x₁ l₁ w₁ x₂ l₂ w₂ two) c-is M)
 
   -- ---- fade
 
@@ -229,7 +248,8 @@ module _ (d f s links : List ℕ) (q : Frame) (R : Ready d f s links q) where
   fading-start {x = x} {l} {w} F = record { lengths = same-start x l w; fade = F }
 
   module _ {state : Removal} {x₀ l₀ w₀ x l w : List ℕ} (F : Fading d f s q state x₀ l₀ w₀ x l w) where
-    pub fading-next : {r : Removal} {x′ l′ w′ : List ℕ} → length x′ ≡ length x → length l′ ≡ length l → length w′ ≡ length w → RowLeft d f s q state r x′ l′ w′ → Fading d f s q r x₀ l₀ w₀ x′ l′ w′
+    pub fading-next : {r : Removal} {x′ l′ w′ : List ℕ} → length x′ ≡ length x → length l′ ≡ length l → length w′ ≡ length w → RowLeft d f s q state r x′ l′ w′
+        → Fading d f s q r x₀ l₀ w₀ x′ l′ w′
     fading-next ex el ew L = record { lengths = same-next (F .lengths) ex el ew; fade = L .fade }
 
     pub fading-end : state .end ≤ q .lo → CoreTimesAre d f s q x
@@ -237,7 +257,10 @@ module _ (d f s links : List ℕ) (q : Frame) (R : Ready d f s links q) where
         let g : state .end ≡ q .lo = le-antisymm h (F .fade .from) in
         record {
           long = F .fade .state .buffers .times;
-          times = λ u k. fall-times t q (R .setting) (subst (λ (c : ℕ). Falls 4096 (state .day) c (state .tail) (state .tail) x l w) g (subst (λ (c : ℕ). Falls 4096 (state .day) (state .end) c (state .tail) x l w) (F .fade .idle) (F .fade .state))) u k;
+          times =
+              λ u k. fall-times t q (R .setting)
+              (subst (λ (c : ℕ). Falls 4096 (state .day) c (state .tail) (state .tail) x l w) g
+              (subst (λ (c : ℕ). Falls 4096 (state .day) (state .end) c (state .tail) x l w) (F .fade .idle) (F .fade .state))) u k;
         }
 
   -- ---- count_neighbours
@@ -253,35 +276,45 @@ module _ (d f s links : List ℕ) (q : Frame) (R : Ready d f s links q) where
   counts-same : (j u i : ℕ) → (i ≡ j → ⊥) → counts-for (j + 1) u i ≡ counts-for j u i
   counts-same j u i n =
       ap (λ (b : Bool). (fresh t (q .lo) i and b) and touches t i u)
-      (same-truth (ltb i (j + 1)) (ltb i j) (λ h. let a = ltb-true i (j + 1) h in lt-ltb i j (⊎-elim (λ e. absurd (n e)) (λ l. l) (eq-or-lt-of-le (omega arith)))) (λ h. let a = ltb-true i j h in lt-ltb i (j + 1) (omega arith)))
+      (same-truth (ltb i (j + 1)) (ltb i j)
+      (λ h. let a = ltb-true i (j + 1) h in lt-ltb i j (⊎-elim (λ e. absurd (n e)) (λ l. l) (eq-or-lt-of-le (omega arith))))
+      (λ h. let a = ltb-true i j h in lt-ltb i (j + 1) (omega arith)))
 
   counts-not : (j u : ℕ) → counts-for j u j ≡ false
   counts-not j u = ⊎-elim (λ h. let a = counts-below j u j h in absurd (omega arith)) (λ h. h) (look (counts-for j u j))
 
   -- row j counts for u from now on
-  counts-more : (j u : ℕ) → j < length d → fresh t (q .lo) j ≡ true → touches t j u ≡ true → count (counts-for (j + 1) u) (length d) ≡ suc (count (counts-for j u) (length d))
-  counts-more j u l h k = count-drop (counts-for (j + 1) u) (counts-for j u) (length d) j l (and-i (and-i h (lt-ltb j (j + 1) (omega arith))) k) (counts-not j u) (λ i n. sym (counts-same j u i n))
+  counts-more : (j u : ℕ) → j < length d → fresh t (q .lo) j ≡ true → touches t j u ≡ true
+      → count (counts-for (j + 1) u) (length d) ≡ suc (count (counts-for j u) (length d))
+  counts-more j u l h k =
+      count-drop (counts-for (j + 1) u) (counts-for j u) (length d) j l (and-i (and-i h (lt-ltb j (j + 1) (omega arith))) k) (counts-not j u)
+      (λ i n. sym (counts-same j u i n))
 
   -- row j counts for nobody new
   counts-still : (j u : ℕ) → (fresh t (q .lo) j ≡ false) ⊎ (touches t j u ≡ false) → count (counts-for (j + 1) u) (length d) ≡ count (counts-for j u) (length d)
   counts-still j u h =
       count-same (counts-for (j + 1) u) (counts-for j u) (length d)
-      (λ i o. ⊎-elim (λ e. subst (λ (c : ℕ). counts-for (j + 1) u c ≡ counts-for j u c) (sym e) (here-not ∙ sym (counts-not j u))) (λ n. counts-same j u i n) (same-or i j))
+      (λ i o. ⊎-elim (λ e. subst (λ (c : ℕ). counts-for (j + 1) u c ≡ counts-for j u c) (sym e) (here-not ∙ sym (counts-not j u))) (λ n. counts-same j u i n)
+      (same-or i j))
     where
       here-not : counts-for (j + 1) u j ≡ false
       here-not =
-          ⊎-elim (λ y. ⊎-elim (λ g. clash (and-l (fresh t (q .lo) j) (ltb j (j + 1)) (and-l (fresh t (q .lo) j and ltb j (j + 1)) (touches t j u) y)) g) (λ g. clash (and-r (fresh t (q .lo) j and ltb j (j + 1)) (touches t j u) y) g) h) (λ y. y) (look (counts-for (j + 1) u j))
+          ⊎-elim (λ y. ⊎-elim (λ g. clash (and-l (fresh t (q .lo) j) (ltb j (j + 1)) (and-l (fresh t (q .lo) j and ltb j (j + 1)) (touches t j u) y)) g)
+          (λ g. clash (and-r (fresh t (q .lo) j and ltb j (j + 1)) (touches t j u) y) g) h) (λ y. y) (look (counts-for (j + 1) u j))
 
   pub counted-start : (l₀ : List ℕ) {l : List ℕ} → length l₀ ≡ 4096 → l ≡ replicate (length l₀) 0 → Counted t (q .lo) (q .lo) l
   counted-start l₀ {l} n e =
       record {
         long = ap length e ∙ (length-replicate {A = ℕ} (length l₀) 0 ∙ n);
-        rows = λ u k. ap (λ (c : List ℕ). getD c u 0) e ∙ (getD-replicate (length l₀) u 0 0 (omega arith) ∙ sym (count-none (counts-for (q .lo) u) (length d) (λ i o. none u i)));
+        rows = λ u k. ap (λ (c : List ℕ). getD c u 0) e
+            ∙ (getD-replicate (length l₀) u 0 0 (omega arith) ∙ sym (count-none (counts-for (q .lo) u) (length d) (λ i o. none u i)));
       }
     where
       none : (u i : ℕ) → counts-for (q .lo) u i ≡ false
       none u i =
-          ⊎-elim (λ h. let a = counts-below (q .lo) u i h in let b = fresh-from t (q .lo) i (and-l (fresh t (q .lo) i) (ltb i (q .lo)) (and-l (fresh t (q .lo) i and ltb i (q .lo)) (touches t i u) h)) in absurd (omega arith)) (λ h. h) (look (counts-for (q .lo) u i))
+          ⊎-elim (λ h. let a = counts-below (q .lo) u i h in
+          let b = fresh-from t (q .lo) i (and-l (fresh t (q .lo) i) (ltb i (q .lo)) (and-l (fresh t (q .lo) i and ltb i (q .lo)) (touches t i u) h)) in
+          absurd (omega arith)) (λ h. h) (look (counts-for (q .lo) u i))
 
   pub count-start : {end : ℕ} {l : List ℕ} → Span d (q .stop) (q .lo) end → Counted t (q .lo) (q .lo) l → Counting d f s q (q .lo) end l l
   count-start Sp C = record { lengths = refl; most = Sp .ordered; counted = C }
@@ -309,26 +342,39 @@ module _ (d f s links : List ℕ) (q : Frame) (R : Ready d f s links q) where
     small-count u k = let a = C .rows u k in let b = count-le (counts-for j u) (length d) in let c = R .sound .most in omega arith
 
     pub count-first : {a m : ℕ} → a ≡ getD f j 0 → m ≡ getD l a 0 → (a < length l) × (m ≤ 16384)
-    count-first {a} {m} ea em = let k : a < 4096 = subst (λ (c : ℕ). c < 4096) (sym ea) row-a in let n = C .long in (omega arith, subst (λ (c : ℕ). c ≤ 16384) (sym em) (small-count a k))
+    count-first {a} {m} ea em = let k : a < 4096 = subst (λ (c : ℕ). c < 4096) (sym ea) row-a in let n = C .long in
+        (omega arith, subst (λ (c : ℕ). c ≤ 16384) (sym em) (small-count a k))
 
-    pub count-second : {l₁ : List ℕ} {a b m n : ℕ} → a ≡ getD f j 0 → b ≡ getD s j 0 → m ≡ getD l a 0 → l₁ ≡ set l a (m + 1) → n ≡ getD l₁ b 0 → (b < length l₁) × (n ≤ 16384)
+    pub count-second : {l₁ : List ℕ} {a b m n : ℕ} → a ≡ getD f j 0 → b ≡ getD s j 0 → m ≡ getD l a 0 → l₁ ≡ set l a (m + 1) → n ≡ getD l₁ b 0
+        → (b < length l₁) × (n ≤ 16384)
     count-second {l₁} {a} {b} {m} {n} ea eb em e₁ en =
         let k : b < 4096 = subst (λ (c : ℕ). c < 4096) (sym eb) row-b in
         let x : length l₁ ≡ length l = ap length e₁ ∙ length-set l a (m + 1) in
         let o = C .long in
-        let y : n ≡ getD l b 0 = en ∙ (ap (λ (c : List ℕ). getD c b 0) e₁ ∙ getD-set-other l a b (m + 1) 0 (λ z. let g = R .sound .rows j count-below .accounts in omega arith)) in
+        let y : n ≡ getD l b 0 = en
+        ∙ (ap (λ (c : List ℕ). getD c b 0) e₁ ∙ getD-set-other l a b (m + 1) 0 (λ z. let g = R .sound .rows j count-below .accounts in omega arith)) in
         (omega arith, subst (λ (c : ℕ). c ≤ 16384) (sym y) (small-count b k))
 
     pub count-skip : {y : Bool} → y ≡ (leb (q .lo) j and leb (getD links (8192 + 2 * length d + j) 0) (q .lo)) → y ≡ false → Counting d f s q (j + 1) end l₀ l
-    count-skip h n = record { lengths = K .lengths; most = omega arith; counted = record { long = C .long; rows = λ u k. C .rows u k ∙ sym (counts-still j u (_⊎_.inl (fresh-of h ∙ n))) } }
+    count-skip h n =
+        record {
+          lengths = K .lengths;
+          most = omega arith;
+          counted = record { long = C .long; rows = λ u k. C .rows u k ∙ sym (counts-still j u (_⊎_.inl (fresh-of h ∙ n))) };
+        }
 
-    pub count-row : {y : Bool} → y ≡ (leb (q .lo) j and leb (getD links (8192 + 2 * length d + j) 0) (q .lo)) → y ≡ true → {l₁ l₂ : List ℕ} {a b m n : ℕ} → a ≡ getD f j 0 → b ≡ getD s j 0 → m ≡ getD l a 0 → l₁ ≡ set l a (m + 1) → n ≡ getD l₁ b 0 → l₂ ≡ set l₁ b (n + 1) → Counting d f s q (j + 1) end l₀ l₂
+    pub count-row : {y : Bool} → y ≡ (leb (q .lo) j and leb (getD links (8192 + 2 * length d + j) 0) (q .lo)) → y ≡ true → {l₁ l₂ : List ℕ} {a b m n : ℕ}
+        → a ≡ getD f j 0 → b ≡ getD s j 0 → m ≡ getD l a 0 → l₁ ≡ set l a (m + 1) → n ≡ getD l₁ b 0 → l₂ ≡ set l₁ b (n + 1) → Counting d f s q (j + 1) end l₀ l₂
     unfolding firstOf secondOf at
     count-row h y {l₁} {l₂} {a} {b} {m} {n} ea eb em e₁ en e₂ =
         record {
           lengths = same ∙ K .lengths;
           most = omega arith;
-          counted = record { long = same ∙ C .long; rows = λ u k. ⊎-elim (λ z. at-b u k z) (λ z. ⊎-elim (λ g. at-a u k g z) (λ g. elsewhere u k g z) (same-or u a)) (same-or u b) };
+          counted =
+              record {
+                long = same ∙ C .long;
+                rows = λ u k. ⊎-elim (λ z. at-b u k z) (λ z. ⊎-elim (λ g. at-a u k g z) (λ g. elsewhere u k g z) (same-or u a)) (same-or u b);
+              };
         }
       where
         same : length l₂ ≡ length l
@@ -354,33 +400,52 @@ module _ (d f s links : List ℕ) (q : Frame) (R : Ready d f s links q) where
 
         at-b : (u : ℕ) → u < 4096 → u ≡ b → getD l₂ u 0 ≡ count (counts-for (j + 1) u) (length d)
         at-b u k z =
-            let x : getD l₂ u 0 ≡ n + 1 = at-l u ∙ (ap (λ (c : ℕ). getD (set (set l a (m + 1)) b (n + 1)) c 0) z ∙ getD-set-same (set l a (m + 1)) b (n + 1) 0 (let o = length-set l a (m + 1) in let g = C .long in omega arith)) in
-            let r : count (counts-for (j + 1) u) (length d) ≡ suc (count (counts-for j u) (length d)) = counts-more j u count-below fr (subst (λ (c : ℕ). touches t j c ≡ true) (sym z) tb) in
+            let x : getD l₂ u 0 ≡ n + 1 = at-l u
+            ∙ (ap (λ (c : ℕ). getD (set (set l a (m + 1)) b (n + 1)) c 0) z
+            ∙ getD-set-same (set l a (m + 1)) b (n + 1) 0 (let o = length-set l a (m + 1) in let g = C .long in omega arith)) in
+            let r : count (counts-for (j + 1) u) (length d) ≡ suc (count (counts-for j u) (length d)) =
+            counts-more j u count-below fr (subst (λ (c : ℕ). touches t j c ≡ true) (sym z) tb) in
             let c : getD l u 0 ≡ count (counts-for j u) (length d) = C .rows u k in
             let g : getD l b 0 ≡ getD l u 0 = ap (λ (c : ℕ). getD l c 0) (sym z) in
             let o = n-is in omega arith
 
         at-a : (u : ℕ) → u < 4096 → u ≡ a → (u ≡ b → ⊥) → getD l₂ u 0 ≡ count (counts-for (j + 1) u) (length d)
         at-a u k z nb =
-            let x : getD l₂ u 0 ≡ m + 1 = at-l u ∙ (getD-set-other (set l a (m + 1)) b u (n + 1) 0 nb ∙ (ap (λ (c : ℕ). getD (set l a (m + 1)) c 0) z ∙ getD-set-same l a (m + 1) 0 (let g = C .long in omega arith))) in
-            let r : count (counts-for (j + 1) u) (length d) ≡ suc (count (counts-for j u) (length d)) = counts-more j u count-below fr (subst (λ (c : ℕ). touches t j c ≡ true) (sym z) ta) in
+            let x : getD l₂ u 0 ≡ m + 1 = at-l u
+            ∙ (getD-set-other (set l a (m + 1)) b u (n + 1) 0 nb
+            ∙ (ap (λ (c : ℕ). getD (set l a (m + 1)) c 0) z ∙ getD-set-same l a (m + 1) 0 (let g = C .long in omega arith))) in
+            let r : count (counts-for (j + 1) u) (length d) ≡ suc (count (counts-for j u) (length d)) =
+            counts-more j u count-below fr (subst (λ (c : ℕ). touches t j c ≡ true) (sym z) ta) in
             let c : getD l u 0 ≡ count (counts-for j u) (length d) = C .rows u k in
             let g : getD l a 0 ≡ getD l u 0 = ap (λ (c : ℕ). getD l c 0) (sym z) in omega arith
 
         elsewhere : (u : ℕ) → u < 4096 → (u ≡ a → ⊥) → (u ≡ b → ⊥) → getD l₂ u 0 ≡ count (counts-for (j + 1) u) (length d)
         elsewhere u k na nb =
-            at-l u ∙ (getD-set-other (set l a (m + 1)) b u (n + 1) 0 nb ∙ (getD-set-other l a u (m + 1) 0 na ∙ (C .rows u k ∙ sym (counts-still j u (_⊎_.inr (⊎-elim (λ g. ⊎-elim (λ e. absurd (na (sym e ∙ sym ea))) (λ e. absurd (nb (sym e ∙ sym eb))) (touch-cases t j u g)) (λ g. g) (look (touches t j u))))))))
+            at-l u
+            ∙ (getD-set-other (set l a (m + 1)) b u (n + 1) 0 nb
+            ∙ (getD-set-other l a u (m + 1) 0 na
+            ∙ (C .rows u k
+            ∙ sym (counts-still j u
+            (_⊎_.inr (⊎-elim (λ g. ⊎-elim (λ e. absurd (na (sym e ∙ sym ea))) (λ e. absurd (nb (sym e ∙ sym eb))) (touch-cases t j u g)) (λ g. g)
+            (look (touches t j u))))))))
 
   -- ---- the first state, and weed
 
-  pub fall-start : (x₀ : List ℕ) {x l w : List ℕ} {end : ℕ} → length x₀ ≡ 4096 → x ≡ replicate (length x₀) 0 → Counted t (q .lo) end l → 4096 ≤ length w → end ≤ length d → ((j : ℕ) → end ≤ j → j < length d → q .stop < dayOf t j) → Falls 0 never end 0 0 x l w
+  pub fall-start : (x₀ : List ℕ) {x l w : List ℕ} {end : ℕ} → length x₀ ≡ 4096 → x ≡ replicate (length x₀) 0 → Counted t (q .lo) end l → 4096 ≤ length w
+      → end ≤ length d → ((j : ℕ) → end ≤ j → j < length d → q .stop < dayOf t j) → Falls 0 never end 0 0 x l w
   fall-start x₀ {x} {l} {w} {end} n ex C m within later =
       record {
         buffers = record { times = ap length ex ∙ (length-replicate {A = ℕ} (length x₀) 0 ∙ n); left = C .long; queue = m };
         walked = λ u. false;
         live = λ j u. counts-for end u j;
         rows = record {
-          live-row = λ j u h. let a = and-l (fresh t (q .lo) j and ltb j end) (touches t j u) h in let b = counts-below end u j h in record { below = omega arith; before = b; is-fresh = and-l (fresh t (q .lo) j) (ltb j end) a; touch = and-r (fresh t (q .lo) j and ltb j end) (touches t j u) h };
+          live-row = λ j u h. let a = and-l (fresh t (q .lo) j and ltb j end) (touches t j u) h in let b = counts-below end u j h in
+              record {
+                below = omega arith;
+                before = b;
+                is-fresh = and-l (fresh t (q .lo) j) (ltb j end) a;
+                touch = and-r (fresh t (q .lo) j and ltb j end) (touches t j u) h;
+              };
           live-not = λ j u h. refl;
           live-passed = λ j u h. refl;
           live-all = λ j u a b c. and-i (and-i (a .is-fresh) (lt-ltb j end (a .before))) (a .touch);
@@ -395,7 +460,13 @@ module _ (d f s links : List ℕ) (q : Frame) (R : Ready d f s links q) where
           in-order = le-refl 0;
           tail-is = sym nobody;
         };
-        counts = record { degrees = λ u k z. C .rows u k; enough = λ u a b z. absurd (not-suc-le-zero a); many = λ u k h. absurd (h (zero u k)); few = λ u k h. absurd (h (zero u k)) };
+        counts =
+            record {
+              degrees = λ u k z. C .rows u k;
+              enough = λ u a b z. absurd (not-suc-le-zero a);
+              many = λ u k h. absurd (h (zero u k));
+              few = λ u k h. absurd (h (zero u k));
+            };
         times = record {
           e-pos = omega arith;
           e-day = _⊎_.inr refl;
@@ -416,10 +487,13 @@ module _ (d f s links : List ℕ) (q : Frame) (R : Ready d f s links q) where
       nobody = fallen-none x zero
 
   pub weed-start : {end : ℕ} {x l w : List ℕ} → Falling d f s q 0 (allRows end) x l w → Weed d f s q 0 end 0 x w x l w
-  weed-start {end} {x} F = record { times-length = refl; queue-length = refl; most = omega arith; state = F; rest = λ v a k. none-fallen x (sym (F .queue .tail-is)) v k }
+  weed-start {end} {x} F =
+      record { times-length = refl; queue-length = refl; most = omega arith; state = F; rest = λ v a k. none-fallen x (sym (F .queue .tail-is)) v k }
 
-  pub weed-end : {u end tail : ℕ} {x₀ w₀ x l w : List ℕ} → Weed d f s q u end tail x₀ w₀ x l w → 4096 ≤ u → Continues d f s q (allRows end) (record { day = never; end = end; head = 0; tail = tail }) x l w
-  weed-end {u} {end} {tail} {x = x} {l} {w} W h = record { state = subst (λ (c : ℕ). Falls c never end 0 tail x l w) (le-antisymm (W .most) h) (W .state); day = refl; end = refl }
+  pub weed-end : {u end tail : ℕ} {x₀ w₀ x l w : List ℕ} → Weed d f s q u end tail x₀ w₀ x l w → 4096 ≤ u
+      → Continues d f s q (allRows end) (record { day = never; end = end; head = 0; tail = tail }) x l w
+  weed-end {u} {end} {tail} {x = x} {l} {w} W h =
+      record { state = subst (λ (c : ℕ). Falls c never end 0 tail x l w) (le-antisymm (W .most) h) (W .state); day = refl; end = refl }
 
   module _ {end u tail : ℕ} {x₀ w₀ x l w : List ℕ} (W : Weed d f s q u end tail x₀ w₀ x l w) (k : u < 4096) where
     F : Falls u never end 0 tail x l w
@@ -452,20 +526,30 @@ module _ (d f s links : List ℕ) (q : Frame) (R : Ready d f s links q) where
             times = F .times;
             passed-why = F .passed-why;
             left-why = F .left-why;
-            counts = record { degrees = F .counts .degrees; many = F .counts .many; few = F .counts .few; enough = λ v a b z. ⊎-elim (λ e. subst (λ (c : ℕ). q .query .k ≤ getD l c 0) (sym e) h) (λ o. F .counts .enough v o b z) (eq-or-lt-of-le (omega arith)) };
+            counts =
+                record {
+                  degrees = F .counts .degrees;
+                  many = F .counts .many;
+                  few = F .counts .few;
+                  enough =
+                      λ v a b z. ⊎-elim (λ e. subst (λ (c : ℕ). q .query .k ≤ getD l c 0) (sym e) h) (λ o. F .counts .enough v o b z)
+                      (eq-or-lt-of-le (omega arith));
+                };
           };
           rest = λ v a b. W .rest v (omega arith) b;
         }
 
     pub weed-fall : getD l u 0 < q .query .k → {x′ w′ : List ℕ} → x′ ≡ set x u 65535 → w′ ≡ set w tail u → Weed d f s q (u + 1) end (tail + 1) x₀ w₀ x′ l w′
     weed-fall h {x′} {w′} ex ew =
-        subst (λ (c : List ℕ). Weed d f s q (u + 1) end (tail + 1) x₀ w₀ c l w′) (sym ex) (subst (λ (c : List ℕ). Weed d f s q (u + 1) end (tail + 1) x₀ w₀ (set x u never) l c) (sym ew) fell)
+        subst (λ (c : List ℕ). Weed d f s q (u + 1) end (tail + 1) x₀ w₀ c l w′) (sym ex)
+        (subst (λ (c : List ℕ). Weed d f s q (u + 1) end (tail + 1) x₀ w₀ (set x u never) l c) (sym ew) fell)
       where
         few : count (λ j. F .live j u) (length d) < q .query .k
         few = let a : getD l u 0 ≡ count (λ j. F .live j u) (length d) = F .counts .degrees u k zero-u in omega arith
 
         fell-u : (v : ℕ) → v ≡ u → getD (set x u never) v 0 ≡ 0 → ⊥
-        fell-u v y g = let a : getD (set x u never) v 0 ≡ never = ap (λ (c : ℕ). getD (set x u never) c 0) y ∙ getD-set-same x u never 0 (let n = F .buffers .times in omega arith) in omega arith
+        fell-u v y g = let a : getD (set x u never) v 0 ≡ never = ap (λ (c : ℕ). getD (set x u never) c 0) y
+            ∙ getD-set-same x u never 0 (let n = F .buffers .times in omega arith) in omega arith
 
         same : (v : ℕ) → (v ≡ u → ⊥) → getD (set x u never) v 0 ≡ getD x v 0
         same v y = getD-set-other x u v never 0 y
@@ -477,17 +561,33 @@ module _ (d f s links : List ℕ) (q : Frame) (R : Ready d f s links q) where
               queue-length = length-set w tail u ∙ W .queue-length;
               most = omega arith;
               state = record {
-                buffers = record { times = length-set x u never ∙ F .buffers .times; left = F .buffers .left; queue = let a = length-set w tail u in let b = F .buffers .queue in omega arith };
+                buffers =
+                    record {
+                      times = length-set x u never ∙ F .buffers .times;
+                      left = F .buffers .left;
+                      queue = let a = length-set w tail u in
+                          let b = F .buffers .queue in omega arith;
+                    };
                 walked = F .walked;
                 live = F .live;
                 rows = F .rows;
                 queue = queue-fall t q (R .setting) (F .buffers .times) (F .times) u k zero-u (F .buffers .queue) (F .queue);
-                times = times-fall t q (R .setting) (F .buffers .times) (F .times) u k zero-u (fall-lower t q (R .setting) (F .rows) (F .queue .walked-fell) (F .times) (F .passed-why) (F .left-why) u few);
+                times =
+                    times-fall t q (R .setting) (F .buffers .times) (F .times) u k zero-u
+                    (fall-lower t q (R .setting) (F .rows) (F .queue .walked-fell) (F .times) (F .passed-why) (F .left-why) u few);
                 counts = record {
                   degrees = λ v a z. ⊎-elim (λ y. absurd (fell-u v y z)) (λ y. F .counts .degrees v a (sym (same v y) ∙ z)) (same-or v u);
-                  enough = λ v a b z. ⊎-elim (λ y. absurd (fell-u v y z)) (λ y. F .counts .enough v (⊎-elim (λ e. absurd (y e)) (λ o. o) (eq-or-lt-of-le (omega arith))) b (sym (same v y) ∙ z)) (same-or v u);
-                  many = λ v a z. ⊎-elim (λ y. subst (λ (c : ℕ). count (λ j. F .live j c) (length d) ≤ getD l c 0) (sym y) (let m : getD l u 0 ≡ count (λ j. F .live j u) (length d) = F .counts .degrees u k zero-u in omega arith)) (λ y. F .counts .many v a (λ e. z (same v y ∙ e))) (same-or v u);
-                  few = λ v a z. ⊎-elim (λ y. subst (λ (c : ℕ). getD l c 0 < q .query .k) (sym y) h) (λ y. F .counts .few v a (λ e. z (same v y ∙ e))) (same-or v u);
+                  enough =
+                      λ v a b z. ⊎-elim (λ y. absurd (fell-u v y z))
+                      (λ y. F .counts .enough v (⊎-elim (λ e. absurd (y e)) (λ o. o) (eq-or-lt-of-le (omega arith))) b (sym (same v y) ∙ z)) (same-or v u);
+                  many =
+                      λ v a z. ⊎-elim
+                      (λ y. subst (λ (c : ℕ). count (λ j. F .live j c) (length d) ≤ getD l c 0) (sym y)
+                      (let m : getD l u 0 ≡ count (λ j. F .live j u) (length d) = F .counts .degrees u k zero-u in omega arith))
+                      (λ y. F .counts .many v a (λ e. z (same v y ∙ e))) (same-or v u);
+                  few =
+                      λ v a z. ⊎-elim (λ y. subst (λ (c : ℕ). getD l c 0 < q .query .k) (sym y) h) (λ y. F .counts .few v a (λ e. z (same v y ∙ e)))
+                      (same-or v u);
                 };
                 passed-why = λ j v a p. clash refl (sym p);
                 left-why = F .left-why;
@@ -502,7 +602,8 @@ module _ (d f s links : List ℕ) (q : Frame) (R : Ready d f s links q) where
     unfolding dayOf at
     later-day = Sp .later
 
-    pub core-start : {x₀ l₀ x l w : List ℕ} → PeelBuffers x₀ l₀ w → x ≡ replicate (length x₀) 0 → Counted t (q .lo) end l → Falling d f s q 0 (allRows end) x l w
+    pub core-start : {x₀ l₀ x l w : List ℕ} → PeelBuffers x₀ l₀ w → x ≡ replicate (length x₀) 0 → Counted t (q .lo) end l
+        → Falling d f s q 0 (allRows end) x l w
     core-start {x₀} B ex C = fall-start x₀ (B .times) ex C (B .queue) (Sp .within) later-day
 
     pub fade-start : {r : Removal} {x l w : List ℕ} → QueueEmpty d f s q (allRows end) r x l w → Fade d f s q r x l w

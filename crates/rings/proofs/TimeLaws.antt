@@ -22,7 +22,8 @@ use Rattle.rings.proofs.WordLaws.{length-run, getD-run}
 use Rattle.rings.proofs.LeadLaws.{counts-here, open-is, day-opens, row-opens}
 use Rattle.rings.proofs.CoreTimeLaws.{row-before, row-after}
 
-module _ (d f s : List ℕ) (q : Frame) (R : Framed d f s q) {end : ℕ} (Sp : Span d (q .stop) (q .lo) end) {x : List ℕ} (C : CoreTimesAre d f s q x) {j : ℕ} (b : j < length d) where
+module _ (d f s : List ℕ) (q : Frame) (R : Framed d f s q) {end : ℕ} (Sp : Span d (q .stop) (q .lo) end) {x : List ℕ} (C : CoreTimesAre d f s q x) {j : ℕ}
+    (b : j < length d) where
   a-small : getD f j 0 < 4096
   a-small = let y = R .sound .rows j b in let z = y .accounts in let k = y .account-to in omega arith
 
@@ -39,12 +40,17 @@ module _ (d f s : List ℕ) (q : Frame) (R : Framed d f s q) {end : ℕ} (Sp : S
   pub row-reads : {a c : ℕ} → a ≡ getD f j 0 → c ≡ getD s j 0 → (a < 4096) × (c < 4096) × (a < length x) × (c < length x)
   row-reads ea ec = let y = a-small in let z = b-small in let n = C .long in (omega arith, omega arith, omega arith, omega arith)
 
-  pub row-mid : q .lo ≤ j → j < end → {a c g g′ : ℕ} → a ≡ getD f j 0 → c ≡ getD s j 0 → g ≡ max (getD x a 0) (getD x c 0) → g′ ≡ max g (getD d j 0) → g′ ≡ rowTime (tableOf d f s) (q .query) (q .stop) (q .start) j
+  pub row-mid : q .lo ≤ j → j < end → {a c g g′ : ℕ} → a ≡ getD f j 0 → c ≡ getD s j 0 → g ≡ max (getD x a 0) (getD x c 0) → g′ ≡ max g (getD d j 0)
+      → g′ ≡ rowTime (tableOf d f s) (q .query) (q .stop) (q .start) j
   unfolding firstOf secondOf dayOf at
   row-mid h k {a} {c} {g} {g′} ea ec eg eg′ =
-      eg′ ∙ (ap (λ (y : ℕ). max y (getD d j 0)) (eg ∙ (ap (λ (y : ℕ). max y (getD x c 0)) one ∙ ap (max (accountTime (tableOf d f s) (q .query) (q .stop) (q .start) (getD f j 0))) two))
-      ∙ (ap (max (max (accountTime (tableOf d f s) (q .query) (q .stop) (q .start) (getD f j 0)) (accountTime (tableOf d f s) (q .query) (q .stop) (q .start) (getD s j 0)))) (sym own-day)
-      ∙ sym (row-opens (tableOf d f s) (q .query) (q .stop) (q .start) (R .setting .fits) j b (day-opens (tableOf d f s) (q .start) (q .stop) j (R .setting .from-lo j b h) (Sp .inside j k)))))
+      eg′
+      ∙ (ap (λ (y : ℕ). max y (getD d j 0))
+      (eg ∙ (ap (λ (y : ℕ). max y (getD x c 0)) one ∙ ap (max (accountTime (tableOf d f s) (q .query) (q .stop) (q .start) (getD f j 0))) two))
+      ∙ (ap (max (max (accountTime (tableOf d f s) (q .query) (q .stop) (q .start) (getD f j 0))
+      (accountTime (tableOf d f s) (q .query) (q .stop) (q .start) (getD s j 0)))) (sym own-day)
+      ∙ sym (row-opens (tableOf d f s) (q .query) (q .stop) (q .start) (R .setting .fits) j b
+      (day-opens (tableOf d f s) (q .start) (q .stop) j (R .setting .from-lo j b h) (Sp .inside j k)))))
     where
       own-day : openDay (tableOf d f s) (q .start) j ≡ dayOf (tableOf d f s) j
       own-day = open-is (tableOf d f s) (q .query) (q .start) (q .stop) (q .lo) (R .setting) j b (counts-here (tableOf d f s) (q .lo) j h)
@@ -66,12 +72,19 @@ fill-start g m = record { long = refl; done = λ i h. absurd (not-suc-le-zero h)
 
 pub fill-next : {g : ℕ → ℕ} {j : ℕ} {m₀ m : List ℕ} {v : ℕ} → Filled g j m₀ m → j < length m → v ≡ g j → Filled g (j + 1) m₀ (set m j v)
 fill-next {g} {j} {m₀} {m} {v} F l e =
-    record { long = length-set m j v ∙ F .long; done = λ i h. ⊎-elim (λ y. ap (λ (c : ℕ). getD (set m j v) c 0) y ∙ (getD-set-same m j v 0 l ∙ (e ∙ ap g (sym y)))) (λ o. getD-set-other m j i v 0 (λ y. omega arith) ∙ F .done i o) (eq-or-lt-of-le (omega arith)) }
+    record {
+      long = length-set m j v ∙ F .long;
+      done =
+          λ i h. ⊎-elim (λ y. ap (λ (c : ℕ). getD (set m j v) c 0) y ∙ (getD-set-same m j v 0 l ∙ (e ∙ ap g (sym y))))
+          (λ o. getD-set-other m j i v 0 (λ y. omega arith) ∙ F .done i o) (eq-or-lt-of-le (omega arith));
+    }
 
 pub fill-end : (g : ℕ → ℕ) {j n : ℕ} {m₀ m : List ℕ} → Filled g j m₀ m → length m₀ ≡ n → n ≤ j → m ≡ run g 0 n
 fill-end g {j} {n} {m₀} {m} F e h =
     ext-getD 0 m (run g 0 n) (F .long ∙ (e ∙ sym (length-run g 0 n)))
     (λ i l. let a = F .long in F .done i (omega arith) ∙ sym (getD-run g 0 n i 0 (omega arith) ∙ ap g (zero-add i)))
 
-pub accounts-are : {d f s : List ℕ} {q : Frame} {x : List ℕ} → CoreTimesAre d f s q x → x ≡ run (accountTime (tableOf d f s) (q .query) (q .stop) (q .start)) 0 4096
-accounts-are {d} {f} {s} {q} {x} C = fill-end (accountTime (tableOf d f s) (q .query) (q .stop) (q .start)) {j = 4096} {m₀ = x} (record { long = refl; done = C .times }) (C .long) (omega arith)
+pub accounts-are : {d f s : List ℕ} {q : Frame} {x : List ℕ} → CoreTimesAre d f s q x
+    → x ≡ run (accountTime (tableOf d f s) (q .query) (q .stop) (q .start)) 0 4096
+accounts-are {d} {f} {s} {q} {x} C =
+    fill-end (accountTime (tableOf d f s) (q .query) (q .stop) (q .start)) {j = 4096} {m₀ = x} (record { long = refl; done = C .times }) (C .long) (omega arith)

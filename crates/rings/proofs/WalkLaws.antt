@@ -21,7 +21,8 @@ use Rattle.rings.specs.declared.frame.Frame.{Frame}
 use Rattle.rings.specs.declared.peel.Removal.{Removal}
 use Rattle.rings.proofs.WordLaws.{look}
 use Rattle.rings.proofs.LeadLaws.{fresh-from}
-use Rattle.rings.proofs.AlongLaws.{Along, begun, ahead-of, along-last, along-out, along-place, along-few, along-row, along-touch, along-from, along-none, along-next, along-fresh, along-fresh-place, along-ends, along-other}
+use Rattle.rings.proofs.AlongLaws.{Along, begun, ahead-of, along-last, along-out, along-place, along-few, along-row, along-touch, along-from, along-none}
+use Rattle.rings.proofs.AlongLaws.{along-next, along-fresh, along-fresh-place, along-ends, along-other}
 use Rattle.rings.proofs.FallLaws.{walk-start, walk-small, walk-to, walk-losable, walk-lost, walk-skip, walk-end}
 use Rattle.rings.proofs.StageLaws.{SameLengths, same-start, same-next, tail-most}
 
@@ -67,7 +68,10 @@ module _ (d f s links : List ℕ) (q : Frame) (R : Ready d f s links q) where
             lengths = same-start x l w;
             end-is = along-last d f s links (R .sound) (R .linked) at-small ee;
             b = B .b;
-            state = walk-to t q (R .setting) walking (B .b) (omega arith) (λ i a k h. ⊎-elim (λ y. let c = fresh-from t (q .lo) i y in let o = B .before i k h in absurd (omega arith)) (λ y. y) (look (fresh t (q .lo) i)));
+            state =
+                walk-to t q (R .setting) walking (B .b) (omega arith)
+                (λ i a k h. ⊎-elim (λ y. let c = fresh-from t (q .lo) i y in let o = B .before i k h in absurd (omega arith)) (λ y. y)
+                (look (fresh t (q .lo) i)));
             along = B .along;
           }
 
@@ -76,7 +80,8 @@ module _ (d f s links : List ℕ) (q : Frame) (R : Ready d f s links q) where
       abbrev ee : end ≡ placeOf t (suc u)
       ee = A .end-is
 
-      walked : Fall t q 4096 (m .day) (m .end) (m .head + 1) tail nothing x l w → HeadWalked d f s q m (record { day = m .day; end = m .end; head = m .head + 1; tail = tail }) x l w
+      walked : Fall t q 4096 (m .day) (m .end) (m .head + 1) tail nothing x l w
+          → HeadWalked d f s q m (record { day = m .day; end = m .end; head = m .head + 1; tail = tail }) x l w
       walked F = record { goes-on = record { state = F; day = refl; end = refl }; head = refl }
 
       small : u < 4096
@@ -129,21 +134,34 @@ module _ (d f s links : List ℕ) (q : Frame) (R : Ready d f s links q) where
           next-along = along-next d f s links (R .sound) (R .linked) small (A .along) ee more ej
 
           pub at-skip : fresh t (q .lo) j ≡ false → At d f s q m u end (p + 1) tail x₀ l₀ w₀ x l w
-          at-skip h = record { lengths = A .lengths; end-is = ee; b = j + 1; state = walk-skip t q (R .setting) (A .state) j row-from row-below row-touch row-none h; along = next-along }
+          at-skip h =
+              record {
+                lengths = A .lengths;
+                end-is = ee;
+                b = j + 1;
+                state = walk-skip t q (R .setting) (A .state) j row-from row-below row-touch row-none h;
+                along = next-along;
+              }
 
-          module _ {a c v : ℕ} (ea : a ≡ getD f j 0) (ec : c ≡ getD s j 0) (ev : v ≡ pickOther (eqb a u) a c) (left : j < m .end) (h : fresh t (q .lo) j ≡ true) where
+          module _ {a c v : ℕ} (ea : a ≡ getD f j 0) (ec : c ≡ getD s j 0) (ev : v ≡ pickOther (eqb a u) a c) (left : j < m .end)
+              (h : fresh t (q .lo) j ≡ true) where
             v-is : v ≡ otherOf t j u
             v-is = along-other d f s links (R .sound) (R .linked) small (A .along) ee more ej ea ec ev
 
             pub at-room : Losable (q .query .k) tail v x l w
-            at-room = subst (λ (y : ℕ). Losable (q .query .k) tail y x l w) (sym v-is) (walk-losable t q (R .setting) (A .state) j row-from row-below row-touch row-none left h)
+            at-room =
+                subst (λ (y : ℕ). Losable (q .query .k) tail y x l w) (sym v-is)
+                (walk-losable t q (R .setting) (A .state) j row-from row-below row-touch row-none left h)
 
-            pub at-lose : {x′ l′ w′ : List ℕ} {tail′ : ℕ} → length x′ ≡ length x → length l′ ≡ length l → length w′ ≡ length w → Lost (q .query .k) (m .day) tail v x l w x′ l′ w′ tail′ → At d f s q m u end (p + 1) tail′ x₀ l₀ w₀ x′ l′ w′
+            pub at-lose : {x′ l′ w′ : List ℕ} {tail′ : ℕ} → length x′ ≡ length x → length l′ ≡ length l → length w′ ≡ length w
+                → Lost (q .query .k) (m .day) tail v x l w x′ l′ w′ tail′ → At d f s q m u end (p + 1) tail′ x₀ l₀ w₀ x′ l′ w′
             at-lose {x′} {l′} {w′} {tail′} ex el ew L =
                 record {
                   lengths = same-next (A .lengths) ex el ew;
                   end-is = ee;
                   b = j + 1;
                   along = next-along;
-                  state = walk-lost t q (R .setting) (A .state) j row-from row-below row-touch row-none left h (subst (λ (y : ℕ). Lost (q .query .k) (m .day) tail y x l w x′ l′ w′ tail′) v-is L);
+                  state =
+                      walk-lost t q (R .setting) (A .state) j row-from row-below row-touch row-none left h
+                      (subst (λ (y : ℕ). Lost (q .query .k) (m .day) tail y x l w x′ l′ w′ tail′) v-is L);
                 }

@@ -18,7 +18,8 @@ use crate::links::entry;
 use crate::links::other;
 use crate::links::put;
 
-// How far the removal has come: the day that is the core time of who falls now, the end of the rows that have not left, and the queue of the fallen from head to tail.
+// How far the removal has come: the day that is the core time of who falls now, the end of the rows that have not left,
+// and the queue of the fallen from head to tail.
 pub struct Removal {
     pub day: u16,
     pub end: usize,
@@ -44,7 +45,8 @@ pub(crate) fn is_first(links: &[u16], n: usize, lo: usize, j: usize) -> bool
     earlier <= lo
 }
 
-// Account v loses a neighbour; with the k-th it falls, dated e, and waits in the queue. Who fell before has fewer left, so one test that nearly always fails is enough, and whether v fell, which no processor foresees, is not asked.
+// Account v loses a neighbour; with the k-th it falls, dated e, and waits in the queue. Who fell before has fewer left,
+// so one test that nearly always fails is enough, and whether v fell, which no processor foresees, is not asked.
 fn lose(
     k: u16,
     e: u16,

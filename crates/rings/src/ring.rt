@@ -101,7 +101,8 @@ fn mark_part(
     mark_rows(days, first, second, frame, &times, marks)
 }
 
-// The ring of [start, stop] of an accepted table. Days never fall, so the window's rows stand side by side: only they are linked and peeled, and every other mark is 0.
+// The ring of [start, stop] of an accepted table. Days never fall, so the window's rows stand side by side:
+// only they are linked and peeled, and every other mark is 0.
 fn mark_ring(
     days: &[u16],
     first: &[u16],

@@ -1,17 +1,20 @@
--- Peeling by counts: accounts fall where fewer than k neighbours are left, from the last day on. x holds the times of the accounts that fell (0: not yet), d the numbers of neighbours left, w the queue of the fallen whose rows are still to be walked.
--- A row counts for one of its accounts while it is fresh, has not left (is below r), its other account has not been walked, and the pair of row and account has not been passed.
+-- Peeling by counts: accounts fall where fewer than k neighbours are left, from the last day on. x holds the times of the accounts that fell (0: not yet), d
+-- the numbers of neighbours left, w the queue of the fallen whose rows are still to be walked.
+-- A row counts for one of its accounts while it is fresh, has not left (is below r), its other account has not been walked, and the pair of row and account has
+-- not been passed.
 --     PeelBuffers  the lengths of the three lists
 --     Losable, Lost        before and after an account loses one neighbour
 --     Setting      the table, the window and the query
 --     Rows         which rows count for which accounts
 --     Queue        who waits to be walked
---     Degrees      d counts the rows that count, and no account below b that has not fallen has fewer than k; who has fallen has fewer, and the rows that count at least
+--     Degrees      d counts the rows that count, and no account below b that has not fallen has fewer than k;
+--                  who has fallen has fewer, and the rows that count at least
 --     Times        x is a lower bound of the core times, closed at the fallen; no core time that is still open passes e
 --     Fall         all of it: b is the first account that has not been looked at, e the day of the fallen, r the end of the rows, head and tail the queue's
 --     Walk         the same while the rows of the account at the head of the queue are walked
 --     season, nextFrame    the frame of a start by its numbers, and that of the start after it
 --     allRows      the removal before any row has left
---     Falling, Walking     Fall and Walk for a frame, the numbers of a removal and the table of three columns
+--     Falling      Fall with the numbers of a removal, for the table of three columns
 --     HeadWaits, HeadWalked, Continues, QueueEmpty, RowLeaves, RowLeft    what the functions of src/peel.rt ask and promise beside the buffers
 --     Ready        what peeling works on: an accepted table, its links with the heads at the first day, and the setting
 --     Framed       the same without links
@@ -50,10 +53,13 @@ pub record Losable (k tail v : ℕ) (x d w : List ℕ) : Type 0 where
   pub some : 0 < getD d v 0
   pub room : getD d v 0 ≡ k → tail < 4096
 
--- account v loses a neighbour: x are the times, d the numbers of neighbours left, w the queue up to tail. With the k-th it falls; who fell before has fewer than k left
+-- account v loses a neighbour: x are the times, d the numbers of neighbours left, w the queue up to tail. With the k-th it falls; who fell before has fewer
+-- than k left
 pub data Lost (k e tail v : ℕ) (x d w x′ d′ w′ : List ℕ) (tail′ : ℕ) : Type 0 where
-  stays : (getD d v 0 ≡ k → ⊥) → x′ ≡ x → d′ ≡ set d v (getD d v 0 - 1) → w′ ≡ w → tail′ ≡ tail → Lost k e tail v x d w x′ d′ w′ tail′
-  falls : getD d v 0 ≡ k → x′ ≡ set x v e → d′ ≡ set d v (getD d v 0 - 1) → w′ ≡ set w tail v → tail′ ≡ tail + 1 → Lost k e tail v x d w x′ d′ w′ tail′
+  stays : (getD d v 0 ≡ k → ⊥) → x′ ≡ x → d′ ≡ set d v (getD d v 0 - 1) → w′ ≡ w → tail′ ≡ tail
+      → Lost k e tail v x d w x′ d′ w′ tail′
+  falls : getD d v 0 ≡ k → x′ ≡ set x v e → d′ ≡ set d v (getD d v 0 - 1) → w′ ≡ set w tail v → tail′ ≡ tail + 1
+      → Lost k e tail v x d w x′ d′ w′ tail′
 
 pub record Setting (t : Table) (q : Query) (s hi lo : ℕ) : Type 0 where
   pub fits : hi < never
@@ -128,7 +134,8 @@ pub record Fall (t : Table) (p : Frame) (b e r head tail : ℕ) (passed : ℕ �
   pub counts : Degrees t (p .query) b live x d
   pub times : Times t (p .query) (p .start) (p .stop) e x
   -- a pair that was passed, and a row that left, matter to no ring before e
-  pub passed-why : (j u : ℕ) → j < size t → passed j u ≡ true → ((otherOf t j u < 4096) × Fell x (otherOf t j u)) ⊎ (e ≤ dayOf t j)
+  pub passed-why : (j u : ℕ) → j < size t → passed j u ≡ true
+      → ((otherOf t j u < 4096) × Fell x (otherOf t j u)) ⊎ (e ≤ dayOf t j)
   pub left-why : (j : ℕ) → r ≤ j → j < size t → (e ≤ dayOf t j) ⊎ (p .stop < dayOf t j)
 
 -- no pair has been passed
@@ -177,12 +184,9 @@ pub record Open (d f s links : List ℕ) (p : Frame) : Type 0 where
 abbrev pub allRows : ℕ → Removal
 allRows end = record { day = never; end = end; head = 0; tail = 0 }
 
--- the states for the frame p and the removal m, of the table of three columns
+-- the state for the frame p and the removal m, of the table of three columns
 abbrev pub Falling : List ℕ → List ℕ → List ℕ → Frame → ℕ → Removal → List ℕ → List ℕ → List ℕ → Type 0
 Falling d f s p b m x l w = Fall (tableOf d f s) p b (m .day) (m .end) (m .head) (m .tail) nothing x l w
-
-abbrev pub Walking : List ℕ → List ℕ → List ℕ → Frame → ℕ → Removal → ℕ → List ℕ → List ℕ → List ℕ → Type 0
-Walking d f s p b m u x l w = Walk (tableOf d f s) p b (m .day) (m .end) (m .head) (m .tail) u x l w
 
 -- r goes on from m: for the same day, with the same rows left
 pub record Continues (d f s : List ℕ) (p : Frame) (m r : Removal) (x l w : List ℕ) : Type 0 where

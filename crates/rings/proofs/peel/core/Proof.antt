@@ -19,36 +19,59 @@ clear-requires-2 c κs = search needs
 count-neighbours-requires : tie.Need-count-neighbours-requires
 count-neighbours-requires c κs =
     let clear2 = c .before .before .before .clear2 in
-    let args = c .before .before .before .before .before .before .before .before .before .before .before .before .before .before .before .before .args in
-    let pre = c .before .before .before .before .before .before .before .before .before .before .before .before .before .before .before .before .pre in
+    let args =
+    c .before .before .before .before .before .before .before .before .before .before .before .before .before
+    .before .before .before .args in
+    let pre =
+    c .before .before .before .before .before .before .before .before .before .before .before .before .before
+    .before .before .before .pre in
     (pre .0, (pre .1 .0, counted-start _ _ _ _ _ (pre .0) (args .left .now) (pre .1 .1 .left) (clear2 .ensures)))
 
 weed-requires : tie.Need-weed-requires
 weed-requires c κs =
     let count-neighbours = c .before .before .before .before .before .count-neighbours in
-    let clear = c .before .before .before .before .before .before .before .before .before .before .before .before .before .clear in
-    let pre = c .before .before .before .before .before .before .before .before .before .before .before .before .before .before .before .before .before .before .before .before .before .before .pre in
+    let clear =
+    c .before .before .before .before .before .before .before .before .before .before .before .before .before .clear
+    in
+    let pre =
+    c .before .before .before .before .before .before .before .before .before .before .before .before .before
+    .before .before .before .before .before .before .before .before .before .pre in
     (pre .0, core-start _ _ _ _ _ (pre .0) (pre .1 .0) (pre .1 .1) (clear .ensures) (count-neighbours .ensures))
 
 drain-requires : tie.Need-drain-requires
 drain-requires c κs =
     let weed = c .before .before .before .before .before .before .before .before .before .weed in
-    let pre = c .before .before .before .before .before .before .before .before .before .before .before .before .before .before .before .before .before .before .before .before .before .before .before .before .before .before .before .before .before .before .before .before .pre in
+    let pre =
+    c .before .before .before .before .before .before .before .before .before .before .before .before .before
+    .before .before .before .before .before .before .before .before .before .before .before .before .before .before
+    .before .before .before .before .before .pre in
     (pre .0, weed .ensures .state)
 
 same-length : tie.Need-same-length
 same-length c =
     let drain = c .before .before .before .before .before .before .drain in
-    let weed = c .before .before .before .before .before .before .before .before .before .before .before .before .before .before .before .before .weed in
-    let clear = c .before .before .before .before .before .before .before .before .before .before .before .before .before .before .before .before .before .before .before .before .before .before .before .before .before .before .before .before .before .before .clear in
+    let weed =
+    c .before .before .before .before .before .before .before .before .before .before .before .before .before
+    .before .before .before .weed in
+    let clear =
+    c .before .before .before .before .before .before .before .before .before .before .before .before .before
+    .before .before .before .before .before .before .before .before .before .before .before .before .before .before
+    .before .before .before .clear in
     drain .kept .1 .1 .1 .1 .1 .1 .0 ∙ (weed .kept .1 .1 .1 .1 .1 .1 .0 ∙ clear .kept .0)
 
 same-length-2 : tie.Need-same-length-2
 same-length-2 c =
     let drain = c .before .before .before .before .before .before .drain in
-    let weed = c .before .before .before .before .before .before .before .before .before .before .before .before .before .before .before .before .weed in
-    let count-neighbours = c .before .before .before .before .before .before .before .before .before .before .before .before .before .before .before .before .before .before .before .before .before .before .count-neighbours in
-    let clear2 = c .before .before .before .before .before .before .before .before .before .before .before .before .before .before .before .before .before .before .before .before .before .before .before .before .before .before .clear2 in
+    let weed =
+    c .before .before .before .before .before .before .before .before .before .before .before .before .before
+    .before .before .before .weed in
+    let count-neighbours =
+    c .before .before .before .before .before .before .before .before .before .before .before .before .before
+    .before .before .before .before .before .before .before .before .before .count-neighbours in
+    let clear2 =
+    c .before .before .before .before .before .before .before .before .before .before .before .before .before
+    .before .before .before .before .before .before .before .before .before .before .before .before .before .clear2
+    in
     drain .kept .1 .1 .1 .1 .1 .1 .1 .0 ∙
     (weed .kept .1 .1 .1 .1 .1 .1 .1 .0 ∙ (count-neighbours .kept .1 .1 .1 .1 .1 .1 .0 ∙ clear2 .kept .0))
 
@@ -58,11 +81,17 @@ same-length-3 c = search needs
 returns : tie.Need-returns
 returns c =
     let drain = c .before .before .before .before .before .before .drain in
-    let weed = c .before .before .before .before .before .before .before .before .before .before .before .before .before .before .before .before .weed in
+    let weed =
+    c .before .before .before .before .before .before .before .before .before .before .before .before .before
+    .before .before .before .weed in
     let empty = drain .ensures in
     record {
-      goes-on = record
-          { state = empty .goes-on .state; day = empty .goes-on .day ∙ weed .ensures .day; end = empty .goes-on .end ∙ weed .ensures .end };
+      goes-on = record {
+        state = empty .goes-on .state;
+        day = empty .goes-on .day ∙ weed .ensures .day;
+        end = empty .goes-on .end
+            ∙ weed .ensures .end;
+      };
       idle = empty .idle;
     }
 

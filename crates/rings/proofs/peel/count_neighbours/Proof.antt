@@ -3,7 +3,8 @@
 use native.Mathlib.Omega.{arith}
 use Prim.Native.Nat.{_-_}
 use mathlib.Core.Path.{refl}
-use Rattle.rings.proofs.StageLaws.{Counting, count-start, count-below, count-place, count-first, count-second, count-skip, count-row, count-end}
+use Rattle.rings.proofs.StageLaws.{Counting, count-start, count-below, count-place, count-first, count-second}
+use Rattle.rings.proofs.StageLaws.{count-skip, count-row, count-end}
 use Rattle.rings.proofs.peel.count_neighbours.Statement.{statement}
 use Rattle.rings.proofs.peel.count_neighbours.Tie as tie
 use Rattle.rings.proofs.peel.count_neighbours.Reads as reads
@@ -58,7 +59,9 @@ add-put c =
     let entry = c .before .before .before .before .entry in
     let loop-test = c .before .before .before .before .before .before .before .loop-test in
     let loop = c .before .before .before .before .before .before .before .before .loop in
-    let pre = c .before .before .before .before .before .before .before .before .before .before .before .before .before .before .pre in
+    let pre =
+    c .before .before .before .before .before .before .before .before .before .before .before .before .before
+    .before .pre in
     omega (
       arith,
       count-first _ _ _ _ _ (pre .0) (loop .inv) (loop-test .taken) (pre .1 .0) (entry .ensures) (entry3 .ensures),
@@ -70,7 +73,9 @@ put-requires c κs =
     let entry = c .before .before .before .before .entry in
     let loop-test = c .before .before .before .before .before .before .before .loop-test in
     let loop = c .before .before .before .before .before .before .before .before .loop in
-    let pre = c .before .before .before .before .before .before .before .before .before .before .before .before .before .before .pre in
+    let pre =
+    c .before .before .before .before .before .before .before .before .before .before .before .before .before
+    .before .pre in
     let first = count-first _ _ _ _ _ (pre .0) (loop .inv) (loop-test .taken) (pre .1 .0) (entry .ensures)
     (entry3 .ensures) in (first .0, omega (arith, first .1))
 
@@ -80,9 +85,13 @@ entry-requires-4 c κs =
     let entry3 = c .before .before .before .before .before .entry3 in
     let entry2 = c .before .before .before .before .before .before .before .entry2 in
     let entry = c .before .before .before .before .before .before .before .before .entry in
-    let loop-test = c .before .before .before .before .before .before .before .before .before .before .before .loop-test in
-    let loop = c .before .before .before .before .before .before .before .before .before .before .before .before .loop in
-    let pre = c .before .before .before .before .before .before .before .before .before .before .before .before .before .before .before .before .before .before .pre in
+    let loop-test =
+    c .before .before .before .before .before .before .before .before .before .before .before .loop-test in
+    let loop =
+    c .before .before .before .before .before .before .before .before .before .before .before .before .loop in
+    let pre =
+    c .before .before .before .before .before .before .before .before .before .before .before .before .before
+    .before .before .before .before .before .pre in
     count-second _ _ _ _ _ (pre .0) (loop .inv) (loop-test .taken) (pre .1 .0) (entry .ensures) (entry2 .ensures)
     (entry3 .ensures) (put .ensures) refl .0
 
@@ -93,9 +102,15 @@ add-put-2 c =
     let entry3 = c .before .before .before .before .before .before .before .entry3 in
     let entry2 = c .before .before .before .before .before .before .before .before .before .entry2 in
     let entry = c .before .before .before .before .before .before .before .before .before .before .entry in
-    let loop-test = c .before .before .before .before .before .before .before .before .before .before .before .before .before .loop-test in
-    let loop = c .before .before .before .before .before .before .before .before .before .before .before .before .before .before .loop in
-    let pre = c .before .before .before .before .before .before .before .before .before .before .before .before .before .before .before .before .before .before .before .before .pre in
+    let loop-test =
+    c .before .before .before .before .before .before .before .before .before .before .before .before
+    .before .loop-test in
+    let loop =
+    c .before .before .before .before .before .before .before .before .before .before .before .before .before
+    .before .loop in
+    let pre =
+    c .before .before .before .before .before .before .before .before .before .before .before .before .before
+    .before .before .before .before .before .before .before .pre in
     omega (
       arith,
       count-second _ _ _ _ _ (pre .0) (loop .inv) (loop-test .taken) (pre .1 .0) (entry .ensures) (entry2 .ensures)
@@ -109,22 +124,36 @@ put-requires-2 c κs =
     let entry3 = c .before .before .before .before .before .before .before .entry3 in
     let entry2 = c .before .before .before .before .before .before .before .before .before .entry2 in
     let entry = c .before .before .before .before .before .before .before .before .before .before .entry in
-    let loop-test = c .before .before .before .before .before .before .before .before .before .before .before .before .before .loop-test in
-    let loop = c .before .before .before .before .before .before .before .before .before .before .before .before .before .before .loop in
-    let pre = c .before .before .before .before .before .before .before .before .before .before .before .before .before .before .before .before .before .before .before .before .pre in
+    let loop-test =
+    c .before .before .before .before .before .before .before .before .before .before .before .before
+    .before .loop-test in
+    let loop =
+    c .before .before .before .before .before .before .before .before .before .before .before .before .before
+    .before .loop in
+    let pre =
+    c .before .before .before .before .before .before .before .before .before .before .before .before .before
+    .before .before .before .before .before .before .before .pre in
     let second = count-second _ _ _ _ _ (pre .0) (loop .inv) (loop-test .taken) (pre .1 .0) (entry .ensures)
     (entry2 .ensures) (entry3 .ensures) (put .ensures) (entry4 .ensures) in (second .0, omega (arith, second .1))
 
 add-j : tie.Need-add-j Inv-loop μ-loop
 add-j c =
-    let loop-test = c .before .before .before .before .before .before .before .before .before .before .before .before .before .before .before .before .loop-test in
-    let loop = c .before .before .before .before .before .before .before .before .before .before .before .before .before .before .before .before .before .loop in
-    let pre = c .before .before .before .before .before .before .before .before .before .before .before .before .before .before .before .before .before .before .before .before .before .before .before .pre in
+    let loop-test =
+    c .before .before .before .before .before .before .before .before .before .before .before .before .before
+    .before .before .before .loop-test in
+    let loop =
+    c .before .before .before .before .before .before .before .before .before .before .before .before .before
+    .before .before .before .before .loop in
+    let pre =
+    c .before .before .before .before .before .before .before .before .before .before .before .before .before
+    .before .before .before .before .before .before .before .before .before .before .pre in
     omega (arith, count-below _ _ _ _ _ (pre .0) (loop .inv) (loop-test .taken) (pre .1 .0), pre .0 .sound .most)
 
 loop-less : tie.Need-loop-less Inv-loop μ-loop
 loop-less c =
-    let loop-test = c .before .before .before .before .before .before .before .before .before .before .before .before .before .before .before .before .loop-test in
+    let loop-test =
+    c .before .before .before .before .before .before .before .before .before .before .before .before .before
+    .before .before .before .loop-test in
     omega (arith, loop-test .taken)
 
 loop-again : tie.Need-loop-again Inv-loop μ-loop
@@ -133,13 +162,26 @@ loop-again c =
     let entry4 = c .before .before .before .before .entry4 in
     let put = c .before .before .before .before .before .before .before .before .put in
     let entry3 = c .before .before .before .before .before .before .before .before .before .before .entry3 in
-    let entry2 = c .before .before .before .before .before .before .before .before .before .before .before .before .entry2 in
-    let entry = c .before .before .before .before .before .before .before .before .before .before .before .before .before .entry in
-    let if1 = c .before .before .before .before .before .before .before .before .before .before .before .before .before .before .if1 in
-    let is-fresh = c .before .before .before .before .before .before .before .before .before .before .before .before .before .before .before .is-fresh in
-    let loop-test = c .before .before .before .before .before .before .before .before .before .before .before .before .before .before .before .before .loop-test in
-    let loop = c .before .before .before .before .before .before .before .before .before .before .before .before .before .before .before .before .before .loop in
-    let pre = c .before .before .before .before .before .before .before .before .before .before .before .before .before .before .before .before .before .before .before .before .before .before .before .pre in
+    let entry2 =
+    c .before .before .before .before .before .before .before .before .before .before .before .before .entry2 in
+    let entry =
+    c .before .before .before .before .before .before .before .before .before .before .before .before .before .entry
+    in
+    let if1 =
+    c .before .before .before .before .before .before .before .before .before .before .before .before .before
+    .before .if1 in
+    let is-fresh =
+    c .before .before .before .before .before .before .before .before .before .before .before .before .before
+    .before .before .is-fresh in
+    let loop-test =
+    c .before .before .before .before .before .before .before .before .before .before .before .before .before
+    .before .before .before .loop-test in
+    let loop =
+    c .before .before .before .before .before .before .before .before .before .before .before .before .before
+    .before .before .before .before .loop in
+    let pre =
+    c .before .before .before .before .before .before .before .before .before .before .before .before .before
+    .before .before .before .before .before .before .before .before .before .before .pre in
     count-row _ _ _ _ _ (pre .0) (loop .inv) (loop-test .taken) (pre .1 .0) (is-fresh .ensures) (if1 .taken)
     (entry .ensures) (entry2 .ensures) (entry3 .ensures) (put .ensures) (entry4 .ensures) (put2 .ensures)
 

@@ -25,22 +25,30 @@ walk-requires : tie.Need-walk-requires Inv-loop μ-loop
 walk-requires c κs =
     let if1 = c .before .before .before .if1 in
     let loop = c .before .before .before .before .before .loop in
-    let pre = c .before .before .before .before .before .before .before .before .before .before .before .before .before .pre in
+    let pre =
+    c .before .before .before .before .before .before .before .before .before .before .before .before .before .pre
+    in
     (pre .0, record { state = loop .inv .goes-on .state; some = if1 .taken })
 
 loop-less : tie.Need-loop-less Inv-loop μ-loop
 loop-less c =
     let walk = c .before .before .before .before .before .before .walk in
     let if1 = c .before .before .before .before .before .before .before .before .before .before .if1 in
-    let loop = c .before .before .before .before .before .before .before .before .before .before .before .before .loop in
-    let pre = c .before .before .before .before .before .before .before .before .before .before .before .before .before .before .before .before .before .before .before .before .pre in
+    let loop =
+    c .before .before .before .before .before .before .before .before .before .before .before .before .loop in
+    let pre =
+    c .before .before .before .before .before .before .before .before .before .before .before .before .before
+    .before .before .before .before .before .before .before .pre in
     omega (arith, if1 .taken, tail-most _ _ _ _ _ (pre .0) (loop .inv .goes-on .state), walk .ensures .head)
 
 loop-again : tie.Need-loop-again Inv-loop μ-loop
 loop-again c =
     let walk = c .before .before .before .before .before .before .walk in
-    let loop = c .before .before .before .before .before .before .before .before .before .before .before .before .loop in
-    let pre = c .before .before .before .before .before .before .before .before .before .before .before .before .before .before .before .before .before .before .before .before .pre in
+    let loop =
+    c .before .before .before .before .before .before .before .before .before .before .before .before .loop in
+    let pre =
+    c .before .before .before .before .before .before .before .before .before .before .before .before .before
+    .before .before .before .before .before .before .before .pre in
     drain-next _ _ _ _ _ (pre .0) (loop .inv) (walk .kept .1 .1 .1 .1 .1 .1 .0) (walk .kept .1 .1 .1 .1 .1 .1 .1 .0)
     (walk .kept .1 .1 .1 .1 .1 .1 .1 .1 .0) (walk .ensures)
 

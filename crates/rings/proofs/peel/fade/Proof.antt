@@ -1,4 +1,5 @@
--- `peel::fade` meets its contract. The loop's invariant: the rows from the end of the removal on have left, and nobody waits (StageLaws).
+-- `peel::fade` meets its contract. The loop's invariant: the rows from the end of the removal on have left, and nobody
+-- waits (StageLaws).
 -- Assumes nothing.
 use native.Mathlib.Omega.{arith}
 use Rattle.rings.proofs.StageLaws.{Fading, fading-start, fading-next, fading-end}
@@ -24,7 +25,9 @@ leave-requires : tie.Need-leave-requires Inv-loop μ-loop
 leave-requires c κs =
     let if1 = c .before .before .before .if1 in
     let loop = c .before .before .before .before .before .before .loop in
-    let pre = c .before .before .before .before .before .before .before .before .before .before .before .before .before .before .pre in
+    let pre =
+    c .before .before .before .before .before .before .before .before .before .before .before .before .before
+    .before .pre in
     (pre .0, record { fade = loop .inv .fade; some = if1 .taken })
 
 loop-less : tie.Need-loop-less Inv-loop μ-loop
@@ -35,8 +38,12 @@ loop-less c =
 loop-again : tie.Need-loop-again Inv-loop μ-loop
 loop-again c =
     let leave = c .before .before .before .before .before .before .leave in
-    let loop = c .before .before .before .before .before .before .before .before .before .before .before .before .before .loop in
-    let pre = c .before .before .before .before .before .before .before .before .before .before .before .before .before .before .before .before .before .before .before .before .before .pre in
+    let loop =
+    c .before .before .before .before .before .before .before .before .before .before .before .before .before .loop
+    in
+    let pre =
+    c .before .before .before .before .before .before .before .before .before .before .before .before .before
+    .before .before .before .before .before .before .before .before .pre in
     fading-next _ _ _ _ _ (pre .0) (loop .inv) (leave .kept .1 .1 .1 .1 .1 .1 .0) (leave .kept .1 .1 .1 .1 .1 .1 .1 .0)
     (leave .kept .1 .1 .1 .1 .1 .1 .1 .1 .0) (leave .ensures)
 

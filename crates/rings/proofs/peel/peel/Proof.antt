@@ -15,7 +15,9 @@ core-requires c κs =
 fade-requires : tie.Need-fade-requires
 fade-requires c κs =
     let core = c .before .before .before .before .before .before .before .before .before .core in
-    let pre = c .before .before .before .before .before .before .before .before .before .before .before .before .before .before .before .before .before .before .before .before .pre in
+    let pre =
+    c .before .before .before .before .before .before .before .before .before .before .before .before .before
+    .before .before .before .before .before .before .before .pre in
     (pre .0, fade-start _ _ _ _ _ (pre .0) (pre .1 .0) (core .ensures))
 
 same-length : tie.Need-same-length

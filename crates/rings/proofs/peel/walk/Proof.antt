@@ -2,7 +2,8 @@
 -- Assumes nothing.
 use native.Mathlib.Omega.{arith}
 use Prim.Native.Nat.{_-_}
-use Rattle.rings.proofs.WalkLaws.{At, head-small, head-place, at-small, at-start, at-place, at-few, row-below, at-stop, at-out}
+use Rattle.rings.proofs.WalkLaws.{At, head-small, head-place, at-small, at-start, at-place, at-few, row-below}
+use Rattle.rings.proofs.WalkLaws.{at-stop, at-out}
 use Rattle.rings.proofs.WalkLaws.{at-fresh-yes, at-fresh-no, at-fresh-place, at-ends, at-room, at-lose, at-skip}
 use Rattle.rings.proofs.peel.walk.Statement.{statement}
 use Rattle.rings.proofs.peel.walk.Tie as tie
@@ -59,20 +60,26 @@ loop-holds c =
 add-entry-2 : tie.Need-add-entry-2 Inv-loop μ-loop
 add-entry-2 c =
     let loop = c .before .loop in
-    let pre = c .before .before .before .before .before .before .before .before .before .before .before .before .before .pre in
+    let pre =
+    c .before .before .before .before .before .before .before .before .before .before .before .before .before .pre
+    in
     let loop-test = c .loop-test in omega (arith, at-few _ _ _ _ _ (pre .0) (loop .inv) (loop-test .taken))
 
 -- src/peel.rt:94:13
 entry-requires-4 : tie.Need-entry-requires-4 Inv-loop μ-loop
 entry-requires-4 c κs =
     let loop = c .before .loop in
-    let pre = c .before .before .before .before .before .before .before .before .before .before .before .before .before .pre in
+    let pre =
+    c .before .before .before .before .before .before .before .before .before .before .before .before .before .pre
+    in
     let loop-test = c .loop-test in at-place _ _ _ _ _ (pre .0) (loop .inv) (loop-test .taken)
 
 -- src/peel.rt:99:23
 add-t24 : tie.Need-add-t24 Inv-loop μ-loop
 add-t24 c =
-    let pre = c .before .before .before .before .before .before .before .before .before .before .before .before .before .before .before .before .before .pre in
+    let pre =
+    c .before .before .before .before .before .before .before .before .before .before .before .before .before
+    .before .before .before .before .pre in
     omega (arith, head-small _ _ _ _ _ (pre .0) (pre .1))
 
 -- src/peel.rt:96:13
@@ -100,7 +107,9 @@ returns c =
     let entry4 = c .before .before .before .entry4 in
     let loop-test = c .before .before .before .before .loop-test in
     let loop = c .before .before .before .before .before .loop in
-    let pre = c .before .before .before .before .before .before .before .before .before .before .before .before .before .before .before .before .before .pre in
+    let pre =
+    c .before .before .before .before .before .before .before .before .before .before .before .before .before
+    .before .before .before .before .pre in
     at-stop _ _ _ _ _ (pre .0) (loop .inv) (loop-test .taken) (entry4 .ensures) (if1 .taken)
 
 -- src/peel.rt:103:9
@@ -108,7 +117,9 @@ add-p : tie.Need-add-p Inv-loop μ-loop
 add-p c =
     let loop-test = c .before .before .before .loop-test in
     let loop = c .before .before .before .before .loop in
-    let pre = c .before .before .before .before .before .before .before .before .before .before .before .before .before .before .before .before .pre in
+    let pre =
+    c .before .before .before .before .before .before .before .before .before .before .before .before .before
+    .before .before .before .pre in
     omega (arith, at-few _ _ _ _ _ (pre .0) (loop .inv) (loop-test .taken))
 
 -- src/peel.rt:104:12
@@ -117,7 +128,9 @@ is-fresh-requires c κs =
     let entry4 = c .before .before .entry4 in
     let loop-test = c .before .before .before .loop-test in
     let loop = c .before .before .before .before .loop in
-    let pre = c .before .before .before .before .before .before .before .before .before .before .before .before .before .before .before .before .pre in
+    let pre =
+    c .before .before .before .before .before .before .before .before .before .before .before .before .before
+    .before .before .before .pre in
     at-fresh-place _ _ _ _ _ (pre .0) (loop .inv) (loop-test .taken) (entry4 .ensures)
 
 -- src/peel.rt:105:17
@@ -126,7 +139,9 @@ entry-requires-5 c κs =
     let entry4 = c .before .before .before .before .entry4 in
     let loop-test = c .before .before .before .before .before .loop-test in
     let loop = c .before .before .before .before .before .before .loop in
-    let pre = c .before .before .before .before .before .before .before .before .before .before .before .before .before .before .before .before .before .before .pre in
+    let pre =
+    c .before .before .before .before .before .before .before .before .before .before .before .before .before
+    .before .before .before .before .before .pre in
     omega (arith, row-below _ _ _ _ _ (pre .0) (loop .inv) (loop-test .taken) (entry4 .ensures), pre .0 .sound .firsts)
 
 -- src/peel.rt:106:17
@@ -135,7 +150,9 @@ entry-requires-6 c κs =
     let entry4 = c .before .before .before .before .before .entry4 in
     let loop-test = c .before .before .before .before .before .before .loop-test in
     let loop = c .before .before .before .before .before .before .before .loop in
-    let pre = c .before .before .before .before .before .before .before .before .before .before .before .before .before .before .before .before .before .before .before .pre in
+    let pre =
+    c .before .before .before .before .before .before .before .before .before .before .before .before .before
+    .before .before .before .before .before .before .pre in
     omega (arith, row-below _ _ _ _ _ (pre .0) (loop .inv) (loop-test .taken) (entry4 .ensures), pre .0 .sound .seconds)
 
 -- src/peel.rt:107:17
@@ -145,7 +162,9 @@ other-requires c κs =
     let entry4 = c .before .before .before .before .before .before .entry4 in
     let loop-test = c .before .before .before .before .before .before .before .loop-test in
     let loop = c .before .before .before .before .before .before .before .before .loop in
-    let pre = c .before .before .before .before .before .before .before .before .before .before .before .before .before .before .before .before .before .before .before .before .pre in
+    let pre =
+    c .before .before .before .before .before .before .before .before .before .before .before .before .before
+    .before .before .before .before .before .before .before .pre in
     let entry6 = c .entry6 in
     at-ends _ _ _ _ _ (pre .0) (loop .inv) (loop-test .taken) (entry4 .ensures) (entry5 .ensures) (entry6 .ensures)
 
@@ -159,9 +178,13 @@ lose-requires c κs =
     let is-fresh = c .before .before .before .before .before .before .before .is-fresh in
     let if1 = c .before .before .before .before .before .before .before .before .if1 in
     let entry4 = c .before .before .before .before .before .before .before .before .before .before .entry4 in
-    let loop-test = c .before .before .before .before .before .before .before .before .before .before .before .loop-test in
-    let loop = c .before .before .before .before .before .before .before .before .before .before .before .before .loop in
-    let pre = c .before .before .before .before .before .before .before .before .before .before .before .before .before .before .before .before .before .before .before .before .before .before .before .before .pre in
+    let loop-test =
+    c .before .before .before .before .before .before .before .before .before .before .before .loop-test in
+    let loop =
+    c .before .before .before .before .before .before .before .before .before .before .before .before .loop in
+    let pre =
+    c .before .before .before .before .before .before .before .before .before .before .before .before .before
+    .before .before .before .before .before .before .before .before .before .before .before .pre in
     at-room _ _ _ _ _ (pre .0) (loop .inv) (loop-test .taken) (entry4 .ensures) (entry5 .ensures) (entry6 .ensures)
     (other .ensures) (if1 .left)
     (
@@ -172,7 +195,9 @@ lose-requires c κs =
 -- src/peel.rt:93:5
 loop-less : tie.Need-loop-less Inv-loop μ-loop
 loop-less c =
-    let loop-test = c .before .before .before .before .before .before .before .before .before .before .before .before .before .before .before .before .before .before .loop-test in
+    let loop-test =
+    c .before .before .before .before .before .before .before .before .before .before .before .before .before
+    .before .before .before .before .before .loop-test in
     omega (arith, loop-test .taken)
 
 -- src/peel.rt:93:5
@@ -181,14 +206,30 @@ loop-again c =
     let lose = c .before .before .before .before .before .before .lose in
     let other = c .before .before .before .before .before .before .before .before .before .before .other in
     let entry6 = c .before .before .before .before .before .before .before .before .before .before .before .entry6 in
-    let entry5 = c .before .before .before .before .before .before .before .before .before .before .before .before .entry5 in
-    let if2 = c .before .before .before .before .before .before .before .before .before .before .before .before .before .if2 in
-    let is-fresh = c .before .before .before .before .before .before .before .before .before .before .before .before .before .before .is-fresh in
-    let if1 = c .before .before .before .before .before .before .before .before .before .before .before .before .before .before .before .if1 in
-    let entry4 = c .before .before .before .before .before .before .before .before .before .before .before .before .before .before .before .before .before .entry4 in
-    let loop-test = c .before .before .before .before .before .before .before .before .before .before .before .before .before .before .before .before .before .before .loop-test in
-    let loop = c .before .before .before .before .before .before .before .before .before .before .before .before .before .before .before .before .before .before .before .loop in
-    let pre = c .before .before .before .before .before .before .before .before .before .before .before .before .before .before .before .before .before .before .before .before .before .before .before .before .before .before .before .before .before .before .before .pre in
+    let entry5 =
+    c .before .before .before .before .before .before .before .before .before .before .before .before .entry5 in
+    let if2 =
+    c .before .before .before .before .before .before .before .before .before .before .before .before .before .if2
+    in
+    let is-fresh =
+    c .before .before .before .before .before .before .before .before .before .before .before .before .before
+    .before .is-fresh in
+    let if1 =
+    c .before .before .before .before .before .before .before .before .before .before .before .before .before
+    .before .before .if1 in
+    let entry4 =
+    c .before .before .before .before .before .before .before .before .before .before .before .before .before
+    .before .before .before .before .entry4 in
+    let loop-test =
+    c .before .before .before .before .before .before .before .before .before .before .before .before .before
+    .before .before .before .before .before .loop-test in
+    let loop =
+    c .before .before .before .before .before .before .before .before .before .before .before .before .before
+    .before .before .before .before .before .before .loop in
+    let pre =
+    c .before .before .before .before .before .before .before .before .before .before .before .before .before
+    .before .before .before .before .before .before .before .before .before .before .before .before .before .before
+    .before .before .before .before .pre in
     at-lose _ _ _ _ _ (pre .0) (loop .inv) (loop-test .taken) (entry4 .ensures) (entry5 .ensures) (entry6 .ensures)
     (other .ensures) (if1 .left)
     (
@@ -209,7 +250,9 @@ loop-again-2 c =
     let entry4 = c .before .before .before .before .entry4 in
     let loop-test = c .before .before .before .before .before .loop-test in
     let loop = c .before .before .before .before .before .before .loop in
-    let pre = c .before .before .before .before .before .before .before .before .before .before .before .before .before .before .before .before .before .before .pre in
+    let pre =
+    c .before .before .before .before .before .before .before .before .before .before .before .before .before
+    .before .before .before .before .before .pre in
     let if2 = c .if2 in
     at-skip _ _ _ _ _ (pre .0) (loop .inv) (loop-test .taken) (entry4 .ensures)
     (at-fresh-no _ _ _ _ _ (pre .0) (loop .inv) (loop-test .taken) (entry4 .ensures) (is-fresh .ensures) (if2 .left))
@@ -217,7 +260,9 @@ loop-again-2 c =
 -- src/peel.rt:115:15
 add-t21 : tie.Need-add-t21 Inv-loop μ-loop
 add-t21 c =
-    let pre = c .before .before .before .before .before .before .before .before .before .before .before .before .before .before .pre in
+    let pre =
+    c .before .before .before .before .before .before .before .before .before .before .before .before .before
+    .before .pre in
     omega (arith, head-small _ _ _ _ _ (pre .0) (pre .1))
 
 -- src/peel.rt:72:1
@@ -243,7 +288,9 @@ returns-2 : tie.Need-returns-2 Inv-loop μ-loop
 returns-2 c =
     let loop-test = c .before .loop-test in
     let loop = c .before .before .loop in
-    let pre = c .before .before .before .before .before .before .before .before .before .before .before .before .before .before .pre in
+    let pre =
+    c .before .before .before .before .before .before .before .before .before .before .before .before .before
+    .before .pre in
     at-out _ _ _ _ _ (pre .0) (loop .inv) (loop-test .left)
 
 pub walk-spec : {M : Type 1} → statement M

@@ -1,8 +1,10 @@
--- `peel::weed` meets its contract. The loop's invariant: the accounts below u have been looked at, and none from u on has fallen (StageLaws).
+-- `peel::weed` meets its contract. The loop's invariant: the accounts below u have been looked at, and none from u on
+-- has fallen (StageLaws).
 -- Assumes nothing.
 use native.Mathlib.Omega.{arith}
 use Prim.Native.Nat.{_-_}
-use Rattle.rings.proofs.StageLaws.{Weed, weed-start, weed-end, weed-small, weed-room, weed-left, weed-keep, weed-fall}
+use Rattle.rings.proofs.StageLaws.{Weed, weed-start, weed-end, weed-small, weed-room, weed-left, weed-keep}
+use Rattle.rings.proofs.StageLaws.{weed-fall}
 use Rattle.rings.proofs.peel.weed.Statement.{statement}
 use Rattle.rings.proofs.peel.weed.Tie as tie
 use Rattle.rings.proofs.peel.weed.Reads as reads
@@ -46,7 +48,9 @@ put-requires : tie.Need-put-requires Inv-loop μ-loop
 put-requires c κs =
     let loop-test = c .before .before .before .before .loop-test in
     let loop = c .before .before .before .before .before .loop in
-    let pre = c .before .before .before .before .before .before .before .before .before .before .before .before .before .pre in
+    let pre =
+    c .before .before .before .before .before .before .before .before .before .before .before .before .before .pre
+    in
     (weed-room _ _ _ _ _ (pre .0) (loop .inv) (loop-test .taken) .1, omega arith)
 
 -- src/peel.rt:281:13
@@ -54,27 +58,35 @@ put-requires-2 : tie.Need-put-requires-2 Inv-loop μ-loop
 put-requires-2 c κs =
     let loop-test = c .before .before .before .before .before .before .before .before .loop-test in
     let loop = c .before .before .before .before .before .before .before .before .before .loop in
-    let pre = c .before .before .before .before .before .before .before .before .before .before .before .before .before .before .before .before .before .pre in
+    let pre =
+    c .before .before .before .before .before .before .before .before .before .before .before .before .before
+    .before .before .before .before .pre in
     (weed-room _ _ _ _ _ (pre .0) (loop .inv) (loop-test .taken) .0, omega (arith, loop-test .taken))
 
 -- src/peel.rt:282:13
 add-tail : tie.Need-add-tail Inv-loop μ-loop
 add-tail c =
-    let loop-test = c .before .before .before .before .before .before .before .before .before .before .before .loop-test in
-    let loop = c .before .before .before .before .before .before .before .before .before .before .before .before .loop in
-    let pre = c .before .before .before .before .before .before .before .before .before .before .before .before .before .before .before .before .before .before .before .before .pre in
+    let loop-test =
+    c .before .before .before .before .before .before .before .before .before .before .before .loop-test in
+    let loop =
+    c .before .before .before .before .before .before .before .before .before .before .before .before .loop in
+    let pre =
+    c .before .before .before .before .before .before .before .before .before .before .before .before .before
+    .before .before .before .before .before .before .before .pre in
     let small = weed-small _ _ _ _ _ (pre .0) (loop .inv) (loop-test .taken) in omega (arith, small)
 
 -- src/peel.rt:283:13
 add-u : tie.Need-add-u Inv-loop μ-loop
 add-u c =
-    let loop-test = c .before .before .before .before .before .before .before .before .before .before .before .loop-test in
+    let loop-test =
+    c .before .before .before .before .before .before .before .before .before .before .before .loop-test in
     omega (arith, loop-test .taken)
 
 -- src/peel.rt:278:5
 loop-less : tie.Need-loop-less Inv-loop μ-loop
 loop-less c =
-    let loop-test = c .before .before .before .before .before .before .before .before .before .before .before .loop-test in
+    let loop-test =
+    c .before .before .before .before .before .before .before .before .before .before .before .loop-test in
     omega (arith, loop-test .taken)
 
 -- src/peel.rt:278:5
@@ -83,9 +95,13 @@ loop-again c =
     let put2 = c .before .before .put2 in
     let put = c .before .before .before .before .before .before .put in
     let if1 = c .before .before .before .before .before .before .before .before .if1 in
-    let loop-test = c .before .before .before .before .before .before .before .before .before .before .before .loop-test in
-    let loop = c .before .before .before .before .before .before .before .before .before .before .before .before .loop in
-    let pre = c .before .before .before .before .before .before .before .before .before .before .before .before .before .before .before .before .before .before .before .before .pre in
+    let loop-test =
+    c .before .before .before .before .before .before .before .before .before .before .before .loop-test in
+    let loop =
+    c .before .before .before .before .before .before .before .before .before .before .before .before .loop in
+    let pre =
+    c .before .before .before .before .before .before .before .before .before .before .before .before .before
+    .before .before .before .before .before .before .before .pre in
     weed-fall _ _ _ _ _ (pre .0) (loop .inv) (loop-test .taken) (if1 .taken) (put .ensures) (put2 .ensures)
 
 -- src/peel.rt:286:9

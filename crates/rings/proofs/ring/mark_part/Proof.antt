@@ -1,4 +1,5 @@
--- `ring::mark_part` meets its contract: all rows lie in the window, so the frame begins at row 0 and ends behind the last row.
+-- `ring::mark_part` meets its contract: all rows lie in the window, so the frame begins at row 0 and ends behind the
+-- last row.
 -- Assumes nothing.
 use native.Mathlib.Omega.{arith}
 use mathlib.Core.Path.{refl}
@@ -29,7 +30,9 @@ slice-aggregate-core-3 c = search needs
 core-requires : tie.Need-core-requires
 core-requires c κs =
     let link = c .before .before .before .before .before .before .link in
-    let pre = c .before .before .before .before .before .before .before .before .before .before .before .before .before .pre in
+    let pre =
+    c .before .before .before .before .before .before .before .before .before .before .before .before .before .pre
+    in
     let whole = pre .0 in
     let asked = whole .asked in (
       ready-of (whole .sound) (linked-later (link .ensures) (omega (arith, whole .from))) (asked .some-k)
@@ -43,8 +46,11 @@ slice-aggregate-mark-rows c = search needs
 mark-rows-requires : tie.Need-mark-rows-requires
 mark-rows-requires c κs =
     let core = c .before .before .before .before .before .core in
-    let link = c .before .before .before .before .before .before .before .before .before .before .before .before .link in
-    let pre = c .before .before .before .before .before .before .before .before .before .before .before .before .before .before .before .before .before .before .before .pre in
+    let link =
+    c .before .before .before .before .before .before .before .before .before .before .before .before .link in
+    let pre =
+    c .before .before .before .before .before .before .before .before .before .before .before .before .before
+    .before .before .before .before .before .before .pre in
     let whole = pre .0 in
     let asked = whole .asked in (
       whole,

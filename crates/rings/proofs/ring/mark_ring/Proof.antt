@@ -1,9 +1,11 @@
--- `ring::mark_ring` meets its contract: days never fall, so the rows of the window are those from lo to end, and their ring among 0s is the whole ring (PartLaws).
+-- `ring::mark_ring` meets its contract: days never fall, so the rows of the window are those from lo to end, and their
+-- ring among 0s is the whole ring (PartLaws).
 -- Assumes nothing.
 use mathlib.Core.Path.{refl, _∙_, ap}
 use Prim.Native.Nat.{ℕ}
 use lib.ListN.{replicate}
-use Rattle.rings.proofs.PartLaws.{part-sound, part-same, room-long, part-room, part-from, part-to, part-members, part-marks}
+use Rattle.rings.proofs.PartLaws.{part-sound, part-same, room-long, part-room, part-from, part-to, part-members}
+use Rattle.rings.proofs.PartLaws.{part-marks}
 use Rattle.rings.proofs.DayLaws.{span-of}
 use borrow.Author.Needs.{needs}
 use Rattle.rings.proofs.ring.mark_ring.Statement.{statement}
@@ -103,7 +105,9 @@ sub-mark-part-3 : tie.Need-sub-mark-part-3
 sub-mark-part-3 c =
     let rows-before2 = c .before .before .before .before .before .before .rows-before2 in
     let rows-before = c .before .before .before .before .before .before .before .rows-before in
-    let pre = c .before .before .before .before .before .before .before .before .before .before .before .before .before .pre in
+    let pre =
+    c .before .before .before .before .before .before .before .before .before .before .before .before .before .pre
+    in
     span-of (pre .1 .0 .ordered) (rows-before .ensures) (rows-before2 .ensures) .ordered
 
 -- src/ring.rt:161:9
@@ -111,7 +115,9 @@ part-mark-part-start-3 : tie.Need-part-mark-part-start-3
 part-mark-part-start-3 c =
     let rows-before2 = c .before .before .before .before .before .before .rows-before2 in
     let rows-before = c .before .before .before .before .before .before .before .rows-before in
-    let pre = c .before .before .before .before .before .before .before .before .before .before .before .before .before .pre in
+    let pre =
+    c .before .before .before .before .before .before .before .before .before .before .before .before .before .pre
+    in
     span-of (pre .1 .0 .ordered) (rows-before .ensures) (rows-before2 .ensures) .ordered
 
 -- src/ring.rt:161:9
@@ -123,7 +129,9 @@ sub-mark-part-4 : tie.Need-sub-mark-part-4
 sub-mark-part-4 c =
     let rows-before2 = c .before .before .before .before .before .before .before .rows-before2 in
     let rows-before = c .before .before .before .before .before .before .before .before .rows-before in
-    let pre = c .before .before .before .before .before .before .before .before .before .before .before .before .before .before .pre in
+    let pre =
+    c .before .before .before .before .before .before .before .before .before .before .before .before .before
+    .before .pre in
     span-of (pre .1 .0 .ordered) (rows-before .ensures) (rows-before2 .ensures) .ordered
 
 -- src/ring.rt:165:9
@@ -131,7 +139,9 @@ part-mark-part-start-4 : tie.Need-part-mark-part-start-4
 part-mark-part-start-4 c =
     let rows-before2 = c .before .before .before .before .before .before .before .rows-before2 in
     let rows-before = c .before .before .before .before .before .before .before .before .rows-before in
-    let pre = c .before .before .before .before .before .before .before .before .before .before .before .before .before .before .pre in
+    let pre =
+    c .before .before .before .before .before .before .before .before .before .before .before .before .before
+    .before .pre in
     span-of (pre .1 .0 .ordered) (rows-before .ensures) (rows-before2 .ensures) .ordered
 
 -- src/ring.rt:165:9
@@ -147,8 +157,12 @@ slice-aggregate-mark-part : tie.Need-slice-aggregate-mark-part
 slice-aggregate-mark-part c =
     let rows-before2 = c .before .before .before .before .before .before .before .before .before .rows-before2 in
     let rows-before = c .before .before .before .before .before .before .before .before .before .before .rows-before in
-    let args = c .before .before .before .before .before .before .before .before .before .before .before .before .before .before .before .before .args in
-    let pre = c .before .before .before .before .before .before .before .before .before .before .before .before .before .before .before .before .pre in
+    let args =
+    c .before .before .before .before .before .before .before .before .before .before .before .before .before
+    .before .before .before .args in
+    let pre =
+    c .before .before .before .before .before .before .before .before .before .before .before .before .before
+    .before .before .before .pre in
     let a = args in
     let o = span-of (pre .1 .0 .ordered) (rows-before .ensures) (rows-before2 .ensures) in room-long (a .days .now)
     (a .first .now) (a .second .now) _ _ (o .ordered) (o .within) (a .scratch .now) (pre .1 .1 .scratch)
@@ -159,16 +173,31 @@ mark-part-requires c κs =
     let clear-marks = c .before .before .before .before .before .before .before .clear-marks in
     let rows-before2 = c .before .before .before .before .before .before .before .before .before .rows-before2 in
     let rows-before = c .before .before .before .before .before .before .before .before .before .before .rows-before in
-    let args = c .before .before .before .before .before .before .before .before .before .before .before .before .before .before .before .before .args in
-    let pre = c .before .before .before .before .before .before .before .before .before .before .before .before .before .before .before .before .pre in
+    let args =
+    c .before .before .before .before .before .before .before .before .before .before .before .before .before
+    .before .before .before .args in
+    let pre =
+    c .before .before .before .before .before .before .before .before .before .before .before .before .before
+    .before .before .before .pre in
     let a = args in
     let l = rows-before in
     let r = rows-before2 in
     let o = span-of (pre .1 .0 .ordered) (l .ensures) (r .ensures) in (
-      record
-          { sound = part-sound _ _ _ _ _ (o .ordered) (o .within) (pre .0); asked = pre .1 .0; lo = refl; from = part-from _ (a .first .now) (a .second .now) _ _ (o .ordered) (o .within) (l .ensures); to = part-to _ (a .first .now) (a .second .now) _ _ (o .ordered) (o .within) (r .ensures) },
-      record
-          { marks = part-same _ (a .first .now) (a .second .now) _ _ (o .ordered) (o .within) (clear-marks .ensures) (pre .1 .1 .marks); scratch = part-room _ (a .first .now) (a .second .now) _ _ (o .ordered) (o .within) (a .scratch .now) (pre .1 .1 .scratch) },
+      record {
+        sound = part-sound _ _ _ _ _ (o .ordered) (o .within) (pre .0);
+        asked = pre .1 .0;
+        lo = refl;
+        from = part-from _ (a .first .now) (a .second .now) _ _ (o .ordered) (o .within) (l .ensures);
+        to = part-to _ (a .first .now) (a .second .now) _ _ (o .ordered) (o .within) (r .ensures);
+      },
+      record {
+        marks =
+            part-same _ (a .first .now) (a .second .now) _ _ (o .ordered) (o .within) (clear-marks .ensures)
+            (pre .1 .1 .marks);
+        scratch =
+            part-room _ (a .first .now) (a .second .now) _ _ (o .ordered) (o .within) (a .scratch .now)
+            (pre .1 .1 .scratch);
+      },
     )
 
 -- src/ring.rt:168:5
@@ -189,17 +218,34 @@ returns c =
     let clear = c .before .before .clear in
     let scratch = c .before .before .before .before .before .scratch in
     let mark-part = c .before .before .before .before .before .before .before .before .mark-part in
-    let clear-marks = c .before .before .before .before .before .before .before .before .before .before .before .before .before .before .before .before .clear-marks in
-    let rows-before2 = c .before .before .before .before .before .before .before .before .before .before .before .before .before .before .before .before .before .before .rows-before2 in
-    let rows-before = c .before .before .before .before .before .before .before .before .before .before .before .before .before .before .before .before .before .before .before .rows-before in
-    let args = c .before .before .before .before .before .before .before .before .before .before .before .before .before .before .before .before .before .before .before .before .before .before .before .before .before .args in
-    let pre = c .before .before .before .before .before .before .before .before .before .before .before .before .before .before .before .before .before .before .before .before .before .before .before .before .before .pre in
+    let clear-marks =
+    c .before .before .before .before .before .before .before .before .before .before .before .before .before
+    .before .before .before .clear-marks in
+    let rows-before2 =
+    c .before .before .before .before .before .before .before .before .before .before .before .before .before
+    .before .before .before .before .before .rows-before2 in
+    let rows-before =
+    c .before .before .before .before .before .before .before .before .before .before .before .before .before
+    .before .before .before .before .before .before .rows-before in
+    let args =
+    c .before .before .before .before .before .before .before .before .before .before .before .before .before
+    .before .before .before .before .before .before .before .before .before .before .before .before .args in
+    let pre =
+    c .before .before .before .before .before .before .before .before .before .before .before .before .before
+    .before .before .before .before .before .before .before .before .before .before .before .before .pre in
     let a = args in
     let l = rows-before in
     let r = rows-before2 in
     let o = span-of (pre .1 .0 .ordered) (l .ensures) (r .ensures) in record {
-      marked = record
-          { number = part-members (a .days .now) (a .first .now) (a .second .now) (l .result) (r .result) (o .ordered) (o .within) (a .query) (a .start) (a .stop) (l .ensures) (r .ensures) (mark-part .ensures .number); marks = part-marks (a .days .now) (a .first .now) (a .second .now) (l .result) (r .result) (o .ordered) (o .within) (a .query) (a .start) (a .stop) (l .ensures) (r .ensures) (clear-marks .ensures) (pre .1 .1 .marks) (mark-part .ensures .marks) };
+      marked = record {
+        number =
+            part-members (a .days .now) (a .first .now) (a .second .now) (l .result) (r .result) (o .ordered)
+            (o .within) (a .query) (a .start) (a .stop) (l .ensures) (r .ensures) (mark-part .ensures .number);
+        marks =
+            part-marks (a .days .now) (a .first .now) (a .second .now) (l .result) (r .result) (o .ordered)
+            (o .within) (a .query) (a .start) (a .stop) (l .ensures) (r .ensures) (clear-marks .ensures)
+            (pre .1 .1 .marks) (mark-part .ensures .marks);
+      };
       cleared = clear .ensures ∙ ap (λ (m : ℕ). replicate {A = ℕ} m 0) (scratch .given .1);
     }
 

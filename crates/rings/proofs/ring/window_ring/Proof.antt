@@ -37,7 +37,13 @@ mark-ring-requires c κs =
     let accepted = sym (check-call .ensures) ∙ enum-told .given .1 in let window = window-e (args .s) (args .e)
     (is-window .ensures) (call-window _ _ _ _ _ _ _ accepted) in (
       call-sound _ _ _ _ _ _ _ accepted,
-      (record { some-k = call-k _ _ _ _ _ _ _ accepted .0; ordered = window .1; last-day = window .2 }, record { marks = eqb-true _ _ (call-lengths _ _ _ _ _ _ _ accepted); scratch = call-scratch _ _ _ _ _ _ _ accepted }),
+      (
+        record { some-k = call-k _ _ _ _ _ _ _ accepted .0; ordered = window .1; last-day = window .2 },
+        record {
+          marks = eqb-true _ _ (call-lengths _ _ _ _ _ _ _ accepted);
+          scratch = call-scratch _ _ _ _ _ _ _ accepted;
+        },
+      ),
     )
 
 -- src/ring.rt:89:1
@@ -65,7 +71,9 @@ returns-2 c =
     let enum-told = c .before .before .before .before .before .before .before .enum-told in
     let check-call = c .before .before .before .before .before .before .before .before .before .check-call in
     let is-window = c .before .before .before .before .before .before .before .before .before .before .is-window in
-    let args = c .before .before .before .before .before .before .before .before .before .before .before .before .before .before .before .before .args in
+    let args =
+    c .before .before .before .before .before .before .before .before .before .before .before .before .before
+    .before .before .before .args in
     ring-done _ _ _ _ (args .marks .now) (args .scratch .now) (is-window .ensures)
     (sym (check-call .ensures) ∙ enum-told .given .1) (mark-ring .ensures .marked .number)
     (mark-ring .ensures .marked .marks) (mark-ring .ensures .cleared)

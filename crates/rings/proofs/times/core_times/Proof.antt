@@ -1,6 +1,7 @@
 use lib.ListN.{length}
 use Rattle.rings.proofs.CallLaws.{times-refused, times-done}
-use Rattle.rings.proofs.AcceptedLaws.{call-sound, call-k, call-window, call-lengths, call-scratch, start-e, lengths-e}
+use Rattle.rings.proofs.AcceptedLaws.{call-sound, call-k, call-window, call-lengths, call-scratch, start-e}
+use Rattle.rings.proofs.AcceptedLaws.{lengths-e}
 use mathlib.Core.Path.{_∙_, sym}
 use borrow.Author.Needs.{needs}
 use Rattle.rings.proofs.times.core_times.Statement.{statement}
@@ -39,13 +40,18 @@ find-times-requires c κs =
     let check-call = c .before .before .before .before .before .check-call in
     let are-equal = c .before .before .before .before .before .before .are-equal in
     let is-start = c .before .before .before .before .before .before .before .is-start in
-    let args = c .before .before .before .before .before .before .before .before .before .before .before .before .before .before .args in
+    let args =
+    c .before .before .before .before .before .before .before .before .before .before .before .before .before
+    .before .args in
     let accepted = sym (check-call .ensures) ∙ enum-told .given .1 in let window = start-e (args .ts) (args .s)
     (args .te) (is-start .ensures) (call-window _ _ _ _ _ _ _ accepted) in let lengths = lengths-e
     (length (args .accounts .now)) 4096 (length (args .rows .now)) (length (args .days .now)) (are-equal .ensures)
     (call-lengths _ _ _ _ _ _ _ accepted) in (
       call-sound _ _ _ _ _ _ _ accepted,
-      (record { some-k = call-k _ _ _ _ _ _ _ accepted .0; ordered = window .0; last-day = window .1 }, record { accounts = lengths .0; rows = lengths .1; scratch = call-scratch _ _ _ _ _ _ _ accepted }),
+      (
+        record { some-k = call-k _ _ _ _ _ _ _ accepted .0; ordered = window .0; last-day = window .1 },
+        record { accounts = lengths .0; rows = lengths .1; scratch = call-scratch _ _ _ _ _ _ _ accepted },
+      ),
     )
 
 -- src/times.rt:81:1
@@ -55,7 +61,8 @@ returns c =
     let check-call = c .before .before .before .check-call in
     let are-equal = c .before .before .before .before .are-equal in
     let is-start = c .before .before .before .before .before .is-start in
-    let args = c .before .before .before .before .before .before .before .before .before .before .before .before .args in
+    let args =
+    c .before .before .before .before .before .before .before .before .before .before .before .before .args in
     times-refused _ _ _ _ _ (args .accounts .now) (args .rows .now) (args .scratch .now) (is-start .ensures)
     (are-equal .ensures) (sym (check-call .ensures) ∙ found .given .1)
 
@@ -76,10 +83,17 @@ returns-2 : tie.Need-returns-2
 returns-2 c =
     let find-times = c .before .before .before .before .before .before .find-times in
     let enum-told = c .before .before .before .before .before .before .before .before .before .before .enum-told in
-    let check-call = c .before .before .before .before .before .before .before .before .before .before .before .before .check-call in
-    let are-equal = c .before .before .before .before .before .before .before .before .before .before .before .before .before .are-equal in
-    let is-start = c .before .before .before .before .before .before .before .before .before .before .before .before .before .before .is-start in
-    let args = c .before .before .before .before .before .before .before .before .before .before .before .before .before .before .before .before .before .before .before .before .before .args in
+    let check-call =
+    c .before .before .before .before .before .before .before .before .before .before .before .before .check-call in
+    let are-equal =
+    c .before .before .before .before .before .before .before .before .before .before .before .before
+    .before .are-equal in
+    let is-start =
+    c .before .before .before .before .before .before .before .before .before .before .before .before .before
+    .before .is-start in
+    let args =
+    c .before .before .before .before .before .before .before .before .before .before .before .before .before
+    .before .before .before .before .before .before .before .before .args in
     times-done _ _ _ _ _ (args .accounts .now) (args .rows .now) (args .scratch .now) (is-start .ensures)
     (are-equal .ensures) (sym (check-call .ensures) ∙ enum-told .given .1) (find-times .ensures .accounts)
     (find-times .ensures .rows) (find-times .ensures .cleared)

@@ -37,7 +37,9 @@ move-heads-requires : tie.Need-move-heads-requires
 move-heads-requires c κs =
     let link = c .before .before .before .link in
     let rows-before = c .before .before .before .before .before .before .rows-before in
-    let pre = c .before .before .before .before .before .before .before .before .before .before .before .before .before .pre in
+    let pre =
+    c .before .before .before .before .before .before .before .before .before .before .before .before .before .pre
+    in
     heads-on (pre .0) (link .ensures) (rows-before .ensures)
 
 -- src/times.rt:131:9
@@ -52,21 +54,37 @@ slice-aggregate-peel-2 c = search needs
 peel-requires : tie.Need-peel-requires
 peel-requires c κs =
     let move-heads = c .before .before .before .before .before .before .move-heads in
-    let rows-before2 = c .before .before .before .before .before .before .before .before .before .before .before .before .rows-before2 in
-    let rows-before = c .before .before .before .before .before .before .before .before .before .before .before .before .before .rows-before in
-    let pre = c .before .before .before .before .before .before .before .before .before .before .before .before .before .before .before .before .before .before .before .before .pre in
+    let rows-before2 =
+    c .before .before .before .before .before .before .before .before .before .before .before .before .rows-before2
+    in
+    let rows-before =
+    c .before .before .before .before .before .before .before .before .before .before .before .before
+    .before .rows-before in
+    let pre =
+    c .before .before .before .before .before .before .before .before .before .before .before .before .before
+    .before .before .before .before .before .before .before .pre in
     let asked = pre .1 .0 in (
       ready-of (pre .0) (move-heads .ensures .linked) (asked .some-k) (asked .last-day) (rows-before .ensures),
-      (span-of (asked .ordered) (rows-before .ensures) (rows-before2 .ensures), record { times = pre .1 .1 .accounts; left = refl; queue = omega arith }),
+      (
+        span-of (asked .ordered) (rows-before .ensures) (rows-before2 .ensures),
+        record { times = pre .1 .1 .accounts; left = refl; queue = omega arith },
+      ),
     )
 
 -- src/times.rt:134:5
 time-rows-requires : tie.Need-time-rows-requires
 time-rows-requires c κs =
     let peel = c .before .before .before .before .before .before .peel in
-    let rows-before2 = c .before .before .before .before .before .before .before .before .before .before .before .before .before .before .before .before .before .before .before .rows-before2 in
-    let rows-before = c .before .before .before .before .before .before .before .before .before .before .before .before .before .before .before .before .before .before .before .before .rows-before in
-    let pre = c .before .before .before .before .before .before .before .before .before .before .before .before .before .before .before .before .before .before .before .before .before .before .before .before .before .before .before .pre in
+    let rows-before2 =
+    c .before .before .before .before .before .before .before .before .before .before .before .before .before
+    .before .before .before .before .before .before .rows-before2 in
+    let rows-before =
+    c .before .before .before .before .before .before .before .before .before .before .before .before .before
+    .before .before .before .before .before .before .before .rows-before in
+    let pre =
+    c .before .before .before .before .before .before .before .before .before .before .before .before .before
+    .before .before .before .before .before .before .before .before .before .before .before .before .before
+    .before .pre in
     let asked = pre .1 .0 in (
       framed-of (pre .0) (asked .some-k) (asked .last-day) (rows-before .ensures),
       (span-of (asked .ordered) (rows-before .ensures) (rows-before2 .ensures), (peel .ensures, pre .1 .1 .rows)),
@@ -93,9 +111,15 @@ returns : tie.Need-returns
 returns c =
     let clear = c .before .before .clear in
     let time-rows = c .before .before .before .before .before .before .time-rows in
-    let peel = c .before .before .before .before .before .before .before .before .before .before .before .before .before .peel in
-    let move-heads = c .before .before .before .before .before .before .before .before .before .before .before .before .before .before .before .before .before .before .before .before .move-heads in
-    let link = c .before .before .before .before .before .before .before .before .before .before .before .before .before .before .before .before .before .before .before .before .before .before .before .before .link in
+    let peel =
+    c .before .before .before .before .before .before .before .before .before .before .before .before .before .peel
+    in
+    let move-heads =
+    c .before .before .before .before .before .before .before .before .before .before .before .before .before
+    .before .before .before .before .before .before .before .move-heads in
+    let link =
+    c .before .before .before .before .before .before .before .before .before .before .before .before .before
+    .before .before .before .before .before .before .before .before .before .before .before .link in
     record {
       accounts = accounts-are (peel .ensures);
       rows = time-rows .ensures;

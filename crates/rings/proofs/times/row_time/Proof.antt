@@ -87,7 +87,9 @@ returns-3 c =
     let entry = c .before .before .before .before .before .before .entry in
     let if2 = c .before .before .before .before .before .before .before .if2 in
     let if1 = c .before .before .before .before .before .before .before .before .if1 in
-    let pre = c .before .before .before .before .before .before .before .before .before .before .before .before .before .before .pre in
+    let pre =
+    c .before .before .before .before .before .before .before .before .before .before .before .before .before
+    .before .pre in
     row-mid _ _ _ _ (pre .0) (pre .1 .0) (pre .1 .1 .0) (pre .1 .1 .1) (if1 .left) (if2 .left) (entry .ensures)
     (entry2 .ensures) (greater .ensures) (c .greater2 .ensures)
 

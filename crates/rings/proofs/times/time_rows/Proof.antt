@@ -12,7 +12,9 @@ use Rattle.rings.proofs.times.time_rows.Lts as lts
 use Rattle.rings.proofs.times.row_time.Reads as row-time-reads
 
 abbrev Inv-loop : tie.InvT-loop
-Inv-loop days first second frame end times rows₀ j₀ rows j = (j ≤ length days) × Filled (rowTime (tableOf days first second) (frame .query) (frame .stop) (frame .start)) j rows₀ rows
+Inv-loop days first second frame end times rows₀ j₀ rows j =
+    (j ≤ length days) × Filled (rowTime (tableOf days first second) (frame .query) (frame .stop) (frame .start))
+    j rows₀ rows
 
 abbrev μ-loop : tie.MeasureT-loop
 μ-loop days first second frame end times rows₀ j₀ rows j = length days - j
