@@ -29,6 +29,7 @@ use Rattle.rings.specs.Table.{Table, tableOf, size, dayOf, firstOf, seco
 use Rattle.rings.specs.Ring.{touches}
 use Rattle.rings.specs.Sound.{Sound}
 use Rattle.rings.specs.Inner.Links.{pickOther, otherOf, rank, placeOf, fresh, Pairs, Linked, Ahead}
+use Rattle.rings.specs.Inner.Peeling.{EarlierStands}
 use Rattle.rings.specs.Inner.Incident.{RowStands, RowRead}
 use Rattle.rings.proofs.WordLaws.{look}
 use Rattle.rings.proofs.RingLaws.{touch-cases}
@@ -41,8 +42,8 @@ module _ (d f s : List ℕ) (S : Sound d f s) {j : ℕ} (l : j < length d) where
       → y ≡ (leb lo j and leb (getD links (8192 + 2 * length d + j) 0) lo) → y ≡ fresh (tableOf d f s) lo j
   fresh-reads lo links P h = fresh-test (tableOf d f s) lo j (P j l) h
 
-  pub fresh-place : (links : List ℕ) → 8192 + 4 * length d ≤ length links → (length d ≤ 16384) × (j < length d) × (8192 + 2 * length d + j < length links)
-  fresh-place links long = (S .most, l, omega arith)
+  pub fresh-place : (links : List ℕ) → 8192 + 4 * length d ≤ length links → EarlierStands links (length d) j
+  fresh-place links long = record { most = S .most; row = l; place = omega arith }
 
   module _ (u : ℕ) (h : touches (tableOf d f s) j u ≡ true) {a c : ℕ} (ea : a ≡ getD f j 0) (ec : c ≡ getD s j 0) where
     -- u is one of its accounts
@@ -161,7 +162,7 @@ module _ (d f s links : List ℕ) (S : Sound d f s) {day : ℕ} (L : Linked (tab
         pub along-fresh : (lo : ℕ) {y : Bool} → y ≡ (leb lo j and leb (getD links (8192 + 2 * length d + j) 0) lo) → y ≡ fresh t lo j
         along-fresh lo h = fresh-reads d f s S along-row lo links (L .pairs) h
 
-        pub along-fresh-place : (length d ≤ 16384) × (j < length d) × (8192 + 2 * length d + j < length links)
+        pub along-fresh-place : EarlierStands links (length d) j
         along-fresh-place = fresh-place d f s S along-row links (L .long)
 
         -- u is one of its accounts

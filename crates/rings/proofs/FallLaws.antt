@@ -23,7 +23,7 @@ use lib.ListN.{length, getD, set, length-set, List·getD-eq-default}
 use lib.Seq.{getD-set-same, getD-set-other}
 use lib.Dec.{leb, ltb, eqb}
 use borrow.Author.Tests.{leb-true, leb-false, ltb-true, lt-ltb, eqb-true, eqb-false, eq-eqb, ne-eqb}
-use Rattle.rings.specs.Words.{_and_, _or_, no, at, count}
+use Rattle.rings.specs.Words.{_and_, _or_, no, count}
 use Rattle.rings.specs.Table.{Table, size, dayOf, firstOf, secondOf}
 use Rattle.rings.specs.Ring.{joins, neighbour, names, degree, touches, met, ring}
 use Rattle.rings.specs.CoreTimes.{never, accountTime}

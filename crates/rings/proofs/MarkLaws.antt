@@ -9,7 +9,7 @@ use native.Mathlib.Nat.{eq-or-lt-of-le, not-suc-le-zero}
 use native.Mathlib.Numerals.{add-one}
 use native.Mathlib.Omega.{arith}
 use mathlib.Core.Path.{_≡_, refl, sym, _∙_, ap, subst}
-use mathlib.Core.Logic.{_⊎_, ⊎-elim}
+use mathlib.Core.Logic.{⊎-elim}
 use mathlib.Core.Bool.{Bool, true, false}
 use mathlib.Core.List.{List, map}
 use lib.ListN.{length, getD, set, length-set, length-map, List·getD-map}
@@ -28,6 +28,7 @@ use Rattle.rings.specs.declared.frame.Frame.{Frame}
 use Rattle.rings.specs.declared.peel.Removal.{Removal}
 use Rattle.rings.proofs.WordLaws.{and-i, and-l, and-r, same-truth, tally-yes, tally-no, count-same}
 use Rattle.rings.proofs.RingLaws.{ring-sized, in-marked, marked-in, met-first, met-second}
+use Rattle.rings.proofs.LinkLaws.{first-small, second-small}
 use Rattle.rings.proofs.LeadLaws.{Opens, day-opens, opens-ring}
 use Rattle.rings.proofs.FallLaws.{fell-look, stays-met, fell-not}
 
@@ -122,10 +123,10 @@ module _ (d f s : List ℕ) (q : Frame) where
 
   module _ (W : WholeWindow d f s q) {x : List ℕ} (M : Remaining t q x) (j : ℕ) (b : j < length d) where
     rank-a : getD f j 0 < 4096
-    rank-a = let y = W .sound .rows j b in let z = y .accounts in let k = y .account-to in omega arith
+    rank-a = first-small (W .sound) b refl
 
     rank-b : getD s j 0 < 4096
-    rank-b = let k = W .sound .rows j b .account-to in omega arith
+    rank-b = second-small (W .sound) b refl
 
     pub stays-place : RowAccounts f s x j
     stays-place =

@@ -25,6 +25,7 @@ use Rattle.rings.specs.Ring.{touches}
 use Rattle.rings.specs.CoreTimes.{never}
 use Rattle.rings.specs.Sound.{Sound}
 use Rattle.rings.specs.Inner.Links.{pickOther, otherOf, rank, placeOf, fresh, Linked, Shelf, Shelves, Stands, Reading, Every, Covered}
+use Rattle.rings.specs.Inner.Peeling.{EarlierStands}
 use Rattle.rings.specs.Inner.Incident.{RowStands}
 use Rattle.rings.proofs.WordLaws.{look}
 use Rattle.rings.proofs.AlongLaws.{fresh-reads, fresh-place, row-ends, row-other}
@@ -136,7 +137,7 @@ module _ (d f s links : List ℕ) (S : Sound d f s) (L : Shelves (tableOf d f s)
         pub reading-fresh : (lo : ℕ) {y : Bool} → y ≡ (leb lo j and leb (getD links (8192 + 2 * length d + j) 0) lo) → y ≡ fresh t lo j
         reading-fresh lo h = fresh-reads d f s S reading-row lo links (L .pairs) h
 
-        pub reading-fresh-place : (length d ≤ 16384) × (j < length d) × (8192 + 2 * length d + j < length links)
+        pub reading-fresh-place : EarlierStands links (length d) j
         reading-fresh-place = fresh-place d f s S reading-row links (L .long)
 
         -- u is one of its accounts

@@ -10,7 +10,6 @@
 -- Assumes nothing.
 use Prim.Native.Nat.{ℕ, zero, suc, _+_, _-_, _*_, _≤_, _<_}
 use native.Mathlib.Nat.{le-refl, le-antisymm, eq-or-lt-of-le, not-suc-le-zero}
-use native.Mathlib.Numerals.{add-one}
 use native.Mathlib.Omega.{arith}
 use mathlib.Core.Path.{_≡_, refl, sym, _∙_, ap, subst}
 use mathlib.Core.Logic.{_⊎_, ⊎-elim}
@@ -18,19 +17,20 @@ use mathlib.Core.Bool.{Bool, true, false}
 use mathlib.Core.List.{List}
 use lib.ListN.{length, getD, set, replicate, length-set, length-replicate, getD-replicate}
 use lib.Seq.{getD-set-same, getD-set-other}
-use lib.Dec.{leb, ltb, eqb}
+use lib.Dec.{ltb, eqb}
 use borrow.Author.Tests.{ltb-true, lt-ltb, eq-eqb, ne-eqb}
 use Rattle.rings.specs.Words.{_and_, no, at, count}
 use Rattle.rings.specs.Table.{Table, tableOf, dayOf, firstOf, secondOf}
 use Rattle.rings.specs.Ring.{touches, query}
 use Rattle.rings.specs.CoreTimes.{never}
 use Rattle.rings.specs.Inner.Links.{fresh}
-use Rattle.rings.specs.Inner.Peeling.{PeelBuffers, Losable, Lost, fallen, Fall, nothing, Ready, Counted, Span, CoreTimesAre}
+use Rattle.rings.specs.Inner.Peeling.{EarlierStands, freshBy, PeelBuffers, Losable, Lost, fallen, Fall, nothing, Ready, Counted, Span, CoreTimesAre}
 use Rattle.rings.specs.Inner.Peeling.{allRows, Falling, Continues, HeadWalked, QueueEmpty, Fade, RowLeaves, RowLeft}
 use Rattle.rings.specs.declared.frame.Frame.{Frame}
 use Rattle.rings.specs.declared.peel.Removal.{Removal}
 use Rattle.rings.proofs.WordLaws.{look, clash, and-i, and-l, and-r, no-i, no-e, same-truth, count-same, count-none, count-pos, count-le, same-or}
 use Rattle.rings.proofs.RingLaws.{touch-cases, touch-first, touch-second}
+use Rattle.rings.proofs.LinkLaws.{first-small, second-small}
 use Rattle.rings.proofs.PairLaws.{count-drop}
 use Rattle.rings.proofs.LeadLaws.{fresh-from, fresh-test}
 use Rattle.rings.proofs.FallLaws.{fell-look, room, times-fall, queue-fall, fall-lower, leave-stale, leave-fell, leave-first-one, leave-second-one}
@@ -155,20 +155,17 @@ module _ (d f s links : List ℕ) (q : Frame) (R : Ready d f s links q) where
     e-day = omega arith
 
     -- what `is_fresh` answers
-    fresh-is : {y : Bool} → y ≡ (leb (q .lo) j and leb (getD links (8192 + 2 * length d + j) 0) (q .lo)) → fresh t (q .lo) j ≡ y
+    fresh-is : {y : Bool} → y ≡ freshBy links (length d) (q .lo) j → fresh t (q .lo) j ≡ y
     fresh-is h = sym (fresh-test t (q .lo) j (R .linked .pairs j b) h)
 
-    a-small : getD f j 0 < 4096
-    a-small = let y = R .sound .rows j b in let z = y .accounts in let k = y .account-to in omega arith
-
-    b-small : getD s j 0 < 4096
-    b-small = let k = R .sound .rows j b .account-to in omega arith
-
-    pub leave-place : (length d ≤ 16384) × (j < length d) × (8192 + 2 * length d + j < length links)
-    leave-place = let a = R .linked .long in (R .sound .most, b, omega (arith, b))
+    pub leave-place : EarlierStands links (length d) j
+    leave-place = record { most = R .sound .most; row = b; place = let a = R .linked .long in omega (arith, b) }
 
     pub leave-accounts : {a c : ℕ} → a ≡ getD f j 0 → c ≡ getD s j 0 → (a < length x) × (c < length x)
-    leave-accounts ea ec = let y = a-small in let z = b-small in let n = L .fade .state .buffers .times in (omega arith, omega arith)
+    leave-accounts ea ec =
+        let y = first-small (R .sound) b ea in
+        let z = second-small (R .sound) b ec in
+        let n = L .fade .state .buffers .times in (omega arith, omega arith)
 
     -- the row has left: nobody waits after that
     pub leave-left : {r n : Removal} {x′ l′ w′ : List ℕ} → n .day ≡ e → n .end ≡ j → QueueEmpty d f s q n r x′ l′ w′ → RowLeft d f s q m r x′ l′ w′
@@ -193,7 +190,7 @@ module _ (d f s links : List ℕ) (q : Frame) (R : Ready d f s links q) where
         leave-left {n = record { day = e; end = j; head = tail; tail = tail }} refl refl
         (record { goes-on = record { state = F; day = refl; end = refl }; idle = refl })
 
-    pub leave-old : {y : Bool} → y ≡ (leb (q .lo) j and leb (getD links (8192 + 2 * length d + j) 0) (q .lo)) → y ≡ false
+    pub leave-old : {y : Bool} → y ≡ freshBy links (length d) (q .lo) j → y ≡ false
         → RowLeft d f s q m (record { day = e; end = j; head = tail; tail = tail }) x l w
     leave-old h g = gone (leave-stale t q (R .setting) G e-day (fresh-is h ∙ g))
 
@@ -209,7 +206,7 @@ module _ (d f s links : List ℕ) (q : Frame) (R : Ready d f s links q) where
     leave-b-fell {c} {v} ec ev n =
         gone (leave-fell t q (R .setting) G e-day b c (subst (λ (g : ℕ). touches t j g ≡ true) (sym ec) (touch-second t j)) (λ z. n (ev ∙ z)))
 
-    module _ {y : Bool} (ey : y ≡ (leb (q .lo) j and leb (getD links (8192 + 2 * length d + j) 0) (q .lo))) (yes : y ≡ true)
+    module _ {y : Bool} (ey : y ≡ freshBy links (length d) (q .lo) j) (yes : y ≡ true)
         {a c va vc : ℕ} (ea : a ≡ getD f j 0) (ec : c ≡ getD s j 0) (va-is : va ≡ getD x a 0) (vc-is : vc ≡ getD x c 0) (za : va ≡ 0) (zc : vc ≡ 0) where
       f-is : fresh t (q .lo) j ≡ true
       f-is = fresh-is ey ∙ yes
@@ -326,36 +323,30 @@ module _ (d f s links : List ℕ) (q : Frame) (R : Ready d f s links q) where
     pub count-below : j < length d
     count-below = let a = Sp .within in omega arith
 
-    row-a : getD f j 0 < 4096
-    row-a = let y = R .sound .rows j count-below in let z = y .accounts in let k = y .account-to in omega arith
-
-    row-b : getD s j 0 < 4096
-    row-b = let k = R .sound .rows j count-below .account-to in omega arith
-
-    fresh-of : {y : Bool} → y ≡ (leb (q .lo) j and leb (getD links (8192 + 2 * length d + j) 0) (q .lo)) → fresh t (q .lo) j ≡ y
+    fresh-of : {y : Bool} → y ≡ freshBy links (length d) (q .lo) j → fresh t (q .lo) j ≡ y
     fresh-of h = sym (fresh-test t (q .lo) j (R .linked .pairs j count-below) h)
 
-    pub count-place : (length d ≤ 16384) × (j < length d) × (8192 + 2 * length d + j < length links)
-    count-place = let a = R .linked .long in let b = count-below in (R .sound .most, b, omega arith)
+    pub count-place : EarlierStands links (length d) j
+    count-place = record { most = R .sound .most; row = count-below; place = let a = R .linked .long in let b = count-below in omega arith }
 
     small-count : (u : ℕ) → u < 4096 → getD l u 0 ≤ 16384
     small-count u k = let a = C .rows u k in let b = count-le (counts-for j u) (length d) in let c = R .sound .most in omega arith
 
     pub count-first : {a m : ℕ} → a ≡ getD f j 0 → m ≡ getD l a 0 → (a < length l) × (m ≤ 16384)
-    count-first {a} {m} ea em = let k : a < 4096 = subst (λ (c : ℕ). c < 4096) (sym ea) row-a in let n = C .long in
+    count-first {a} {m} ea em = let k = first-small (R .sound) count-below ea in let n = C .long in
         (omega arith, subst (λ (c : ℕ). c ≤ 16384) (sym em) (small-count a k))
 
     pub count-second : {l₁ : List ℕ} {a b m n : ℕ} → a ≡ getD f j 0 → b ≡ getD s j 0 → m ≡ getD l a 0 → l₁ ≡ set l a (m + 1) → n ≡ getD l₁ b 0
         → (b < length l₁) × (n ≤ 16384)
     count-second {l₁} {a} {b} {m} {n} ea eb em e₁ en =
-        let k : b < 4096 = subst (λ (c : ℕ). c < 4096) (sym eb) row-b in
+        let k = second-small (R .sound) count-below eb in
         let x : length l₁ ≡ length l = ap length e₁ ∙ length-set l a (m + 1) in
         let o = C .long in
         let y : n ≡ getD l b 0 = en
         ∙ (ap (λ (c : List ℕ). getD c b 0) e₁ ∙ getD-set-other l a b (m + 1) 0 (λ z. let g = R .sound .rows j count-below .accounts in omega arith)) in
         (omega arith, subst (λ (c : ℕ). c ≤ 16384) (sym y) (small-count b k))
 
-    pub count-skip : {y : Bool} → y ≡ (leb (q .lo) j and leb (getD links (8192 + 2 * length d + j) 0) (q .lo)) → y ≡ false → Counting d f s q (j + 1) end l₀ l
+    pub count-skip : {y : Bool} → y ≡ freshBy links (length d) (q .lo) j → y ≡ false → Counting d f s q (j + 1) end l₀ l
     count-skip h n =
         record {
           lengths = K .lengths;
@@ -363,7 +354,7 @@ module _ (d f s links : List ℕ) (q : Frame) (R : Ready d f s links q) where
           counted = record { long = C .long; rows = λ u k. C .rows u k ∙ sym (counts-still j u (_⊎_.inl (fresh-of h ∙ n))) };
         }
 
-    pub count-row : {y : Bool} → y ≡ (leb (q .lo) j and leb (getD links (8192 + 2 * length d + j) 0) (q .lo)) → y ≡ true → {l₁ l₂ : List ℕ} {a b m n : ℕ}
+    pub count-row : {y : Bool} → y ≡ freshBy links (length d) (q .lo) j → y ≡ true → {l₁ l₂ : List ℕ} {a b m n : ℕ}
         → a ≡ getD f j 0 → b ≡ getD s j 0 → m ≡ getD l a 0 → l₁ ≡ set l a (m + 1) → n ≡ getD l₁ b 0 → l₂ ≡ set l₁ b (n + 1) → Counting d f s q (j + 1) end l₀ l₂
     unfolding firstOf secondOf at
     count-row h y {l₁} {l₂} {a} {b} {m} {n} ea eb em e₁ en e₂ =

@@ -19,16 +19,17 @@ use Rattle.rings.specs.Inner.Links.{openDay}
 use Rattle.rings.specs.Inner.Peeling.{Framed, Span, CoreTimesAre}
 use Rattle.rings.specs.declared.frame.Frame.{Frame}
 use Rattle.rings.proofs.WordLaws.{length-run, getD-run}
+use Rattle.rings.proofs.LinkLaws.{first-small, second-small}
 use Rattle.rings.proofs.LeadLaws.{counts-here, open-is, day-opens, row-opens}
 use Rattle.rings.proofs.CoreTimeLaws.{row-before, row-after}
 
 module _ (d f s : List ℕ) (q : Frame) (R : Framed d f s q) {end : ℕ} (Sp : Span d (q .stop) (q .lo) end) {x : List ℕ} (C : CoreTimesAre d f s q x) {j : ℕ}
     (b : j < length d) where
   a-small : getD f j 0 < 4096
-  a-small = let y = R .sound .rows j b in let z = y .accounts in let k = y .account-to in omega arith
+  a-small = first-small (R .sound) b refl
 
   b-small : getD s j 0 < 4096
-  b-small = let k = R .sound .rows j b .account-to in omega arith
+  b-small = second-small (R .sound) b refl
 
   pub row-early : j < q .lo → never ≡ rowTime (tableOf d f s) (q .query) (q .stop) (q .start) j
   row-early h = sym (row-before (tableOf d f s) (q .query) (q .stop) (q .start) j (R .setting .before-lo j h))

@@ -3,7 +3,7 @@
 --     head-small, head-place, at-small, at-start      before the loop
 --     at-place, at-few, row-below, at-stop, at-fresh-yes, at-fresh-no, at-fresh-place, at-ends, at-room, at-lose, at-skip, at-out     the loop's laws
 -- Assumes nothing.
-use Prim.Native.Nat.{ℕ, suc, _+_, _-_, _*_, _≤_, _<_}
+use Prim.Native.Nat.{ℕ, suc, _+_, _*_, _≤_, _<_}
 use native.Mathlib.Nat.{le-trans}
 use native.Mathlib.Omega.{arith}
 use mathlib.Core.Path.{_≡_, refl, sym, _∙_, ap, subst}
@@ -16,7 +16,7 @@ use Rattle.rings.specs.Words.{_and_}
 use Rattle.rings.specs.Table.{Table, tableOf}
 use Rattle.rings.specs.Ring.{touches, query}
 use Rattle.rings.specs.Inner.Links.{pickOther, otherOf, placeOf, fresh}
-use Rattle.rings.specs.Inner.Peeling.{Losable, Lost, Fall, Walk, nothing, Ready, HeadWaits, HeadWalked}
+use Rattle.rings.specs.Inner.Peeling.{EarlierStands, freshBy, Losable, Lost, Fall, Walk, nothing, Ready, HeadWaits, HeadWalked}
 use Rattle.rings.specs.declared.frame.Frame.{Frame}
 use Rattle.rings.specs.declared.peel.Removal.{Removal}
 use Rattle.rings.proofs.WordLaws.{look}
@@ -115,19 +115,19 @@ module _ (d f s links : List ℕ) (q : Frame) (R : Ready d f s links q) where
           pub at-stop : m .end ≤ j → HeadWalked d f s q m (record { day = m .day; end = m .end; head = m .head + 1; tail = tail }) x l w
           at-stop h = walked (walk-end t q (R .setting) (A .state) (λ i a c k. row-none i a (le-trans c h)))
 
-          at-fresh : {b : Bool} → b ≡ (leb (q .lo) j and leb (getD links (8192 + 2 * length d + j) 0) (q .lo)) → b ≡ fresh t (q .lo) j
+          at-fresh : {b : Bool} → b ≡ freshBy links (length d) (q .lo) j → b ≡ fresh t (q .lo) j
           at-fresh h = along-fresh d f s links (R .sound) (R .linked) small (A .along) ee more ej (q .lo) h
 
-          pub at-fresh-yes : {b : Bool} → b ≡ (leb (q .lo) j and leb (getD links (8192 + 2 * length d + j) 0) (q .lo)) → b ≡ true → fresh t (q .lo) j ≡ true
+          pub at-fresh-yes : {b : Bool} → b ≡ freshBy links (length d) (q .lo) j → b ≡ true → fresh t (q .lo) j ≡ true
           at-fresh-yes h y = sym (at-fresh h) ∙ y
 
-          pub at-fresh-no : {b : Bool} → b ≡ (leb (q .lo) j and leb (getD links (8192 + 2 * length d + j) 0) (q .lo)) → b ≡ false → fresh t (q .lo) j ≡ false
+          pub at-fresh-no : {b : Bool} → b ≡ freshBy links (length d) (q .lo) j → b ≡ false → fresh t (q .lo) j ≡ false
           at-fresh-no h y = sym (at-fresh h) ∙ y
 
           pub at-ends : {a c : ℕ} → a ≡ getD f j 0 → c ≡ getD s j 0 → (a < 4096) × (c < 4096) × ((a ≡ u) ⊎ (c ≡ u))
           at-ends ea ec = along-ends d f s links (R .sound) (R .linked) small (A .along) ee more ej ea ec
 
-          pub at-fresh-place : (length d ≤ 16384) × (j < length d) × (8192 + 2 * length d + j < length links)
+          pub at-fresh-place : EarlierStands links (length d) j
           at-fresh-place = along-fresh-place d f s links (R .sound) (R .linked) small (A .along) ee more ej
 
           next-along : Along t u (j + 1) (p + 1)

@@ -2,12 +2,9 @@
 // times: 0 while an account has not fallen, then its core time; left: its neighbours left; queue: who fell and is still to be walked.
 // Each account is walked once, from its head on, and each row leaves once, so the work is linear in the rows of the window.
 ghost use mathlib.Core.Path.{_≡_};
-ghost use Prim.Native.Nat.{_+_, _*_, _≤_, _<_};
-ghost use lib.ListN.{length, getD};
-ghost use lib.Dec.{leb};
-ghost use Rattle.rings.specs.Words.{_and_};
+ghost use Prim.Native.Nat.{_≤_};
 ghost use Rattle.rings.specs.Table.{tableOf};
-ghost use Rattle.rings.specs.Inner.Peeling.{PeelBuffers, Losable, Lost, Ready, Span, Counted, CoreTimesAre};
+ghost use Rattle.rings.specs.Inner.Peeling.{EarlierStands, freshBy, PeelBuffers, Losable, Lost, Ready, Span, Counted, CoreTimesAre};
 ghost use Rattle.rings.specs.Inner.Peeling.{allRows, Falling, Continues, HeadWaits, HeadWalked, QueueEmpty, Fade, RowLeaves, RowLeft};
 use crate::frame::Frame;
 use crate::limits::ACCOUNTS;
@@ -29,8 +26,8 @@ pub struct Removal {
 
 // Row j is the first of its pair from row lo on: it brings a new neighbour.
 pub(crate) fn is_fresh(links: &[u16], n: usize, lo: usize, j: usize) -> bool
-    requires { ⌜ (n ≤ 16384) × (j < n) × (8192 + 2 * n + j < length (now links)) ⌝ }
-    ensures { λ r. ⌜ r ≡ (leb lo j and leb (getD (now (links .entry)) (8192 + 2 * n + j) 0) lo) ⌝ }
+    requires { ⌜ EarlierStands (now links) n j ⌝ }
+    ensures { λ r. ⌜ r ≡ freshBy (now (links .entry)) n lo j ⌝ }
 {
     let earlier = entry(links, ADJACENCY + 2 * n + j);
     (lo <= j) & (earlier <= lo)
@@ -38,8 +35,9 @@ pub(crate) fn is_fresh(links: &[u16], n: usize, lo: usize, j: usize) -> bool
 
 // The same for a row that is known to be at lo or later.
 pub(crate) fn is_first(links: &[u16], n: usize, lo: usize, j: usize) -> bool
-    requires { ⌜ (n ≤ 16384) × (j < n) × (8192 + 2 * n + j < length (now links)) × (lo ≤ j) ⌝ }
-    ensures { λ r. ⌜ r ≡ (leb lo j and leb (getD (now (links .entry)) (8192 + 2 * n + j) 0) lo) ⌝ }
+    requires { ⌜ EarlierStands (now links) n j ⌝ }
+    requires { ⌜ lo ≤ j ⌝ }
+    ensures { λ r. ⌜ r ≡ freshBy (now (links .entry)) n lo j ⌝ }
 {
     let earlier = entry(links, ADJACENCY + 2 * n + j);
     earlier <= lo

@@ -10,6 +10,7 @@ use crate::Query;
 use crate::checks::check_call;
 use crate::checks::is_window;
 use crate::frame::Frame;
+use crate::limits::ACCOUNTS;
 use crate::limits::ADJACENCY;
 use crate::links::clear;
 use crate::links::entry;
@@ -83,9 +84,9 @@ fn mark_part(
         RingMarked t (frame .query) (frame .start) (frame .stop) n (now (marks .exit))) ⌝ }
 {
     let n = days.len();
-    let mut times = [0u16; 4096];
-    let mut left = [0u16; 4096];
-    let mut queue = [0u16; 4096];
+    let mut times = [0u16; ACCOUNTS];
+    let mut left = [0u16; ACCOUNTS];
+    let mut queue = [0u16; ACCOUNTS];
     link(days, first, second, scratch);
     core(
         days,

@@ -113,8 +113,8 @@ fn find_times(
         stop: stop,
         lo: lo,
     };
-    let mut left = [0u16; 4096];
-    let mut queue = [0u16; 4096];
+    let mut left = [0u16; ACCOUNTS];
+    let mut queue = [0u16; ACCOUNTS];
     link(days, first, second, scratch);
     move_heads(days, first, second, scratch, 0, start, 0, lo);
     peel(

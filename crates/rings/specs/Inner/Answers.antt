@@ -13,7 +13,7 @@ use mathlib.Core.List.{List}
 use lib.ListN.{length, getD, replicate}
 use lib.Dec.{eqb}
 use Rattle.rings.specs.Words.{_and_, run}
-use Rattle.rings.specs.Table.{Table, tableOf, size, Split}
+use Rattle.rings.specs.Table.{Table, size, Split}
 use Rattle.rings.specs.Ring.{met, ring, members}
 use Rattle.rings.specs.CoreTimes.{accountTime, rowTime}
 use Rattle.rings.specs.Buffers.{marks}

@@ -2,6 +2,7 @@
 -- the numbers of neighbours left, w the queue of the fallen whose rows are still to be walked.
 -- A row counts for one of its accounts while it is fresh, has not left (is below r), its other account has not been walked, and the pair of row and account has
 -- not been passed.
+--     EarlierStands, freshBy    what `is_fresh` asks, and its test on the scratch
 --     PeelBuffers  the lengths of the three lists
 --     Losable, Lost        before and after an account loses one neighbour
 --     Setting      the table, the window and the query
@@ -23,13 +24,13 @@
 --     Span         the rows of a window, as a first row and an end
 --     Counted      d holds the fresh rows of each account below a row
 --     Fade         the rows from the removal's end on have left, and nobody waits
-use Prim.Native.Nat.{ℕ, _+_, _-_, _≤_, _<_}
+use Prim.Native.Nat.{ℕ, _+_, _-_, _*_, _≤_, _<_}
 use mathlib.Core.Path.{_≡_}
 use mathlib.Core.Logic.{_⊎_}
 use mathlib.Core.Bool.{Bool, true, false}
 use mathlib.Core.List.{List}
 use lib.ListN.{length, getD, set}
-use lib.Dec.{ltb, eqb}
+use lib.Dec.{leb, ltb, eqb}
 use Rattle.rings.specs.Words.{_and_, no, count}
 use Rattle.rings.specs.Table.{Table, tableOf, size, dayOf, firstOf, secondOf}
 use Rattle.rings.specs.Ring.{joins, touches, met, query, ring}
@@ -40,6 +41,15 @@ use Rattle.rings.specs.Inner.Support.{supporters}
 use Rattle.rings.specs.declared.Query.{Query}
 use Rattle.rings.specs.declared.frame.Frame.{Frame}
 use Rattle.rings.specs.declared.peel.Removal.{Removal}
+
+-- the earlier row of row j stands in the scratch of a table of n rows
+pub record EarlierStands (links : List ℕ) (n j : ℕ) : Type 0 where
+  pub most : n ≤ 16384
+  pub row : j < n
+  pub place : 8192 + 2 * n + j < length links
+
+abbrev pub freshBy : List ℕ → ℕ → ℕ → ℕ → Bool
+freshBy links n lo j = leb lo j and leb (getD links (8192 + 2 * n + j) 0) lo
 
 pub record PeelBuffers (x d w : List ℕ) : Type 0 where
   pub times : length x ≡ 4096

@@ -147,9 +147,7 @@ is-first-requires c κs =
     (
     let a = reading-fresh-place _ _ _ _ (pre .0 .sound) (pre .0 .shelves) (pre .1 .0 .0) (loop .inv .2 .reading)
     (loop .inv .1) (loop-test .taken) (entry2 .ensures) in (
-      a .0,
-      a .1,
-      a .2,
+      a,
       glance-late _ _ _ _ _ (pre .0) _ (pre .1 .0 .1) (pre .1 .0 .2) (pre .1 .0 .0) (pre .1 .0 .3) (pre .1 .0 .5)
           (as-glance (loop .inv .2)) (loop .inv .1) (loop-test .taken) (entry2 .ensures),
     )

@@ -204,9 +204,7 @@ is-first-requires c κs =
     (
     let a = reading-fresh-place _ _ _ _ (pre .0 .sound) (pre .0 .shelves) (pre .1 .0 .0)
     (loop .inv .3 .wave .reading) (loop .inv .1) (loop-test .taken) (entry2 .ensures) in (
-      a .0,
-      a .1,
-      a .2,
+      a,
       surge-late _ _ _ _ _ (pre .0) _ (pre .1 .0 .1) (pre .1 .0 .0) (pre .1 .0 .5) (pre .1 .0 .6) _ _
           (pre .1 .0 .7) _ _ _ _ (loop .inv .3) (loop .inv .1) (loop-test .taken) (entry2 .ensures),
     )

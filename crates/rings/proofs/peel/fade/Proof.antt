@@ -1,7 +1,6 @@
 -- `peel::fade` meets its contract. The loop's invariant: the rows from the end of the removal on have left, and nobody
 -- waits (StageLaws).
 -- Assumes nothing.
-use native.Mathlib.Omega.{arith}
 use Rattle.rings.proofs.StageLaws.{Fading, fading-start, fading-next, fading-end}
 use Rattle.rings.proofs.peel.fade.Statement.{statement}
 use Rattle.rings.proofs.peel.fade.Tie as tie

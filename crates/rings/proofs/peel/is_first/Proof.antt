@@ -34,7 +34,7 @@ unfolding _and_
 returns c =
     let args = c .before .before .args in
     let pre = c .before .before .pre in
-    sym (ap (λ (y : Bool). y and leb (c .entry .result) (args .lo)) (le-leb _ _ (pre .3))) ∙ ap
+    sym (ap (λ (y : Bool). y and leb (c .entry .result) (args .lo)) (le-leb _ _ (pre .1))) ∙ ap
     (λ (e : ℕ). leb (args .lo) (args .j) and leb e (args .lo)) (c .entry .ensures)
 
 pub is-first-spec : {M : Type 1} → statement M
