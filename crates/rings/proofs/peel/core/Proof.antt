@@ -25,18 +25,24 @@ count-neighbours-requires c κs =
     let pre =
     c .before .before .before .before .before .before .before .before .before .before .before .before .before
     .before .before .before .pre in
-    (pre .0, (pre .1 .0, counted-start _ _ _ _ _ (pre .0) (args .left .now) (pre .1 .1 .left) (clear2 .ensures)))
+    let ready = pre .0 in
+    let span = pre .1 .0 in
+    let buffers = pre .1 .1 in
+    (ready, (span, counted-start _ _ _ _ _ ready (args .left .now) (buffers .left) (clear2 .ensures)))
 
 weed-requires : tie.Need-weed-requires
 weed-requires c κs =
     let count-neighbours = c .before .before .before .before .before .count-neighbours in
     let clear =
-    c .before .before .before .before .before .before .before .before .before .before .before .before .before .clear
-    in
+    c .before .before .before .before .before .before .before .before .before .before .before .before
+    .before .clear in
     let pre =
     c .before .before .before .before .before .before .before .before .before .before .before .before .before
     .before .before .before .before .before .before .before .before .before .pre in
-    (pre .0, core-start _ _ _ _ _ (pre .0) (pre .1 .0) (pre .1 .1) (clear .ensures) (count-neighbours .ensures))
+    let ready = pre .0 in
+    let span = pre .1 .0 in
+    let buffers = pre .1 .1 in
+    (ready, core-start _ _ _ _ _ ready span buffers (clear .ensures) (count-neighbours .ensures))
 
 drain-requires : tie.Need-drain-requires
 drain-requires c κs =
@@ -45,7 +51,8 @@ drain-requires c κs =
     c .before .before .before .before .before .before .before .before .before .before .before .before .before
     .before .before .before .before .before .before .before .before .before .before .before .before .before .before
     .before .before .before .before .before .pre in
-    (pre .0, weed .ensures .state)
+    let ready = pre .0 in
+    (ready, weed .ensures .state)
 
 same-length : tie.Need-same-length
 same-length c =
@@ -70,8 +77,8 @@ same-length-2 c =
     .before .before .before .before .before .before .before .before .before .count-neighbours in
     let clear2 =
     c .before .before .before .before .before .before .before .before .before .before .before .before .before
-    .before .before .before .before .before .before .before .before .before .before .before .before .before .clear2
-    in
+    .before .before .before .before .before .before .before .before .before .before .before .before
+    .before .clear2 in
     drain .kept .1 .1 .1 .1 .1 .1 .1 .0 ∙
     (weed .kept .1 .1 .1 .1 .1 .1 .1 .0 ∙ (count-neighbours .kept .1 .1 .1 .1 .1 .1 .0 ∙ clear2 .kept .0))
 

@@ -23,27 +23,36 @@ abbrev μ-loop : tie.MeasureT-loop
 loop-holds : tie.Need-loop-holds Inv-loop μ-loop
 loop-holds c =
     let pre = c .before .before .before .before .before .pre in
-    count-start _ _ _ _ _ (pre .0) (pre .1 .0) (pre .1 .1)
+    let ready = pre .0 in
+    let span = pre .1 .0 in
+    let counted = pre .1 .1 in
+    count-start _ _ _ _ _ ready span counted
 
 is-fresh-requires : tie.Need-is-fresh-requires Inv-loop μ-loop
 is-fresh-requires c κs =
     let loop = c .before .loop in
     let pre = c .before .before .before .before .before .before .before .pre in
-    let loop-test = c .loop-test in count-place _ _ _ _ _ (pre .0) (loop .inv) (loop-test .taken) (pre .1 .0)
+    let ready = pre .0 in
+    let span = pre .1 .0 in
+    let loop-test = c .loop-test in count-place _ _ _ _ _ ready (loop .inv) (loop-test .taken) span
 
 entry-requires : tie.Need-entry-requires Inv-loop μ-loop
 entry-requires c κs =
     let loop-test = c .before .before .loop-test in
     let loop = c .before .before .before .loop in
     let pre = c .before .before .before .before .before .before .before .before .before .pre in
-    omega (arith, count-below _ _ _ _ _ (pre .0) (loop .inv) (loop-test .taken) (pre .1 .0), pre .0 .sound .firsts)
+    let ready = pre .0 in
+    let span = pre .1 .0 in
+    omega (arith, count-below _ _ _ _ _ ready (loop .inv) (loop-test .taken) span, ready .sound .firsts)
 
 entry-requires-2 : tie.Need-entry-requires-2 Inv-loop μ-loop
 entry-requires-2 c κs =
     let loop-test = c .before .before .before .loop-test in
     let loop = c .before .before .before .before .loop in
     let pre = c .before .before .before .before .before .before .before .before .before .before .pre in
-    omega (arith, count-below _ _ _ _ _ (pre .0) (loop .inv) (loop-test .taken) (pre .1 .0), pre .0 .sound .seconds)
+    let ready = pre .0 in
+    let span = pre .1 .0 in
+    omega (arith, count-below _ _ _ _ _ ready (loop .inv) (loop-test .taken) span, ready .sound .seconds)
 
 entry-requires-3 : tie.Need-entry-requires-3 Inv-loop μ-loop
 entry-requires-3 c κs =
@@ -51,7 +60,9 @@ entry-requires-3 c κs =
     let loop-test = c .before .before .before .before .before .loop-test in
     let loop = c .before .before .before .before .before .before .loop in
     let pre = c .before .before .before .before .before .before .before .before .before .before .before .before .pre in
-    count-first _ _ _ _ _ (pre .0) (loop .inv) (loop-test .taken) (pre .1 .0) (entry .ensures) refl .0
+    let ready = pre .0 in
+    let span = pre .1 .0 in
+    count-first _ _ _ _ _ ready (loop .inv) (loop-test .taken) span (entry .ensures) refl .0
 
 add-put : tie.Need-add-put Inv-loop μ-loop
 add-put c =
@@ -62,9 +73,11 @@ add-put c =
     let pre =
     c .before .before .before .before .before .before .before .before .before .before .before .before .before
     .before .pre in
+    let ready = pre .0 in
+    let span = pre .1 .0 in
     omega (
       arith,
-      count-first _ _ _ _ _ (pre .0) (loop .inv) (loop-test .taken) (pre .1 .0) (entry .ensures) (entry3 .ensures),
+      count-first _ _ _ _ _ ready (loop .inv) (loop-test .taken) span (entry .ensures) (entry3 .ensures),
     )
 
 put-requires : tie.Need-put-requires Inv-loop μ-loop
@@ -76,7 +89,9 @@ put-requires c κs =
     let pre =
     c .before .before .before .before .before .before .before .before .before .before .before .before .before
     .before .pre in
-    let first = count-first _ _ _ _ _ (pre .0) (loop .inv) (loop-test .taken) (pre .1 .0) (entry .ensures)
+    let ready = pre .0 in
+    let span = pre .1 .0 in
+    let first = count-first _ _ _ _ _ ready (loop .inv) (loop-test .taken) span (entry .ensures)
     (entry3 .ensures) in (first .0, omega (arith, first .1))
 
 entry-requires-4 : tie.Need-entry-requires-4 Inv-loop μ-loop
@@ -92,7 +107,9 @@ entry-requires-4 c κs =
     let pre =
     c .before .before .before .before .before .before .before .before .before .before .before .before .before
     .before .before .before .before .before .pre in
-    count-second _ _ _ _ _ (pre .0) (loop .inv) (loop-test .taken) (pre .1 .0) (entry .ensures) (entry2 .ensures)
+    let ready = pre .0 in
+    let span = pre .1 .0 in
+    count-second _ _ _ _ _ ready (loop .inv) (loop-test .taken) span (entry .ensures) (entry2 .ensures)
     (entry3 .ensures) (put .ensures) refl .0
 
 add-put-2 : tie.Need-add-put-2 Inv-loop μ-loop
@@ -111,9 +128,11 @@ add-put-2 c =
     let pre =
     c .before .before .before .before .before .before .before .before .before .before .before .before .before
     .before .before .before .before .before .before .before .pre in
+    let ready = pre .0 in
+    let span = pre .1 .0 in
     omega (
       arith,
-      count-second _ _ _ _ _ (pre .0) (loop .inv) (loop-test .taken) (pre .1 .0) (entry .ensures) (entry2 .ensures)
+      count-second _ _ _ _ _ ready (loop .inv) (loop-test .taken) span (entry .ensures) (entry2 .ensures)
           (entry3 .ensures) (put .ensures) (entry4 .ensures),
     )
 
@@ -133,7 +152,9 @@ put-requires-2 c κs =
     let pre =
     c .before .before .before .before .before .before .before .before .before .before .before .before .before
     .before .before .before .before .before .before .before .pre in
-    let second = count-second _ _ _ _ _ (pre .0) (loop .inv) (loop-test .taken) (pre .1 .0) (entry .ensures)
+    let ready = pre .0 in
+    let span = pre .1 .0 in
+    let second = count-second _ _ _ _ _ ready (loop .inv) (loop-test .taken) span (entry .ensures)
     (entry2 .ensures) (entry3 .ensures) (put .ensures) (entry4 .ensures) in (second .0, omega (arith, second .1))
 
 add-j : tie.Need-add-j Inv-loop μ-loop
@@ -147,7 +168,9 @@ add-j c =
     let pre =
     c .before .before .before .before .before .before .before .before .before .before .before .before .before
     .before .before .before .before .before .before .before .before .before .before .pre in
-    omega (arith, count-below _ _ _ _ _ (pre .0) (loop .inv) (loop-test .taken) (pre .1 .0), pre .0 .sound .most)
+    let ready = pre .0 in
+    let span = pre .1 .0 in
+    omega (arith, count-below _ _ _ _ _ ready (loop .inv) (loop-test .taken) span, ready .sound .most)
 
 loop-less : tie.Need-loop-less Inv-loop μ-loop
 loop-less c =
@@ -165,8 +188,8 @@ loop-again c =
     let entry2 =
     c .before .before .before .before .before .before .before .before .before .before .before .before .entry2 in
     let entry =
-    c .before .before .before .before .before .before .before .before .before .before .before .before .before .entry
-    in
+    c .before .before .before .before .before .before .before .before .before .before .before .before
+    .before .entry in
     let if1 =
     c .before .before .before .before .before .before .before .before .before .before .before .before .before
     .before .if1 in
@@ -182,7 +205,9 @@ loop-again c =
     let pre =
     c .before .before .before .before .before .before .before .before .before .before .before .before .before
     .before .before .before .before .before .before .before .before .before .before .pre in
-    count-row _ _ _ _ _ (pre .0) (loop .inv) (loop-test .taken) (pre .1 .0) (is-fresh .ensures) (if1 .taken)
+    let ready = pre .0 in
+    let span = pre .1 .0 in
+    count-row _ _ _ _ _ ready (loop .inv) (loop-test .taken) span (is-fresh .ensures) (if1 .taken)
     (entry .ensures) (entry2 .ensures) (entry3 .ensures) (put .ensures) (entry4 .ensures) (put2 .ensures)
 
 add-j-2 : tie.Need-add-j-2 Inv-loop μ-loop
@@ -190,7 +215,9 @@ add-j-2 c =
     let loop-test = c .before .before .loop-test in
     let loop = c .before .before .before .loop in
     let pre = c .before .before .before .before .before .before .before .before .before .pre in
-    omega (arith, count-below _ _ _ _ _ (pre .0) (loop .inv) (loop-test .taken) (pre .1 .0), pre .0 .sound .most)
+    let ready = pre .0 in
+    let span = pre .1 .0 in
+    omega (arith, count-below _ _ _ _ _ ready (loop .inv) (loop-test .taken) span, ready .sound .most)
 
 loop-less-2 : tie.Need-loop-less-2 Inv-loop μ-loop
 loop-less-2 c =
@@ -203,8 +230,10 @@ loop-again-2 c =
     let loop-test = c .before .before .loop-test in
     let loop = c .before .before .before .loop in
     let pre = c .before .before .before .before .before .before .before .before .before .pre in
+    let ready = pre .0 in
+    let span = pre .1 .0 in
     let if1 = c .if1 in
-    count-skip _ _ _ _ _ (pre .0) (loop .inv) (loop-test .taken) (pre .1 .0) (is-fresh .ensures) (if1 .left)
+    count-skip _ _ _ _ _ ready (loop .inv) (loop-test .taken) span (is-fresh .ensures) (if1 .left)
 
 same-length : tie.Need-same-length Inv-loop μ-loop
 same-length c =

@@ -26,8 +26,8 @@ walk-requires c κs =
     let if1 = c .before .before .before .if1 in
     let loop = c .before .before .before .before .before .loop in
     let pre =
-    c .before .before .before .before .before .before .before .before .before .before .before .before .before .pre
-    in
+    c .before .before .before .before .before .before .before .before .before .before .before .before
+    .before .pre in
     (pre .0, record { state = loop .inv .goes-on .state; some = if1 .taken })
 
 loop-less : tie.Need-loop-less Inv-loop μ-loop

@@ -38,8 +38,8 @@ loop-again : tie.Need-loop-again Inv-loop μ-loop
 loop-again c =
     let leave = c .before .before .before .before .before .before .leave in
     let loop =
-    c .before .before .before .before .before .before .before .before .before .before .before .before .before .loop
-    in
+    c .before .before .before .before .before .before .before .before .before .before .before .before
+    .before .loop in
     let pre =
     c .before .before .before .before .before .before .before .before .before .before .before .before .before
     .before .before .before .before .before .before .before .before .pre in

@@ -108,8 +108,8 @@ lose-requires-2 : tie.Need-lose-requires-2
 lose-requires-2 c κs =
     let lose = c .before .before .before .before .before .before .before .before .before .lose in
     let if3 =
-    c .before .before .before .before .before .before .before .before .before .before .before .before .before .if3
-    in
+    c .before .before .before .before .before .before .before .before .before .before .before .before
+    .before .if3 in
     let entry4 =
     c .before .before .before .before .before .before .before .before .before .before .before .before .before
     .before .entry4 in

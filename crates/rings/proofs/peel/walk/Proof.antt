@@ -61,8 +61,8 @@ add-entry-2 : tie.Need-add-entry-2 Inv-loop μ-loop
 add-entry-2 c =
     let loop = c .before .loop in
     let pre =
-    c .before .before .before .before .before .before .before .before .before .before .before .before .before .pre
-    in
+    c .before .before .before .before .before .before .before .before .before .before .before .before
+    .before .pre in
     let loop-test = c .loop-test in omega (arith, at-few _ _ _ _ _ (pre .0) (loop .inv) (loop-test .taken))
 
 -- src/peel.rt:94:13
@@ -70,8 +70,8 @@ entry-requires-4 : tie.Need-entry-requires-4 Inv-loop μ-loop
 entry-requires-4 c κs =
     let loop = c .before .loop in
     let pre =
-    c .before .before .before .before .before .before .before .before .before .before .before .before .before .pre
-    in
+    c .before .before .before .before .before .before .before .before .before .before .before .before
+    .before .pre in
     let loop-test = c .loop-test in at-place _ _ _ _ _ (pre .0) (loop .inv) (loop-test .taken)
 
 -- src/peel.rt:99:23
@@ -209,8 +209,8 @@ loop-again c =
     let entry5 =
     c .before .before .before .before .before .before .before .before .before .before .before .before .entry5 in
     let if2 =
-    c .before .before .before .before .before .before .before .before .before .before .before .before .before .if2
-    in
+    c .before .before .before .before .before .before .before .before .before .before .before .before
+    .before .if2 in
     let is-fresh =
     c .before .before .before .before .before .before .before .before .before .before .before .before .before
     .before .is-fresh in

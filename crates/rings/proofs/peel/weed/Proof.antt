@@ -49,8 +49,8 @@ put-requires c κs =
     let loop-test = c .before .before .before .before .loop-test in
     let loop = c .before .before .before .before .before .loop in
     let pre =
-    c .before .before .before .before .before .before .before .before .before .before .before .before .before .pre
-    in
+    c .before .before .before .before .before .before .before .before .before .before .before .before
+    .before .pre in
     (weed-room _ _ _ _ _ (pre .0) (loop .inv) (loop-test .taken) .1, omega arith)
 
 -- src/peel.rt:281:13

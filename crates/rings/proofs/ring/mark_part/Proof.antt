@@ -31,8 +31,8 @@ core-requires : tie.Need-core-requires
 core-requires c κs =
     let link = c .before .before .before .before .before .before .link in
     let pre =
-    c .before .before .before .before .before .before .before .before .before .before .before .before .before .pre
-    in
+    c .before .before .before .before .before .before .before .before .before .before .before .before
+    .before .pre in
     let whole = pre .0 in
     let asked = whole .asked in (
       ready-of (whole .sound) (linked-later (link .ensures) (omega (arith, whole .from))) (asked .some-k)

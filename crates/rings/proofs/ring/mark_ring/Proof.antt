@@ -34,7 +34,8 @@ sub-room : tie.Need-sub-room
 sub-room c =
     let rows-before = c .before .rows-before in
     let pre = c .before .before .before .before .before .before .before .pre in
-    span-of (pre .1 .0 .ordered) (rows-before .ensures) (c .rows-before2 .ensures) .ordered
+    let asked = pre .1 .0 in
+    span-of (asked .ordered) (rows-before .ensures) (c .rows-before2 .ensures) .ordered
 
 -- src/ring.rt:156:23
 mul-room : tie.Need-mul-room
@@ -58,7 +59,8 @@ sub-mark-part c =
     let rows-before2 = c .before .before .before .before .rows-before2 in
     let rows-before = c .before .before .before .before .before .rows-before in
     let pre = c .before .before .before .before .before .before .before .before .before .before .before .pre in
-    span-of (pre .1 .0 .ordered) (rows-before .ensures) (rows-before2 .ensures) .ordered
+    let asked = pre .1 .0 in
+    span-of (asked .ordered) (rows-before .ensures) (rows-before2 .ensures) .ordered
 
 -- src/ring.rt:159:9
 part-mark-part-start : tie.Need-part-mark-part-start
@@ -66,7 +68,8 @@ part-mark-part-start c =
     let rows-before2 = c .before .before .before .before .rows-before2 in
     let rows-before = c .before .before .before .before .before .rows-before in
     let pre = c .before .before .before .before .before .before .before .before .before .before .before .pre in
-    span-of (pre .1 .0 .ordered) (rows-before .ensures) (rows-before2 .ensures) .ordered
+    let asked = pre .1 .0 in
+    span-of (asked .ordered) (rows-before .ensures) (rows-before2 .ensures) .ordered
 
 -- src/ring.rt:159:9
 part-mark-part-end : tie.Need-part-mark-part-end
@@ -82,7 +85,8 @@ sub-mark-part-2 c =
     let rows-before2 = c .before .before .before .before .before .rows-before2 in
     let rows-before = c .before .before .before .before .before .before .rows-before in
     let pre = c .before .before .before .before .before .before .before .before .before .before .before .before .pre in
-    span-of (pre .1 .0 .ordered) (rows-before .ensures) (rows-before2 .ensures) .ordered
+    let asked = pre .1 .0 in
+    span-of (asked .ordered) (rows-before .ensures) (rows-before2 .ensures) .ordered
 
 -- src/ring.rt:160:9
 part-mark-part-start-2 : tie.Need-part-mark-part-start-2
@@ -90,7 +94,8 @@ part-mark-part-start-2 c =
     let rows-before2 = c .before .before .before .before .before .rows-before2 in
     let rows-before = c .before .before .before .before .before .before .rows-before in
     let pre = c .before .before .before .before .before .before .before .before .before .before .before .before .pre in
-    span-of (pre .1 .0 .ordered) (rows-before .ensures) (rows-before2 .ensures) .ordered
+    let asked = pre .1 .0 in
+    span-of (asked .ordered) (rows-before .ensures) (rows-before2 .ensures) .ordered
 
 -- src/ring.rt:160:9
 part-mark-part-end-2 : tie.Need-part-mark-part-end-2
@@ -106,9 +111,10 @@ sub-mark-part-3 c =
     let rows-before2 = c .before .before .before .before .before .before .rows-before2 in
     let rows-before = c .before .before .before .before .before .before .before .rows-before in
     let pre =
-    c .before .before .before .before .before .before .before .before .before .before .before .before .before .pre
-    in
-    span-of (pre .1 .0 .ordered) (rows-before .ensures) (rows-before2 .ensures) .ordered
+    c .before .before .before .before .before .before .before .before .before .before .before .before
+    .before .pre in
+    let asked = pre .1 .0 in
+    span-of (asked .ordered) (rows-before .ensures) (rows-before2 .ensures) .ordered
 
 -- src/ring.rt:161:9
 part-mark-part-start-3 : tie.Need-part-mark-part-start-3
@@ -116,9 +122,10 @@ part-mark-part-start-3 c =
     let rows-before2 = c .before .before .before .before .before .before .rows-before2 in
     let rows-before = c .before .before .before .before .before .before .before .rows-before in
     let pre =
-    c .before .before .before .before .before .before .before .before .before .before .before .before .before .pre
-    in
-    span-of (pre .1 .0 .ordered) (rows-before .ensures) (rows-before2 .ensures) .ordered
+    c .before .before .before .before .before .before .before .before .before .before .before .before
+    .before .pre in
+    let asked = pre .1 .0 in
+    span-of (asked .ordered) (rows-before .ensures) (rows-before2 .ensures) .ordered
 
 -- src/ring.rt:161:9
 part-mark-part-end-3 : tie.Need-part-mark-part-end-3
@@ -132,7 +139,8 @@ sub-mark-part-4 c =
     let pre =
     c .before .before .before .before .before .before .before .before .before .before .before .before .before
     .before .pre in
-    span-of (pre .1 .0 .ordered) (rows-before .ensures) (rows-before2 .ensures) .ordered
+    let asked = pre .1 .0 in
+    span-of (asked .ordered) (rows-before .ensures) (rows-before2 .ensures) .ordered
 
 -- src/ring.rt:165:9
 part-mark-part-start-4 : tie.Need-part-mark-part-start-4
@@ -142,7 +150,8 @@ part-mark-part-start-4 c =
     let pre =
     c .before .before .before .before .before .before .before .before .before .before .before .before .before
     .before .pre in
-    span-of (pre .1 .0 .ordered) (rows-before .ensures) (rows-before2 .ensures) .ordered
+    let asked = pre .1 .0 in
+    span-of (asked .ordered) (rows-before .ensures) (rows-before2 .ensures) .ordered
 
 -- src/ring.rt:165:9
 part-mark-part-end-4 : tie.Need-part-mark-part-end-4
@@ -163,9 +172,11 @@ slice-aggregate-mark-part c =
     let pre =
     c .before .before .before .before .before .before .before .before .before .before .before .before .before
     .before .before .before .pre in
+    let asked = pre .1 .0 in
+    let buffers = pre .1 .1 in
     let a = args in
-    let o = span-of (pre .1 .0 .ordered) (rows-before .ensures) (rows-before2 .ensures) in room-long (a .days .now)
-    (a .first .now) (a .second .now) _ _ (o .ordered) (o .within) (a .scratch .now) (pre .1 .1 .scratch)
+    let o = span-of (asked .ordered) (rows-before .ensures) (rows-before2 .ensures) in room-long (a .days .now)
+    (a .first .now) (a .second .now) _ _ (o .ordered) (o .within) (a .scratch .now) (buffers .scratch)
 
 -- src/ring.rt:158:9
 mark-part-requires : tie.Need-mark-part-requires
@@ -179,13 +190,16 @@ mark-part-requires c κs =
     let pre =
     c .before .before .before .before .before .before .before .before .before .before .before .before .before
     .before .before .before .pre in
+    let sound = pre .0 in
+    let asked = pre .1 .0 in
+    let buffers = pre .1 .1 in
     let a = args in
     let l = rows-before in
     let r = rows-before2 in
-    let o = span-of (pre .1 .0 .ordered) (l .ensures) (r .ensures) in (
+    let o = span-of (asked .ordered) (l .ensures) (r .ensures) in (
       record {
-        sound = part-sound _ _ _ _ _ (o .ordered) (o .within) (pre .0);
-        asked = pre .1 .0;
+        sound = part-sound _ _ _ _ _ (o .ordered) (o .within) sound;
+        asked = asked;
         lo = refl;
         from = part-from _ (a .first .now) (a .second .now) _ _ (o .ordered) (o .within) (l .ensures);
         to = part-to _ (a .first .now) (a .second .now) _ _ (o .ordered) (o .within) (r .ensures);
@@ -193,10 +207,10 @@ mark-part-requires c κs =
       record {
         marks =
             part-same _ (a .first .now) (a .second .now) _ _ (o .ordered) (o .within) (clear-marks .ensures)
-            (pre .1 .1 .marks);
+            (buffers .marks);
         scratch =
             part-room _ (a .first .now) (a .second .now) _ _ (o .ordered) (o .within) (a .scratch .now)
-            (pre .1 .1 .scratch);
+            (buffers .scratch);
       },
     )
 
@@ -233,10 +247,12 @@ returns c =
     let pre =
     c .before .before .before .before .before .before .before .before .before .before .before .before .before
     .before .before .before .before .before .before .before .before .before .before .before .before .pre in
+    let asked = pre .1 .0 in
+    let buffers = pre .1 .1 in
     let a = args in
     let l = rows-before in
     let r = rows-before2 in
-    let o = span-of (pre .1 .0 .ordered) (l .ensures) (r .ensures) in record {
+    let o = span-of (asked .ordered) (l .ensures) (r .ensures) in record {
       marked = record {
         number =
             part-members (a .days .now) (a .first .now) (a .second .now) (l .result) (r .result) (o .ordered)
@@ -244,7 +260,7 @@ returns c =
         marks =
             part-marks (a .days .now) (a .first .now) (a .second .now) (l .result) (r .result) (o .ordered)
             (o .within) (a .query) (a .start) (a .stop) (l .ensures) (r .ensures) (clear-marks .ensures)
-            (pre .1 .1 .marks) (mark-part .ensures .marks);
+            (buffers .marks) (mark-part .ensures .marks);
       };
       cleared = clear .ensures ∙ ap (λ (m : ℕ). replicate {A = ℕ} m 0) (scratch .given .1);
     }

@@ -27,27 +27,32 @@ loop-holds c = (omega arith, mark-start _ _)
 stays-requires : tie.Need-stays-requires Inv-loop μ-loop
 stays-requires c κs =
     let pre = c .before .before .before .before .before .before .before .pre in
-    let loop-test = c .loop-test in stays-place _ _ _ _ (pre .0) (pre .1 .0) _ (loop-test .taken)
+    let whole = pre .0 in
+    let remaining = pre .1 .0 in
+    let loop-test = c .loop-test in stays-place _ _ _ _ whole remaining _ (loop-test .taken)
 
 slice-write-marks : tie.Need-slice-write-marks Inv-loop μ-loop
 slice-write-marks c =
     let loop-test = c .before .before .loop-test in
     let loop = c .before .before .before .loop in
     let pre = c .before .before .before .before .before .before .before .before .before .pre in
-    omega (arith, loop-test .taken, pre .1 .1, loop .inv .1 .long)
+    let long = pre .1 .1 in
+    omega (arith, loop-test .taken, long, loop .inv .1 .long)
 
 add-n : tie.Need-add-n Inv-loop μ-loop
 add-n c =
     let loop-test = c .before .before .loop-test in
     let loop = c .before .before .before .loop in
     let pre = c .before .before .before .before .before .before .before .before .before .pre in
-    omega (arith, loop-test .taken, mark-few (loop .inv .1), pre .0 .sound .most)
+    let whole = pre .0 in
+    omega (arith, loop-test .taken, mark-few (loop .inv .1), whole .sound .most)
 
 add-j : tie.Need-add-j Inv-loop μ-loop
 add-j c =
     let loop-test = c .before .before .loop-test in
     let pre = c .before .before .before .before .before .before .before .before .before .pre in
-    omega (arith, loop-test .taken, pre .0 .sound .most)
+    let whole = pre .0 in
+    omega (arith, loop-test .taken, whole .sound .most)
 
 loop-less : tie.Need-loop-less Inv-loop μ-loop
 loop-less c =
@@ -60,9 +65,10 @@ loop-again c =
     let loop-test = c .before .before .loop-test in
     let loop = c .before .before .before .loop in
     let pre = c .before .before .before .before .before .before .before .before .before .pre in
+    let long = pre .1 .1 in
     let if1 = c .if1 in (
       omega (arith, loop-test .taken),
-      mark-yes (loop .inv .1) (omega (arith, loop-test .taken, pre .1 .1, loop .inv .1 .long))
+      mark-yes (loop .inv .1) (omega (arith, loop-test .taken, long, loop .inv .1 .long))
           (sym (stays .ensures) ∙ if1 .taken),
     )
 
@@ -71,13 +77,15 @@ slice-write-marks-2 c =
     let loop-test = c .before .before .loop-test in
     let loop = c .before .before .before .loop in
     let pre = c .before .before .before .before .before .before .before .before .before .pre in
-    omega (arith, loop-test .taken, pre .1 .1, loop .inv .1 .long)
+    let long = pre .1 .1 in
+    omega (arith, loop-test .taken, long, loop .inv .1 .long)
 
 add-j-2 : tie.Need-add-j-2 Inv-loop μ-loop
 add-j-2 c =
     let loop-test = c .before .before .loop-test in
     let pre = c .before .before .before .before .before .before .before .before .before .pre in
-    omega (arith, loop-test .taken, pre .0 .sound .most)
+    let whole = pre .0 in
+    omega (arith, loop-test .taken, whole .sound .most)
 
 loop-less-2 : tie.Need-loop-less-2 Inv-loop μ-loop
 loop-less-2 c =
@@ -90,9 +98,10 @@ loop-again-2 c =
     let loop-test = c .before .before .loop-test in
     let loop = c .before .before .before .loop in
     let pre = c .before .before .before .before .before .before .before .before .before .pre in
+    let long = pre .1 .1 in
     let if1 = c .if1 in (
       omega (arith, loop-test .taken),
-      mark-no (loop .inv .1) (omega (arith, loop-test .taken, pre .1 .1, loop .inv .1 .long))
+      mark-no (loop .inv .1) (omega (arith, loop-test .taken, long, loop .inv .1 .long))
           (sym (stays .ensures) ∙ if1 .left),
     )
 
@@ -105,9 +114,12 @@ returns : tie.Need-returns Inv-loop μ-loop
 returns c =
     let loop = c .before .loop in
     let pre = c .before .before .before .before .before .before .before .pre in
+    let whole = pre .0 in
+    let remaining = pre .1 .0 in
+    let long = pre .1 .1 in
     let loop-test = c .loop-test in
-    mark-end _ _ _ _ (loop .inv .1) (pre .1 .1) (le-antisymm (loop .inv .0) (loop-test .left))
-    (λ i h. stays-ring _ _ _ _ (pre .0) (pre .1 .0) i h refl)
+    mark-end _ _ _ _ (loop .inv .1) long (le-antisymm (loop .inv .0) (loop-test .left))
+    (λ i h. stays-ring _ _ _ _ whole remaining i h refl)
 
 pub mark-rows-spec : {M : Type 1} → statement M
 mark-rows-spec =

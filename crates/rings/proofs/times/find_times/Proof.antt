@@ -38,8 +38,8 @@ move-heads-requires c κs =
     let link = c .before .before .before .link in
     let rows-before = c .before .before .before .before .before .before .rows-before in
     let pre =
-    c .before .before .before .before .before .before .before .before .before .before .before .before .before .pre
-    in
+    c .before .before .before .before .before .before .before .before .before .before .before .before
+    .before .pre in
     heads-on (pre .0) (link .ensures) (rows-before .ensures)
 
 -- src/times.rt:131:9
@@ -55,19 +55,21 @@ peel-requires : tie.Need-peel-requires
 peel-requires c κs =
     let move-heads = c .before .before .before .before .before .before .move-heads in
     let rows-before2 =
-    c .before .before .before .before .before .before .before .before .before .before .before .before .rows-before2
-    in
+    c .before .before .before .before .before .before .before .before .before .before .before
+    .before .rows-before2 in
     let rows-before =
     c .before .before .before .before .before .before .before .before .before .before .before .before
     .before .rows-before in
     let pre =
     c .before .before .before .before .before .before .before .before .before .before .before .before .before
     .before .before .before .before .before .before .before .pre in
-    let asked = pre .1 .0 in (
-      ready-of (pre .0) (move-heads .ensures .linked) (asked .some-k) (asked .last-day) (rows-before .ensures),
+    let sound = pre .0 in
+    let asked = pre .1 .0 in
+    let buffers = pre .1 .1 in (
+      ready-of sound (move-heads .ensures .linked) (asked .some-k) (asked .last-day) (rows-before .ensures),
       (
         span-of (asked .ordered) (rows-before .ensures) (rows-before2 .ensures),
-        record { times = pre .1 .1 .accounts; left = refl; queue = omega arith },
+        record { times = buffers .accounts; left = refl; queue = omega arith },
       ),
     )
 
@@ -85,9 +87,11 @@ time-rows-requires c κs =
     c .before .before .before .before .before .before .before .before .before .before .before .before .before
     .before .before .before .before .before .before .before .before .before .before .before .before .before
     .before .pre in
-    let asked = pre .1 .0 in (
-      framed-of (pre .0) (asked .some-k) (asked .last-day) (rows-before .ensures),
-      (span-of (asked .ordered) (rows-before .ensures) (rows-before2 .ensures), (peel .ensures, pre .1 .1 .rows)),
+    let sound = pre .0 in
+    let asked = pre .1 .0 in
+    let buffers = pre .1 .1 in (
+      framed-of sound (asked .some-k) (asked .last-day) (rows-before .ensures),
+      (span-of (asked .ordered) (rows-before .ensures) (rows-before2 .ensures), (peel .ensures, buffers .rows)),
     )
 
 -- src/times.rt:146:5
@@ -112,8 +116,8 @@ returns c =
     let clear = c .before .before .clear in
     let time-rows = c .before .before .before .before .before .before .time-rows in
     let peel =
-    c .before .before .before .before .before .before .before .before .before .before .before .before .before .peel
-    in
+    c .before .before .before .before .before .before .before .before .before .before .before .before
+    .before .peel in
     let move-heads =
     c .before .before .before .before .before .before .before .before .before .before .before .before .before
     .before .before .before .before .before .before .before .move-heads in

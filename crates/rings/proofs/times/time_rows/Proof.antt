@@ -27,14 +27,18 @@ loop-holds c = (omega arith, fill-start _ _)
 row-time-requires : tie.Need-row-time-requires Inv-loop μ-loop
 row-time-requires c κs =
     let pre = c .before .before .before .before .before .before .before .pre in
-    (pre .0, (pre .1 .0, (pre .1 .1 .0, c .loop-test .taken)))
+    let framed = pre .0 in
+    let span = pre .1 .0 in
+    let times = pre .1 .1 .0 in
+    (framed, (span, (times, c .loop-test .taken)))
 
 -- src/times.rt:82:9
 mul-rows : tie.Need-mul-rows Inv-loop μ-loop
 mul-rows c =
     let loop-test = c .before .loop-test in
     let pre = c .before .before .before .before .before .before .before .before .pre in
-    omega (arith, loop-test .taken, pre .0 .sound .most)
+    let framed = pre .0 in
+    omega (arith, loop-test .taken, framed .sound .most)
 
 -- src/times.rt:82:9
 slice-write-rows : tie.Need-slice-write-rows Inv-loop μ-loop
@@ -42,14 +46,16 @@ slice-write-rows c =
     let loop-test = c .before .loop-test in
     let loop = c .before .before .loop in
     let pre = c .before .before .before .before .before .before .before .before .pre in
-    omega (arith, loop-test .taken, pre .1 .1 .1, loop .inv .1 .long)
+    let long = pre .1 .1 .1 in
+    omega (arith, loop-test .taken, long, loop .inv .1 .long)
 
 -- src/times.rt:94:9
 add-j : tie.Need-add-j Inv-loop μ-loop
 add-j c =
     let loop-test = c .before .loop-test in
     let pre = c .before .before .before .before .before .before .before .before .pre in
-    omega (arith, loop-test .taken, pre .0 .sound .most)
+    let framed = pre .0 in
+    omega (arith, loop-test .taken, framed .sound .most)
 
 -- src/times.rt:81:5
 loop-less : tie.Need-loop-less Inv-loop μ-loop
@@ -62,9 +68,10 @@ loop-again : tie.Need-loop-again Inv-loop μ-loop
 loop-again c =
     let loop-test = c .before .loop-test in
     let loop = c .before .before .loop in
-    let pre = c .before .before .before .before .before .before .before .before .pre in (
+    let pre = c .before .before .before .before .before .before .before .before .pre in
+    let long = pre .1 .1 .1 in (
       omega (arith, loop-test .taken),
-      fill-next (loop .inv .1) (omega (arith, loop-test .taken, pre .1 .1 .1, loop .inv .1 .long))
+      fill-next (loop .inv .1) (omega (arith, loop-test .taken, long, loop .inv .1 .long))
           (c .row-time .ensures),
     )
 
@@ -79,7 +86,8 @@ returns : tie.Need-returns Inv-loop μ-loop
 returns c =
     let loop = c .before .loop in
     let pre = c .before .before .before .before .before .before .before .pre in
-    fill-end _ (loop .inv .1) (pre .1 .1 .1) (c .loop-test .left)
+    let long = pre .1 .1 .1 in
+    fill-end _ (loop .inv .1) long (c .loop-test .left)
 
 pub time-rows-spec : {M : Type 1} → statement M
 time-rows-spec =
