@@ -34,6 +34,7 @@ pub mod LossLaws
 pub mod SurgeLaws
 pub mod GatherLaws
 pub mod SettleLaws
+pub mod WorklistLaws
 pub mod TurnLaws
 pub mod CountingLaws
 pub mod ShiftLaws

@@ -9,3 +9,4 @@ pub mod Closing
 pub mod Settling
 pub mod Turning
 pub mod Counting
+pub mod Worklist

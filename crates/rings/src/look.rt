@@ -6,9 +6,8 @@ ghost use lib.ListN.{length, getD};
 ghost use Rattle.rings.specs.Table.{tableOf};
 ghost use Rattle.rings.specs.CoreTimes.{never};
 ghost use Rattle.rings.specs.Sound.{Sound};
-ghost use Rattle.rings.specs.Inner.Peeling.{guess, season, Open};
-ghost use Rattle.rings.specs.Inner.Links.{Shelves, Reading, Every};
-ghost use Rattle.rings.specs.Inner.Settling.{Days, Over, Noting, Glanced, Behind, Gathered, Short, Spared, Looked};
+ghost use Rattle.rings.specs.Inner.Links.{Shelves, Reading};
+ghost use Rattle.rings.specs.Inner.Settling.{Over, Noting, ScanOn, RoomBehind, Scanned, ScannedForRise, ScanFrom, Spared, ViewIs};
 use crate::choice::one;
 use crate::choice::pick;
 use crate::frame::Frame;
@@ -19,6 +18,14 @@ use crate::links::wide;
 use crate::peel::is_first;
 use crate::times::greater;
 
+// A scan of an account's rows: where they begin in the book, the day that is asked about, and the rows that may be passed before it is given up.
+pub struct Scan {
+    pub account: usize,
+    pub from: usize,
+    pub day: u16,
+    pub budget: usize,
+}
+
 // How many support an account on a day, the least later day on which one more may, and how many more then.
 struct Noted {
     count: u16,
@@ -27,11 +34,11 @@ struct Noted {
 }
 
 // The same with the number of rows that a walk passed.
-struct Found {
-    count: u16,
-    above: u16,
-    more: u16,
-    walked: usize,
+pub struct Found {
+    pub count: u16,
+    pub above: u16,
+    pub more: u16,
+    pub walked: usize,
 }
 
 // The same with what a rise to the day above needs: how many rows of the account move with it, and where the list of those who lose it ends.
@@ -44,11 +51,10 @@ pub struct Harvest {
     pub walked: usize,
 }
 
-// What a look finds: the account's time, 0 where it gave up; its spare supporters, counted from 1; the rows that it passed.
-pub struct View {
-    pub time: u16,
-    pub spare: u16,
-    pub walked: usize,
+// What a look finds: the account's time, its spare supporters, counted from 1, and the rows that it passed; or that it gave up.
+pub enum View {
+    Found { time: u16, left: u16, walked: usize },
+    GaveUp,
 }
 
 // A row dated on this day, and all later ones, can change nothing: they support on no day up to c, and either enough do already, or they lie behind the range or behind the day above.
@@ -93,38 +99,37 @@ fn look_at(
     links: &[u16],
     frame: Frame,
     times: &[u16],
-    u: usize,
-    from: usize,
-    c: u16,
+    scan: Scan,
 ) -> Found
-    requires { ⌜ Open (now days) (now first) (now second) (now links) frame ⌝ }
-    requires { ⌜ (u < 4096) × (length (now times) ≡ 4096) × Days (frame .stop) (now times) × (c ≤ frame .stop) × Reading (now links) u (frame .lo) from × Every (tableOf (now days) (now first) (now second)) (guess (now times)) (frame .lo) u (now links) ⌝ }
-    ensures { λ r. ⌜ Glanced (tableOf (now (days .entry)) (now (first .entry)) (now (second .entry))) (guess (now (times .entry))) (frame .lo) (frame .stop) c u (length (now (days .entry))) (frame .query .k) (r .count) (r .above) (r .more) × (r .walked ≤ 32768) × (r .count + r .more ≤ 16384) ⌝ }
+    requires { ⌜ ScanOn (now days) (now first) (now second) (now links) frame (now times) scan ⌝ }
+    ensures { λ r. ⌜ (
+        let t = tableOf (now (days .entry)) (now (first .entry)) (now (second .entry)) in
+        Scanned t frame (now (times .entry)) scan (r .count) (r .above) (r .more) (r .walked)) ⌝ }
 {
     let n = days.len();
-    let last = entry(links, u);
-    let mut p = from;
+    let last = entry(links, scan.account);
+    let mut p = scan.from;
     let mut count = 0;
     let mut above = 65535;
     let mut more = 0;
     while p < last {
         let j = entry(links, 8192 + p);
         let day = days[j];
-        if is_over(day, c, frame.stop, above, frame.query.k, count) {
+        if is_over(day, scan.day, frame.stop, above, frame.query.k, count) {
             return Found {
                 count: count,
                 above: above,
                 more: more,
-                walked: p - from,
+                walked: p - scan.from,
             };
         }
         p += 1;
         let fresh = is_first(links, n, frame.lo, j);
         let a = entry(first, j);
         let b = entry(second, j);
-        let v = other(a, b, u);
+        let v = other(a, b, scan.account);
         let z = greater(times[v], day);
-        let seen = note(pick(fresh, z, 65535), true, c, count, above, more);
+        let seen = note(pick(fresh, z, 65535), true, scan.day, count, above, more);
         count = seen.count;
         above = seen.above;
         more = seen.more;
@@ -133,7 +138,7 @@ fn look_at(
         count: count,
         above: above,
         more: more,
-        walked: p - from,
+        walked: p - scan.from,
     }
 }
 
@@ -145,21 +150,19 @@ pub(crate) fn gather(
     links: &[u16],
     frame: Frame,
     times: &[u16],
-    u: usize,
-    from: usize,
-    c: u16,
+    scan: Scan,
     tail: usize,
     queue: &mut [u16],
 ) -> Harvest
-    requires { ⌜ Open (now days) (now first) (now second) (now links) frame ⌝ }
-    requires { ⌜ (u < 4096) × (length (now times) ≡ 4096) × Days (frame .stop) (now times) × (c ≤ frame .stop) × Reading (now links) u (frame .lo) from × Every (tableOf (now days) (now first) (now second)) (guess (now times)) (frame .lo) u (now links) ⌝ }
-    requires { ⌜ (length (now queue) ≡ 4352) × (tail + getD (now links) u 0 ≤ from + 4352) ⌝ }
-    ensures { λ r. ⌜ Glanced (tableOf (now (days .entry)) (now (first .entry)) (now (second .entry))) (guess (now (times .entry))) (frame .lo) (frame .stop) c u (length (now (days .entry))) (frame .query .k) (r .count) (r .above) (r .more) × (r .walked ≤ 32768) × (r .count + r .more ≤ 16384) × (r .end ≤ 4352) ⌝ }
-    ensures { λ r. ⌜ (r .count < frame .query .k → Gathered (tableOf (now (days .entry)) (now (first .entry)) (now (second .entry))) (guess (now (times .entry))) (frame .lo) (frame .stop) c u (length (now (days .entry))) (r .above) (r .moved) tail (r .end) (now (queue .exit))) × Behind tail (now (queue .entry)) (now (queue .exit)) ⌝ }
+    requires { ⌜ ScanOn (now days) (now first) (now second) (now links) frame (now times) scan ⌝ }
+    requires { ⌜ RoomBehind (now links) scan tail (now queue) ⌝ }
+    ensures { λ r. ⌜ (
+        let t = tableOf (now (days .entry)) (now (first .entry)) (now (second .entry)) in
+        ScannedForRise t frame (now (times .entry)) scan tail (now (queue .entry)) (now (queue .exit)) r) ⌝ }
 {
     let n = days.len();
-    let last = entry(links, u);
-    let mut p = from;
+    let last = entry(links, scan.account);
+    let mut p = scan.from;
     let mut count = 0;
     let mut above = 65535;
     let mut more = 0;
@@ -168,28 +171,28 @@ pub(crate) fn gather(
     while p < last {
         let j = entry(links, 8192 + p);
         let day = days[j];
-        if is_over(day, c, frame.stop, above, frame.query.k, count) {
+        if is_over(day, scan.day, frame.stop, above, frame.query.k, count) {
             return Harvest {
                 count: count,
                 above: above,
                 more: more,
                 moved: moved,
                 end: end,
-                walked: p - from,
+                walked: p - scan.from,
             };
         }
         p += 1;
         let fresh = is_first(links, n, frame.lo, j);
         let a = entry(first, j);
         let b = entry(second, j);
-        let v = other(a, b, u);
+        let v = other(a, b, scan.account);
         let x = times[v];
         let z = greater(x, day);
-        let within = z <= c;
+        let within = z <= scan.day;
         put(queue, end, v);
-        end += wide(one(within & fresh & (x == c)));
+        end += wide(one(within & fresh & (x == scan.day)));
         moved = moved + one(within);
-        let seen = note(z, fresh, c, count, above, more);
+        let seen = note(z, fresh, scan.day, count, above, more);
         count = seen.count;
         above = seen.above;
         more = seen.more;
@@ -200,7 +203,7 @@ pub(crate) fn gather(
         more: more,
         moved: moved,
         end: end,
-        walked: p - from,
+        walked: p - scan.from,
     }
 }
 
@@ -218,7 +221,7 @@ pub(crate) fn spare_above(above: u16, both: u16, k: u16) -> u16
     both + 1 - k
 }
 
-// The first day from the time of u on with k supporters, or never, where it is known that no day before this one has them. It gives up when it has passed more rows than the budget allows.
+// The first day from the time of the account on with k supporters, or never, where it is known that no day before the scan's has them. It gives up when it has passed more rows than the budget allows.
 pub(crate) fn look(
     days: &[u16],
     first: &[u16],
@@ -226,55 +229,54 @@ pub(crate) fn look(
     links: &[u16],
     frame: Frame,
     times: &[u16],
-    u: usize,
-    from: usize,
-    day: u16,
-    budget: usize,
+    scan: Scan,
 ) -> View
-    requires { ⌜ Open (now days) (now first) (now second) (now links) frame ⌝ }
-    requires { ⌜ (u < 4096) × (length (now times) ≡ 4096) × Days (frame .stop) (now times) × (budget ≤ 65536) × Reading (now links) u (frame .lo) from × ((getD (now times) u 0 ≡ never → ⊥) → Every (tableOf (now days) (now first) (now second)) (guess (now times)) (frame .lo) u (now links)) ⌝ }
-    requires { ⌜ Short (tableOf (now days) (now first) (now second)) (guess (now times)) (frame .start) (frame .query .k) (frame .stop) (getD (now times) u 0) u day ⌝ }
-    ensures { λ r. ⌜ ((r .time ≡ 0 → ⊥) → Looked (tableOf (now (days .entry)) (now (first .entry)) (now (second .entry))) (guess (now (times .entry))) (frame .start) (frame .query .k) (frame .stop) (getD (now (times .entry)) u 0) u (r .time) (r .spare)) × (r .walked ≤ 98304) ⌝ }
+    requires { ⌜ ScanFrom (now days) (now first) (now second) (now links) frame (now times) scan ⌝ }
+    ensures { λ r. ⌜ (
+        let t = tableOf (now (days .entry)) (now (first .entry)) (now (second .entry)) in
+        ViewIs r t frame (now (times .entry)) scan) ⌝ }
 {
     let mut walked: usize = 0;
-    let mut c = day;
+    let mut c = scan.day;
     while c < 65535 {
-        if budget < walked {
-            return View {
-                time: 0,
-                spare: 0,
-                walked: walked,
-            };
+        if scan.budget < walked {
+            return View::GaveUp;
         }
-        let seen = look_at(days, first, second, links, frame, times, u, from, c);
+        let here = Scan {
+            account: scan.account,
+            from: scan.from,
+            day: c,
+            budget: scan.budget,
+        };
+        let seen = look_at(days, first, second, links, frame, times, here);
         walked = walked + seen.walked;
         if frame.query.k <= seen.count {
-            return View {
+            return View::Found {
                 time: c,
-                spare: seen.count + 1 - frame.query.k,
+                left: seen.count + 1 - frame.query.k,
                 walked: walked,
             };
         }
         c = seen.above;
         if c == 65535 {
-            return View {
+            return View::Found {
                 time: c,
-                spare: 1,
+                left: 1,
                 walked: walked,
             };
         }
         let both = seen.count + seen.more;
         if frame.query.k <= both {
-            return View {
+            return View::Found {
                 time: c,
-                spare: both + 1 - frame.query.k,
+                left: both + 1 - frame.query.k,
                 walked: walked,
             };
         }
     }
-    View {
+    View::Found {
         time: c,
-        spare: 1,
+        left: 1,
         walked: walked,
     }
 }

@@ -6,10 +6,8 @@ ghost use Prim.Native.Nat.{ℕ, _+_, _≤_, _<_};
 ghost use lib.ListN.{length, getD};
 ghost use lib.Dec.{leb, ltb};
 ghost use Rattle.rings.specs.Table.{tableOf};
-ghost use Rattle.rings.specs.Inner.Peeling.{guess, season, Open};
-ghost use Rattle.rings.specs.Inner.Links.{Reading, Every};
-ghost use Rattle.rings.specs.Inner.Counting.{CountsBy, WhereCounted, Raised};
-ghost use Rattle.rings.specs.Inner.Settling.{Days, Losing, Fewer, Lessened, Queued};
+ghost use Rattle.rings.specs.Inner.Settling.{LoseAsks, Losing, ListedAsks, LostListed};
+ghost use Rattle.rings.specs.Inner.Worklist.{arrays, RiseAsks, RiseLeft};
 use crate::choice::lesser;
 use crate::choice::one;
 use crate::counts::pay_counts;
@@ -22,6 +20,9 @@ use crate::links::wide;
 use crate::peel::is_first;
 use crate::times::greater;
 
+// Where a queue's end is asked for and it has no place left: one more than it has places.
+pub(crate) const FULL: usize = 4353;
+
 // An account whose time is z had a supporter with the time old by a row of this day, and has it no more when that has the time new.
 pub(crate) fn is_lost(z: u16, day: u16, old: u16, new: u16) -> bool
     ensures { λ r. ⌜ r ≡ ((leb old z && leb day z) && ltb z new) ⌝ }
@@ -29,9 +30,17 @@ pub(crate) fn is_lost(z: u16, day: u16, old: u16, new: u16) -> bool
     (old <= z) & (day <= z) & (z < new)
 }
 
+// A rise: the account, where its rows begin in the book, its time till now and its new one.
+pub struct Rise {
+    pub account: usize,
+    pub from: usize,
+    pub old: u16,
+    pub new: u16,
+}
+
 // v loses a supporter where the test holds. It is put at the end of the queue, and the end moves on if it has none to spare now: no branch, as in a look.
 pub(crate) fn lose(spare: &mut [u16], queue: &mut [u16], tail: usize, v: usize, test: bool) -> usize
-    requires { ⌜ (length (now spare) ≡ 4096) × (length (now queue) ≡ 4352) × (v < 4096) × (tail < 4352) ⌝ }
+    requires { ⌜ LoseAsks (now spare) (now queue) tail v ⌝ }
     ensures { λ r. ⌜ Losing test v tail (now (spare .entry)) (now (queue .entry)) (now (spare .exit)) (now (queue .exit)) r ⌝ }
 {
     let n = spare[v];
@@ -44,8 +53,8 @@ pub(crate) fn lose(spare: &mut [u16], queue: &mut [u16], tail: usize, v: usize, 
 
 // Each account that is listed from place tail to upto loses a supporter, and waits if it has none to spare now. The list stands behind the queue: the queue grows over what has been read of it.
 pub(crate) fn lose_listed(spare: &mut [u16], queue: &mut [u16], tail: usize, upto: usize) -> usize
-    requires { ⌜ (length (now spare) ≡ 4096) × (length (now queue) ≡ 4352) × (tail ≤ upto) × (upto ≤ 4352) × ((i : ℕ) → tail ≤ i → i < upto → getD (now queue) i 0 < 4096) ⌝ }
-    ensures { λ r. ⌜ (r ≤ 4352) × Queued tail (now (spare .entry)) (now (queue .entry)) r (now (spare .exit)) (now (queue .exit)) × Fewer tail upto (now (queue .entry)) (now (spare .entry)) (now (spare .exit)) ⌝ }
+    requires { ⌜ ListedAsks (now spare) (now queue) tail upto ⌝ }
+    ensures { λ r. ⌜ LostListed tail upto (now (spare .entry)) (now (queue .entry)) (now (spare .exit)) (now (queue .exit)) r ⌝ }
 {
     let mut end = tail;
     let mut p = tail;
@@ -57,7 +66,7 @@ pub(crate) fn lose_listed(spare: &mut [u16], queue: &mut [u16], tail: usize, upt
     end
 }
 
-// The rise of u takes a supporter from each that it supported till now. A row dated on the new time or later, or behind the range, takes none. Where days are counted, each row whose time moves with it is taken off its day, and all of them are counted on the new one at the end. 4,353 says that the queue has no place left.
+// A rise takes a supporter from each account that was supported till now. A row dated on the new time or later, or behind the range, takes none. Where days are counted, each row whose time moves with it is taken off its day, and all of them are counted on the new one at the end. FULL says that the queue has no place left.
 pub(crate) fn lose_others(
     days: &[u16],
     first: &[u16],
@@ -65,56 +74,51 @@ pub(crate) fn lose_others(
     links: &[u16],
     frame: Frame,
     times: &[u16],
-    u: usize,
-    from: usize,
-    old: u16,
-    new: u16,
+    rise: Rise,
     tail: usize,
     spare: &mut [u16],
     queue: &mut [u16],
     counting: bool,
     counts: &mut [u16],
 ) -> usize
-    requires { ⌜ Open (now days) (now first) (now second) (now links) frame ⌝ }
-    requires { ⌜ (u < 4096) × (length (now times) ≡ 4096) × (length (now spare) ≡ 4096) × (length (now queue) ≡ 4352) × Reading (now links) u (frame .lo) from × Every (tableOf (now days) (now first) (now second)) (guess (now times)) (frame .lo) u (now links) × Days (frame .stop) (now times) × (new ≡ getD (now times) u 0) ⌝ }
-    requires { ⌜ (counting ≡ true → Raised (tableOf (now days) (now first) (now second)) (frame .start) (frame .stop) u old new (now times) (now counts)) ⌝ }
-    ensures { λ r. ⌜ (r ≤ 4352 →
-        Lessened (tableOf (now (days .entry)) (now (first .entry)) (now (second .entry))) (guess (now (times .entry))) (frame .lo) u
-        (length (now (days .entry))) old new (now (spare .entry)) (now (spare .exit))
-        × Queued tail (now (spare .entry)) (now (queue .entry)) r (now (spare .exit)) (now (queue .exit))) ⌝ }
-    ensures { λ r. ⌜ WhereCounted counting
-        (r ≤ 4352 → CountsBy (now (days .entry)) (now (first .entry)) (now (second .entry)) (frame .start) (frame .stop) (now (times .entry)) (now (counts .exit)))
-        (now (counts .entry)) (now (counts .exit)) ⌝ }
+    requires { ⌜ (
+        let lent = arrays (now times) (now spare) (now queue) (now counts) in
+        RiseAsks (now days) (now first) (now second) (now links) frame rise counting lent) ⌝ }
+    ensures { λ r. ⌜ (
+        let t = tableOf (now (days .entry)) (now (first .entry)) (now (second .entry)) in
+        let lent = arrays (now (times .entry)) (now (spare .entry)) (now (queue .entry)) (now (counts .entry)) in
+        let left = arrays (now (times .entry)) (now (spare .exit)) (now (queue .exit)) (now (counts .exit)) in
+        RiseLeft t frame rise counting tail lent left r) ⌝ }
 {
     let n = days.len();
-    let last = entry(links, u);
-    let until = lesser(new, frame.stop + 1);
-    let mut p = from;
+    let last = entry(links, rise.account);
+    let until = lesser(rise.new, frame.stop + 1);
+    let mut p = rise.from;
     let mut end = tail;
     let mut moved = 0;
     while p < last {
         let j = entry(links, 8192 + p);
         let day = days[j];
         if until <= day {
-            pay_counts(counting, counts, new, moved);
+            pay_counts(counting, counts, rise.new, moved);
             return end;
         }
         if 4352 <= end {
-            return 4353;
+            return FULL;
         }
         p += 1;
         let fresh = is_first(links, n, frame.lo, j);
         let a = entry(first, j);
         let b = entry(second, j);
-        let v = other(a, b, u);
+        let v = other(a, b, rise.account);
         let z = times[v];
-        let own = greater(old, day);
-        let moves = z < new;
+        let own = greater(rise.old, day);
+        let moves = z < rise.new;
         let lost = (own <= z) & moves;
         end = lose(spare, queue, end, v, fresh & lost);
         let time = greater(own, z);
         moved = take_count(counting, counts, moves, time, moved);
     }
-    pay_counts(counting, counts, new, moved);
+    pay_counts(counting, counts, rise.new, moved);
     end
 }

@@ -15,6 +15,7 @@ use crate::frame::next_frame;
 use crate::links::bind;
 use crate::links::move_heads;
 use crate::links::pair_rows;
+use crate::settle::Settled;
 use crate::settle::begin;
 use crate::settle::step;
 use crate::shelf::pass_heads;
@@ -93,7 +94,7 @@ pub fn next_start(
 {
     drop_rows(days, first, second, frame, next, end, times, counts);
     pass_heads(days, first, second, scratch, frame.lo, next);
-    let risen = step(
+    let found = step(
         days,
         first,
         second,
@@ -107,22 +108,24 @@ pub fn next_start(
         true,
         counts,
     );
-    if risen <= 4352 {
-        return;
+    match found {
+        Settled::Risen(_) => {}
+        Settled::GaveUp => {
+            let after = next_frame(frame, next);
+            first_start(
+                days,
+                first,
+                second,
+                scratch,
+                after,
+                end,
+                times,
+                spare,
+                queue,
+                counts,
+            );
+        }
     }
-    let after = next_frame(frame, next);
-    first_start(
-        days,
-        first,
-        second,
-        scratch,
-        after,
-        end,
-        times,
-        spare,
-        queue,
-        counts,
-    );
 }
 
 // The least core time at s of the rows dated s.

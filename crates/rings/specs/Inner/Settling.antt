@@ -31,13 +31,17 @@ use mathlib.Core.List.{List}
 use lib.ListN.{length, getD, set}
 use lib.Dec.{leb}
 use Rattle.rings.specs.Words.{_and_, tally, count}
-use Rattle.rings.specs.Table.{Table, dayOf}
+use Rattle.rings.specs.Table.{Table, tableOf, size, dayOf}
 use Rattle.rings.specs.Ring.{touches, met, ring}
 use Rattle.rings.specs.CoreTimes.{never}
-use Rattle.rings.specs.Inner.Links.{otherOf, pairCounts, fresh}
+use Rattle.rings.specs.Inner.Links.{otherOf, pairCounts, fresh, Reading, Every}
 use Rattle.rings.specs.Inner.Support.{supporters}
-use Rattle.rings.specs.Inner.Peeling.{guess, Place}
+use Rattle.rings.specs.Inner.Peeling.{guess, Place, Open}
 use Rattle.rings.specs.declared.Query.{Query}
+use Rattle.rings.specs.declared.frame.Frame.{Frame}
+use Rattle.rings.specs.declared.look.Scan.{Scan}
+use Rattle.rings.specs.declared.look.Harvest.{Harvest}
+use Rattle.rings.specs.declared.look.View.{View}
 
 unfoldable pub value : Table → (ℕ → ℕ) → ℕ → ℕ → ℕ
 value t x j u = max (x (otherOf t j u)) (dayOf t j)
@@ -124,6 +128,54 @@ pub record Looked (t : Table) (x : ℕ → ℕ) (s k hi c u y spare : ℕ) : Typ
   pub known : 1 ≤ spare
   pub enough : (y ≡ never) ⊎ (k + spare ≤ supporters t x s y u + 1)
 
+-- ---- what a scan asks and finds
+
+-- the adjacency from the account's place on, and times that are days of the range or never
+pub record Scannable (d f g links : List ℕ) (p : Frame) (times : List ℕ) (s : Scan) : Type 0 where
+  pub opened : Open d f g links p
+  pub small : s .account < 4096
+  pub long : length times ≡ 4096
+  pub days : Days (p .stop) times
+  pub reading : Reading links (s .account) (p .lo) (s .from)
+
+-- a scan on one day of the range
+pub record ScanOn (d f g links : List ℕ) (p : Frame) (times : List ℕ) (s : Scan) : Type 0 where
+  pub lent : Scannable d f g links p times s
+  pub in-range : s .day ≤ p .stop
+  pub every : Every (tableOf d f g) (guess times) (p .lo) (s .account) links
+
+-- a scan for the first day with enough supporters: none before the scan's day has them
+pub record ScanFrom (d f g links : List ℕ) (p : Frame) (times : List ℕ) (s : Scan) : Type 0 where
+  pub lent : Scannable d f g links p times s
+  pub bounded : s .budget ≤ 65536
+  pub every : (getD times (s .account) 0 ≡ never → ⊥) → Every (tableOf d f g) (guess times) (p .lo) (s .account) links
+  pub short : Short (tableOf d f g) (guess times) (p .start) (p .query .k) (p .stop) (getD times (s .account) 0) (s .account) (s .day)
+
+-- behind the queue's end there is room for one entry for each row of the account
+pub record RoomBehind (links : List ℕ) (s : Scan) (tail : ℕ) (queue : List ℕ) : Type 0 where
+  pub long : length queue ≡ 4352
+  pub room : tail + getD links (s .account) 0 ≤ s .from + 4352
+
+pub record Scanned (t : Table) (p : Frame) (times : List ℕ) (s : Scan) (n above more walked : ℕ) : Type 0 where
+  pub seen : Glanced t (guess times) (p .lo) (p .stop) (s .day) (s .account) (size t) (p .query .k) n above more
+  pub short-walk : walked ≤ 32768
+  pub few : n + more ≤ 16384
+
+pub record ScannedForRise (t : Table) (p : Frame) (times : List ℕ) (s : Scan) (tail : ℕ) (ws ws′ : List ℕ) (r : Harvest) : Type 0 where
+  pub found : Scanned t p times s (r .count) (r .above) (r .more) (r .walked)
+  pub within : r .end ≤ 4352
+  pub gathered : r .count < p .query .k → Gathered t (guess times) (p .lo) (p .stop) (s .day) (s .account) (size t) (r .above) (r .moved) tail (r .end) ws′
+  pub behind : Behind tail ws ws′
+
+pub record Viewed (t : Table) (p : Frame) (times : List ℕ) (s : Scan) (time spare walked : ℕ) : Type 0 where
+  pub looked : Looked t (guess times) (p .start) (p .query .k) (p .stop) (getD times (s .account) 0) (s .account) time spare
+  pub short-walk : walked ≤ 98304
+
+-- what a look answers; where it gives up it says nothing
+abbrev pub ViewIs : View → Table → Frame → List ℕ → Scan → Type 0
+ViewIs (View.Found time spare walked) t p times s = Viewed t p times s time spare walked
+ViewIs View.GaveUp t p times s = Unit {0}
+
 -- ---- losses
 
 -- v loses a supporter if y says so, and has `left` to spare then. It stands at the end of the queue, which moves on where that was the last
@@ -135,11 +187,24 @@ pub record Losing (y : Bool) (v tail : ℕ) (sp ws sp′ ws′ : List ℕ) (r : 
   pub queued : ws′ ≡ set ws tail v
   pub ended : ((r ≡ tail) × (left ≡ 0 → getD sp v 0 ≡ 0)) ⊎ (r ≡ tail + 1)
 
+pub record LoseAsks (sp ws : List ℕ) (tail v : ℕ) : Type 0 where
+  pub spare-long : length sp ≡ 4096
+  pub queue-long : length ws ≡ 4352
+  pub small : v < 4096
+  pub room : tail < 4352
+
 -- so does each account that a list has from place a to b; nobody has more
 pub record Fewer (a b : ℕ) (ws sp sp′ : List ℕ) : Type 0 where
   pub long : length sp′ ≡ 4096
   pub less : (w : ℕ) → getD sp′ w 0 ≤ getD sp w 0
   pub each : (i : ℕ) → a ≤ i → i < b → getD sp′ (getD ws i 0) 0 ≤ getD sp (getD ws i 0) 0 - 1
+
+pub record ListedAsks (sp ws : List ℕ) (tail upto : ℕ) : Type 0 where
+  pub spare-long : length sp ≡ 4096
+  pub queue-long : length ws ≡ 4352
+  pub order : tail ≤ upto
+  pub within : upto ≤ 4352
+  pub small : (i : ℕ) → tail ≤ i → i < upto → getD ws i 0 < 4096
 
 -- u rose from old to new: each other account of a first row of a pair, of those below b, has one to spare less if it lost u by that
 pub record Lessened (t : Table) (x : ℕ → ℕ) (lo u b old new : ℕ) (sp₀ sp : List ℕ) : Type 0 where
@@ -159,6 +224,11 @@ pub record Queued (tail : ℕ) (sp ws : List ℕ) (r : ℕ) (sp′ ws′ : List 
   pub front : (i : ℕ) → i < tail → i < 4352 → getD ws′ i 0 ≡ getD ws i 0
   pub waits : r ≤ 4352 → (u : ℕ) → u < 4096 → getD sp′ u 0 ≡ 0 → (getD sp u 0 ≡ 0) ⊎ Place ws′ tail r u
   pub small : (i : ℕ) → tail ≤ i → i < r → i < 4352 → getD ws′ i 0 < 4096
+
+pub record LostListed (tail upto : ℕ) (sp ws sp′ ws′ : List ℕ) (r : ℕ) : Type 0 where
+  pub within : r ≤ 4352
+  pub queued : Queued tail sp ws r sp′ ws′
+  pub fewer : Fewer tail upto ws sp sp′
 
 pub record Waiting (head tail : ℕ) (sp ws : List ℕ) : Type 0 where
   pub long : length ws ≡ 4352

@@ -14,60 +14,58 @@ use Rattle.rings.proofs.look.look.Lts as lts
 use Rattle.rings.proofs.look.look_at.Reads as look-at-reads
 
 abbrev Inv-loop : tie.InvT-loop
-Inv-loop days first second links frame times u from day budget walked₀ c₀ walked c = Short (tableOf days first second) (guess times) (frame .start) (frame .query .k) (frame .stop) (getD times u 0) u c × (walked ≤ budget + 32768)
+Inv-loop days first second links frame times scan walked₀ c₀ walked c = Short (tableOf days first second) (guess times) (frame .start) (frame .query .k) (frame .stop) (getD times (scan .account) 0) (scan .account) c × (walked ≤ scan .budget + 32768)
 
 abbrev μ-loop : tie.MeasureT-loop
-μ-loop days first second links frame times u from day budget walked₀ c₀ walked c = 65535 - c
+μ-loop days first second links frame times scan walked₀ c₀ walked c = 65535 - c
 
 -- src/look.rt:249:5
 loop-holds : tie.Need-loop-holds Inv-loop μ-loop
 loop-holds c =
     let pre = c .before .before .before .before .before .pre in
-    (pre .1 .1, omega arith)
+    (pre .short, omega arith)
 
 -- src/look.rt:251:13
 returns : tie.Need-returns Inv-loop μ-loop
-returns c =
-    let loop = c .before .before .loop in
-    let pre = c .before .before .before .before .before .before .before .before .pre in
-    (λ z. absurd (z refl), omega (arith, loop .inv .1, pre .1 .0 .3))
+returns c = tt
 
 -- src/look.rt:257:13
 look-at-requires : tie.Need-look-at-requires Inv-loop μ-loop
 look-at-requires c κs =
-    let loop-test = c .before .loop-test in
-    let loop = c .before .before .loop in
-    let pre = c .before .before .before .before .before .before .before .before .pre in (
-      pre .0,
-      (
-        pre .1 .0 .0,
-        pre .1 .0 .1,
-        pre .1 .0 .2,
-        (⊎-elim (λ h. h) (λ h. absurd (omega (arith, h, loop-test .taken))) (loop .inv .0 .day)),
-        pre .1 .0 .4,
-        pre .1 .0 .5 (λ e. omega (arith, e, loop .inv .0 .from, loop-test .taken)),
-      ),
-    )
+    let loop-test = c .before .before .loop-test in
+    let loop = c .before .before .before .loop in
+    let pre = c .before .before .before .before .before .before .before .before .before .pre in
+    record {
+      lent = record {
+        opened = pre .lent .opened;
+        small = pre .lent .small;
+        long = pre .lent .long;
+        days = pre .lent .days;
+        reading = pre .lent .reading;
+      };
+      in-range = ⊎-elim (λ h. h) (λ h. absurd (omega (arith, h, loop-test .taken))) (loop .inv .0 .day);
+      every = pre .every (λ e. omega (arith, e, loop .inv .0 .from, loop-test .taken));
+    }
 
 -- src/look.rt:271:18
 add-walked : tie.Need-add-walked Inv-loop μ-loop
 add-walked c =
     let look-at = c .before .look-at in
     let if1 = c .before .before .if1 in
-    let pre = c .before .before .before .before .before .before .before .before .before .before .pre in
-    omega (arith, look-at .ensures .1, if1 .left, pre .1 .0 .3)
+    let pre = c .before .before .before .before .before .before .before .before .before .before .before .pre in
+    omega (arith, look-at .ensures .short-walk, if1 .left, pre .bounded)
 
 -- src/look.rt:275:24
 add-t16 : tie.Need-add-t16 Inv-loop μ-loop
 add-t16 c =
-    let look-at = c .before .before .before .before .before .look-at in
-    omega (arith, look-at .ensures .2)
+    let look-at = c .before .before .before .before .before .before .before .before .look-at in
+    omega (arith, look-at .ensures .few)
 
 -- src/look.rt:275:24
 sub-t17 : tie.Need-sub-t17 Inv-loop μ-loop
 sub-t17 c =
-    let if2 = c .before .before .if2 in
-    omega (arith, if2 .taken)
+    let if4 = c .before .if4 in
+    omega (arith, if4 .taken)
 
 -- src/look.rt:273:13
 returns-2 : tie.Need-returns-2 Inv-loop μ-loop
@@ -75,13 +73,14 @@ returns-2 c =
     let if2 = c .before .before .if2 in
     let look-at = c .before .before .before .before .before .before .look-at in
     let if1 = c .before .before .before .before .before .before .before .if1 in
-    let loop-test = c .before .before .before .before .before .before .before .before .loop-test in
-    let loop = c .before .before .before .before .before .before .before .before .before .loop in
-    let pre = c .before .before .before .before .before .before .before .before .before .before .before .before .before .before .before .pre in (
-      λ z. look-found _ _ _ _ _ (pre .0 .setting) _ (loop .inv .0 .fewer) (loop .inv .0 .from) (look-at .ensures .0)
-          (if2 .taken) (⊎-elim (λ h. h) (λ h. absurd (omega (arith, h, loop-test .taken))) (loop .inv .0 .day)) refl,
-      omega (arith, look-at .ensures .1, if1 .left, pre .1 .0 .3),
-    )
+    let loop-test = c .before .before .before .before .before .before .before .before .before .loop-test in
+    let loop = c .before .before .before .before .before .before .before .before .before .before .loop in
+    let pre = c .before .before .before .before .before .before .before .before .before .before .before .before .before .before .before .before .pre in
+    record {
+      looked = look-found _ _ _ _ _ (pre .lent .opened .setting) _ (loop .inv .0 .fewer) (loop .inv .0 .from) (look-at .ensures .seen)
+          (if2 .taken) (⊎-elim (λ h. h) (λ h. absurd (omega (arith, h, loop-test .taken))) (loop .inv .0 .day)) refl;
+      short-walk = omega (arith, look-at .ensures .short-walk, if1 .left, pre .bounded);
+    }
 
 -- src/look.rt:281:13
 returns-3 : tie.Need-returns-3 Inv-loop μ-loop
@@ -89,30 +88,33 @@ returns-3 c =
     let if2 = c .before .if2 in
     let look-at = c .before .before .before .before .before .look-at in
     let if1 = c .before .before .before .before .before .before .if1 in
-    let loop = c .before .before .before .before .before .before .before .before .loop in
-    let pre = c .before .before .before .before .before .before .before .before .before .before .before .before .before .before .pre in (
-      λ z. look-never _ _ _ _ _ (pre .0 .setting) _
-          (short-next _ _ _ _ _ (pre .0 .setting) _ (loop .inv .0) (look-at .ensures .0) (if2 .left) .fewer)
-          (short-next _ _ _ _ _ (pre .0 .setting) _ (loop .inv .0) (look-at .ensures .0) (if2 .left) .from)
-          (c .if3 .taken) refl,
-      omega (arith, look-at .ensures .1, if1 .left, pre .1 .0 .3),
-    )
+    let loop = c .before .before .before .before .before .before .before .before .before .loop in
+    let pre = c .before .before .before .before .before .before .before .before .before .before .before .before .before .before .before .pre in
+    record {
+      looked = look-never _ _ _ _ _ (pre .lent .opened .setting) _
+          (short-next _ _ _ _ _ (pre .lent .opened .setting) _ (loop .inv .0) (look-at .ensures .seen) (if2 .left) .fewer)
+          (short-next _ _ _ _ _ (pre .lent .opened .setting) _ (loop .inv .0) (look-at .ensures .seen) (if2 .left) .from)
+          (c .if3 .taken) refl;
+      short-walk = omega (arith, look-at .ensures .short-walk, if1 .left, pre .bounded);
+    }
 
 -- src/look.rt:287:20
 add-both : tie.Need-add-both Inv-loop μ-loop
 add-both c =
     let look-at = c .before .before .before .before .before .before .look-at in
-    omega (arith, look-at .ensures .2)
+    omega (arith, look-at .ensures .few)
 
 -- src/look.rt:291:24
-add-t18 : tie.Need-add-t18 Inv-loop μ-loop
-add-t18 c =
-    let look-at = c .before .before .before .before .before .before .before .before .look-at in
-    omega (arith, look-at .ensures .2)
+add-t14 : tie.Need-add-t14 Inv-loop μ-loop
+add-t14 c =
+    let look-at = c .before .before .before .before .before .look-at in
+    omega (arith, look-at .ensures .few)
 
 -- src/look.rt:291:24
-sub-t19 : tie.Need-sub-t19 Inv-loop μ-loop
-sub-t19 c = omega (arith, c .before .if4 .taken)
+sub-t15 : tie.Need-sub-t15 Inv-loop μ-loop
+sub-t15 c =
+    let if2 = c .before .before .if2 in
+    omega (arith, if2 .taken)
 
 -- src/look.rt:289:13
 returns-4 : tie.Need-returns-4 Inv-loop μ-loop
@@ -121,24 +123,25 @@ returns-4 c =
     let if2 = c .before .before .before .before .before .if2 in
     let look-at = c .before .before .before .before .before .before .before .before .before .look-at in
     let if1 = c .before .before .before .before .before .before .before .before .before .before .if1 in
-    let loop = c .before .before .before .before .before .before .before .before .before .before .before .before .loop in
-    let pre = c .before .before .before .before .before .before .before .before .before .before .before .before .before .before .before .before .before .before .pre in (
-      λ z. look-then _ _ _ _ _ (pre .0 .setting) _ (loop .inv .0 .fewer) (loop .inv .0 .from) (look-at .ensures .0)
-          (if2 .left) (if3 .left) (c .before .if4 .taken) refl,
-      omega (arith, look-at .ensures .1, if1 .left, pre .1 .0 .3),
-    )
+    let loop = c .before .before .before .before .before .before .before .before .before .before .before .before .before .loop in
+    let pre = c .before .before .before .before .before .before .before .before .before .before .before .before .before .before .before .before .before .before .before .pre in
+    record {
+      looked = look-then _ _ _ _ _ (pre .lent .opened .setting) _ (loop .inv .0 .fewer) (loop .inv .0 .from) (look-at .ensures .seen)
+          (if2 .left) (if3 .left) (c .before .if4 .taken) refl;
+      short-walk = omega (arith, look-at .ensures .short-walk, if1 .left, pre .bounded);
+    }
 
 -- src/look.rt:249:5
 loop-less : tie.Need-loop-less Inv-loop μ-loop
 loop-less c =
     let if2 = c .before .before .before .before .if2 in
     let look-at = c .before .before .before .before .before .before .before .before .look-at in
-    let loop-test = c .before .before .before .before .before .before .before .before .before .before .loop-test in
-    let loop = c .before .before .before .before .before .before .before .before .before .before .before .loop in
-    let pre = c .before .before .before .before .before .before .before .before .before .before .before .before .before .before .before .before .before .pre in
+    let loop-test = c .before .before .before .before .before .before .before .before .before .before .before .loop-test in
+    let loop = c .before .before .before .before .before .before .before .before .before .before .before .before .loop in
+    let pre = c .before .before .before .before .before .before .before .before .before .before .before .before .before .before .before .before .before .before .pre in
     omega (
       arith,
-      look-next _ _ _ _ _ (pre .0 .setting) _ (loop .inv .0 .fewer) (look-at .ensures .0) (if2 .left) .1,
+      look-next _ _ _ _ _ (pre .lent .opened .setting) _ (loop .inv .0 .fewer) (look-at .ensures .seen) (if2 .left) .1,
       loop-test .taken,
     )
 
@@ -148,27 +151,28 @@ loop-again c =
     let if2 = c .before .before .before .before .if2 in
     let look-at = c .before .before .before .before .before .before .before .before .look-at in
     let if1 = c .before .before .before .before .before .before .before .before .before .if1 in
-    let loop = c .before .before .before .before .before .before .before .before .before .before .before .loop in
-    let pre = c .before .before .before .before .before .before .before .before .before .before .before .before .before .before .before .before .before .pre in (
-      short-next _ _ _ _ _ (pre .0 .setting) _ (loop .inv .0) (look-at .ensures .0) (if2 .left),
-      omega (arith, look-at .ensures .1, if1 .left),
+    let loop = c .before .before .before .before .before .before .before .before .before .before .before .before .loop in
+    let pre = c .before .before .before .before .before .before .before .before .before .before .before .before .before .before .before .before .before .before .pre in (
+      short-next _ _ _ _ _ (pre .lent .opened .setting) _ (loop .inv .0) (look-at .ensures .seen) (if2 .left),
+      omega (arith, look-at .ensures .short-walk, if1 .left),
     )
 
 -- src/look.rt:227:1
 returns-5 : tie.Need-returns-5 Inv-loop μ-loop
 returns-5 c =
     let loop = c .before .loop in
-    let pre = c .before .before .before .before .before .before .before .pre in (
-      λ z. look-never _ _ _ _ _ (pre .0 .setting) _ (loop .inv .0 .fewer) (loop .inv .0 .from)
+    let pre = c .before .before .before .before .before .before .before .pre in
+    record {
+      looked = look-never _ _ _ _ _ (pre .lent .opened .setting) _ (loop .inv .0 .fewer) (loop .inv .0 .from)
           (
-          ⊎-elim (λ h. absurd (omega (arith, h, c .loop-test .left, pre .0 .setting .fits))) (λ h. h)
+          ⊎-elim (λ h. absurd (omega (arith, h, c .loop-test .left, pre .lent .opened .setting .fits))) (λ h. h)
           (loop .inv .0 .day)
-          ) refl,
-      omega (arith, loop .inv .1, pre .1 .0 .3),
-    )
+          ) refl;
+      short-walk = omega (arith, loop .inv .1, pre .bounded);
+    }
 
 pub look-spec : {M : Type 1} → statement M
 look-spec =
     tie.close
     (
-    tie.spec Inv-loop μ-loop loop-holds returns look-at-requires add-walked add-t16 sub-t17 returns-2 returns-3 add-both add-t18 sub-t19 returns-4 loop-less loop-again returns-5)
+    tie.spec Inv-loop μ-loop loop-holds returns look-at-requires add-walked add-t14 sub-t15 returns-2 returns-3 add-both add-t16 sub-t17 returns-4 loop-less loop-again returns-5)

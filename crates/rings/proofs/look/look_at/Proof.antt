@@ -21,16 +21,16 @@ use Rattle.rings.proofs.peel.is_first.Reads as is-first-reads
 use Rattle.rings.proofs.times.greater.Reads as greater-reads
 
 abbrev Inv-loop : tie.InvT-loop
-Inv-loop days first second links frame times u from c n last p₀ count₀ above₀ more₀ p count above more = (n ≡ length days) × (last ≡ getD links u 0) × Glance days first second links frame times u c p count above more × (from ≤ p) × (p ≤ 32768)
+Inv-loop days first second links frame times scan n last p₀ count₀ above₀ more₀ p count above more = (n ≡ length days) × (last ≡ getD links (scan .account) 0) × Glance days first second links frame times (scan .account) (scan .day) p count above more × ((scan .from) ≤ p) × (p ≤ 32768)
 
 abbrev μ-loop : tie.MeasureT-loop
-μ-loop days first second links frame times u from c n last p₀ count₀ above₀ more₀ p count above more = last - p
+μ-loop days first second links frame times scan n last p₀ count₀ above₀ more₀ p count above more = last - p
 
 -- src/look.rt:95:9
 entry-requires : tie.Need-entry-requires Inv-loop μ-loop
 entry-requires c κs =
     let pre = c .before .before .before .before .before .pre in
-    omega (arith, pre .1 .0, pre .0 .shelves .long)
+    omega (arith, pre .lent .small, pre .lent .opened .shelves .long)
 
 -- src/look.rt:100:5
 loop-holds : tie.Need-loop-holds Inv-loop μ-loop
@@ -38,9 +38,9 @@ loop-holds c =
     let pre = c .before .before .before .before .before .before .pre in (
       refl,
       c .entry .ensures,
-      glance-start _ _ _ _ _ (pre .0) _ (pre .1 .1) (pre .1 .2) (pre .1 .0) (pre .1 .3) (pre .1 .5) (pre .1 .4),
+      glance-start _ _ _ _ _ (pre .lent .opened) _ (pre .lent .long) (pre .lent .days) (pre .lent .small) (pre .in-range) (pre .every) (pre .lent .reading),
       le-refl _,
-      omega (arith, pre .1 .4 .to, pre .0 .shelves .shelf _ (pre .1 .0) .to, pre .0 .sound .most),
+      omega (arith, pre .lent .reading .to, pre .lent .opened .shelves .shelf _ (pre .lent .small) .to, pre .lent .opened .sound .most),
     )
 
 -- src/look.rt:101:30
@@ -50,7 +50,7 @@ add-entry c =
     let pre = c .before .before .before .before .before .before .before .before .pre in
     omega (
       arith,
-      reading-few _ _ _ _ (pre .0 .sound) (pre .0 .shelves) (pre .1 .0) (loop .inv .2 .reading) (loop .inv .1)
+      reading-few _ _ _ _ (pre .lent .opened .sound) (pre .lent .opened .shelves) (pre .lent .small) (loop .inv .2 .reading) (loop .inv .1)
           (c .loop-test .taken),
     )
 
@@ -59,7 +59,7 @@ entry-requires-2 : tie.Need-entry-requires-2 Inv-loop μ-loop
 entry-requires-2 c κs =
     let loop = c .before .loop in
     let pre = c .before .before .before .before .before .before .before .before .pre in
-    reading-place _ _ _ _ (pre .0 .sound) (pre .0 .shelves) (pre .1 .0) (loop .inv .2 .reading) (loop .inv .1)
+    reading-place _ _ _ _ (pre .lent .opened .sound) (pre .lent .opened .shelves) (pre .lent .small) (loop .inv .2 .reading) (loop .inv .1)
     (c .loop-test .taken)
 
 -- src/look.rt:102:19
@@ -70,9 +70,9 @@ mul-day c =
     let pre = c .before .before .before .before .before .before .before .before .before .pre in
     omega (
       arith,
-      reading-row _ _ _ _ (pre .0 .sound) (pre .0 .shelves) (pre .1 .0) (loop .inv .2 .reading) (loop .inv .1)
+      reading-row _ _ _ _ (pre .lent .opened .sound) (pre .lent .opened .shelves) (pre .lent .small) (loop .inv .2 .reading) (loop .inv .1)
           (loop-test .taken) (c .entry2 .ensures),
-      pre .0 .sound .most,
+      pre .lent .opened .sound .most,
     )
 
 -- src/look.rt:102:19
@@ -82,7 +82,7 @@ shared-slice-read-day c =
     let loop-test = c .before .before .loop-test in
     let loop = c .before .before .before .loop in
     let pre = c .before .before .before .before .before .before .before .before .before .before .pre in
-    reading-row _ _ _ _ (pre .0 .sound) (pre .0 .shelves) (pre .1 .0) (loop .inv .2 .reading) (loop .inv .1)
+    reading-row _ _ _ _ (pre .lent .opened .sound) (pre .lent .opened .shelves) (pre .lent .small) (loop .inv .2 .reading) (loop .inv .1)
     (loop-test .taken) (entry2 .ensures)
 
 -- src/look.rt:103:12
@@ -92,23 +92,24 @@ is-over-requires c κs = search needs
 -- src/look.rt:108:25
 sub-t29 : tie.Need-sub-t29 Inv-loop μ-loop
 sub-t29 c =
-    let loop = c .before .before .before .before .before .loop in
+    let loop = c .before .before .loop in
     omega (arith, loop .inv .3)
 
 -- src/look.rt:104:13
 returns : tie.Need-returns Inv-loop μ-loop
 returns c =
-    let is-over = c .before .is-over in
-    let entry2 = c .before .before .before .entry2 in
-    let loop-test = c .before .before .before .before .loop-test in
-    let loop = c .before .before .before .before .before .loop in
-    let pre = c .before .before .before .before .before .before .before .before .before .before .before .before .pre in (
-      glance-over _ _ _ _ _ (pre .0) _ (pre .1 .1) (pre .1 .2) (pre .1 .0) (pre .1 .3) (pre .1 .5) (loop .inv .2)
-          (loop .inv .1) (loop-test .taken) (entry2 .ensures) refl (is-over .ensures .yes (c .if1 .taken)),
-      omega (arith, loop .inv .4),
-      glance-most _ _ _ _ _ (pre .0) _ (pre .1 .1) (pre .1 .2) (pre .1 .0) (pre .1 .3) (pre .1 .5) (loop .inv .2)
-          (loop .inv .1),
-    )
+    let is-over = c .before .before .is-over in
+    let entry2 = c .before .before .before .before .entry2 in
+    let loop-test = c .before .before .before .before .before .loop-test in
+    let loop = c .before .before .before .before .before .before .loop in
+    let pre = c .before .before .before .before .before .before .before .before .before .before .before .before .before .pre in
+    record {
+      seen = glance-over _ _ _ _ _ (pre .lent .opened) _ (pre .lent .long) (pre .lent .days) (pre .lent .small) (pre .in-range) (pre .every) (loop .inv .2)
+          (loop .inv .1) (loop-test .taken) (entry2 .ensures) refl (is-over .ensures .yes (c .before .if1 .taken));
+      short-walk = omega (arith, loop .inv .4);
+      few = glance-most _ _ _ _ _ (pre .lent .opened) _ (pre .lent .long) (pre .lent .days) (pre .lent .small) (pre .in-range) (pre .every) (loop .inv .2)
+          (loop .inv .1);
+    }
 
 -- src/look.rt:111:9
 add-p : tie.Need-add-p Inv-loop μ-loop
@@ -118,7 +119,7 @@ add-p c =
     let pre = c .before .before .before .before .before .before .before .before .before .before .before .before .pre in
     omega (
       arith,
-      reading-few _ _ _ _ (pre .0 .sound) (pre .0 .shelves) (pre .1 .0) (loop .inv .2 .reading) (loop .inv .1)
+      reading-few _ _ _ _ (pre .lent .opened .sound) (pre .lent .opened .shelves) (pre .lent .small) (loop .inv .2 .reading) (loop .inv .1)
           (loop-test .taken),
     )
 
@@ -131,10 +132,10 @@ is-first-requires c κs =
     let pre = c .before .before .before .before .before .before .before .before .before .before .before .before .pre in
     rw (loop .inv .0)
     (
-    let a = reading-fresh-place _ _ _ _ (pre .0 .sound) (pre .0 .shelves) (pre .1 .0) (loop .inv .2 .reading)
+    let a = reading-fresh-place _ _ _ _ (pre .lent .opened .sound) (pre .lent .opened .shelves) (pre .lent .small) (loop .inv .2 .reading)
     (loop .inv .1) (loop-test .taken) (entry2 .ensures) in (
       a,
-      glance-late _ _ _ _ _ (pre .0) _ (pre .1 .1) (pre .1 .2) (pre .1 .0) (pre .1 .3) (pre .1 .5) (loop .inv .2)
+      glance-late _ _ _ _ _ (pre .lent .opened) _ (pre .lent .long) (pre .lent .days) (pre .lent .small) (pre .in-range) (pre .every) (loop .inv .2)
           (loop .inv .1) (loop-test .taken) (entry2 .ensures),
     )
     )
@@ -148,9 +149,9 @@ entry-requires-3 c κs =
     let pre = c .before .before .before .before .before .before .before .before .before .before .before .before .before .pre in
     omega (
       arith,
-      reading-row _ _ _ _ (pre .0 .sound) (pre .0 .shelves) (pre .1 .0) (loop .inv .2 .reading) (loop .inv .1)
+      reading-row _ _ _ _ (pre .lent .opened .sound) (pre .lent .opened .shelves) (pre .lent .small) (loop .inv .2 .reading) (loop .inv .1)
           (loop-test .taken) (entry2 .ensures),
-      pre .0 .sound .firsts,
+      pre .lent .opened .sound .firsts,
     )
 
 -- src/look.rt:114:13
@@ -162,9 +163,9 @@ entry-requires-4 c κs =
     let pre = c .before .before .before .before .before .before .before .before .before .before .before .before .before .before .pre in
     omega (
       arith,
-      reading-row _ _ _ _ (pre .0 .sound) (pre .0 .shelves) (pre .1 .0) (loop .inv .2 .reading) (loop .inv .1)
+      reading-row _ _ _ _ (pre .lent .opened .sound) (pre .lent .opened .shelves) (pre .lent .small) (loop .inv .2 .reading) (loop .inv .1)
           (loop-test .taken) (entry2 .ensures),
-      pre .0 .sound .seconds,
+      pre .lent .opened .sound .seconds,
     )
 
 -- src/look.rt:115:13
@@ -175,7 +176,7 @@ other-requires c κs =
     let loop-test = c .before .before .before .before .before .before .before .loop-test in
     let loop = c .before .before .before .before .before .before .before .before .loop in
     let pre = c .before .before .before .before .before .before .before .before .before .before .before .before .before .before .before .pre in
-    reading-ends _ _ _ _ (pre .0 .sound) (pre .0 .shelves) (pre .1 .0) (loop .inv .2 .reading) (loop .inv .1)
+    reading-ends _ _ _ _ (pre .lent .opened .sound) (pre .lent .opened .shelves) (pre .lent .small) (loop .inv .2 .reading) (loop .inv .1)
     (loop-test .taken) (entry2 .ensures) (entry3 .ensures) (c .entry4 .ensures)
 
 -- src/look.rt:116:25
@@ -189,7 +190,7 @@ mul-greater c =
     let pre = c .before .before .before .before .before .before .before .before .before .before .before .before .before .before .before .before .pre in
     omega (
       arith,
-      glance-small _ _ _ _ _ (pre .0) _ (pre .1 .1) (pre .1 .2) (pre .1 .0) (pre .1 .3) (pre .1 .5) (loop .inv .2)
+      glance-small _ _ _ _ _ (pre .lent .opened) _ (pre .lent .long) (pre .lent .days) (pre .lent .small) (pre .in-range) (pre .every) (loop .inv .2)
           (loop .inv .1) (loop-test .taken) (entry2 .ensures) refl (entry3 .ensures) (entry4 .ensures)
           (c .other .ensures),
     )
@@ -206,9 +207,9 @@ shared-slice-read-greater c =
     let pre = c .before .before .before .before .before .before .before .before .before .before .before .before .before .before .before .before .before .pre in
     omega (
       arith,
-      glance-small _ _ _ _ _ (pre .0) _ (pre .1 .1) (pre .1 .2) (pre .1 .0) (pre .1 .3) (pre .1 .5) (loop .inv .2)
+      glance-small _ _ _ _ _ (pre .lent .opened) _ (pre .lent .long) (pre .lent .days) (pre .lent .small) (pre .in-range) (pre .every) (loop .inv .2)
           (loop .inv .1) (loop-test .taken) (entry2 .ensures) refl (entry3 .ensures) (entry4 .ensures) (other .ensures),
-      pre .1 .1,
+      pre .lent .long,
     )
 
 -- src/look.rt:116:13
@@ -226,7 +227,7 @@ note-requires c κs =
     let loop-test = c .before .before .before .before .before .before .before .before .before .before .before .loop-test in
     let loop = c .before .before .before .before .before .before .before .before .before .before .before .before .loop in
     let pre = c .before .before .before .before .before .before .before .before .before .before .before .before .before .before .before .before .before .before .before .pre in
-    glance-few _ _ _ _ _ (pre .0) _ (pre .1 .1) (pre .1 .2) (pre .1 .0) (pre .1 .3) (pre .1 .5) (loop .inv .2)
+    glance-few _ _ _ _ _ (pre .lent .opened) _ (pre .lent .long) (pre .lent .days) (pre .lent .small) (pre .in-range) (pre .every) (loop .inv .2)
     (loop .inv .1) (loop-test .taken) (entry2 .ensures)
 
 -- src/look.rt:100:5
@@ -252,39 +253,40 @@ loop-again c =
     let pre = c .before .before .before .before .before .before .before .before .before .before .before .before .before .before .before .before .before .before .before .before .pre in (
       loop .inv .0,
       loop .inv .1,
-      glance-mark _ _ _ _ _ (pre .0) _ (pre .1 .1) (pre .1 .2) (pre .1 .0) (pre .1 .3) (pre .1 .5) (loop .inv .2)
+      glance-mark _ _ _ _ _ (pre .lent .opened) _ (pre .lent .long) (pre .lent .days) (pre .lent .small) (pre .in-range) (pre .every) (loop .inv .2)
           (loop .inv .1) (loop-test .taken) (entry2 .ensures) refl (entry3 .ensures) (entry4 .ensures) (other .ensures)
           (rw (loop .inv .0) (is-first .ensures))
-          (⊎-elim (λ h. omega (arith, h, pre .1 .3)) (λ h. h) (is-over .ensures .not (if1 .left))) (greater .ensures)
+          (⊎-elim (λ h. omega (arith, h, pre .in-range)) (λ h. h) (is-over .ensures .not (if1 .left))) (greater .ensures)
           (pick .ensures) (c .note .ensures),
       omega (arith, loop .inv .3),
       omega (
         arith,
-        reading-few _ _ _ _ (pre .0 .sound) (pre .0 .shelves) (pre .1 .0) (loop .inv .2 .reading) (loop .inv .1)
+        reading-few _ _ _ _ (pre .lent .opened .sound) (pre .lent .opened .shelves) (pre .lent .small) (loop .inv .2 .reading) (loop .inv .1)
             (loop-test .taken),
       ),
     )
 
 -- src/look.rt:126:17
-sub-t31 : tie.Need-sub-t31 Inv-loop μ-loop
-sub-t31 c =
-    let loop = c .before .loop in
+sub-t27 : tie.Need-sub-t27 Inv-loop μ-loop
+sub-t27 c =
+    let loop = c .before .before .before .before .before .before .loop in
     omega (arith, loop .inv .3)
 
 -- src/look.rt:76:1
 returns-2 : tie.Need-returns-2 Inv-loop μ-loop
 returns-2 c =
-    let loop = c .before .loop in
-    let pre = c .before .before .before .before .before .before .before .before .pre in (
-      glance-out _ _ _ _ _ (pre .0) _ (pre .1 .1) (pre .1 .2) (pre .1 .0) (pre .1 .3) (pre .1 .5) (loop .inv .2)
-          (loop .inv .1) (c .loop-test .left),
-      omega (arith, loop .inv .4),
-      glance-most _ _ _ _ _ (pre .0) _ (pre .1 .1) (pre .1 .2) (pre .1 .0) (pre .1 .3) (pre .1 .5) (loop .inv .2)
-          (loop .inv .1),
-    )
+    let loop = c .before .before .loop in
+    let pre = c .before .before .before .before .before .before .before .before .before .pre in
+    record {
+      seen = glance-out _ _ _ _ _ (pre .lent .opened) _ (pre .lent .long) (pre .lent .days) (pre .lent .small) (pre .in-range) (pre .every) (loop .inv .2)
+          (loop .inv .1) (c .before .loop-test .left);
+      short-walk = omega (arith, loop .inv .4);
+      few = glance-most _ _ _ _ _ (pre .lent .opened) _ (pre .lent .long) (pre .lent .days) (pre .lent .small) (pre .in-range) (pre .every) (loop .inv .2)
+          (loop .inv .1);
+    }
 
 pub look-at-spec : {M : Type 1} → statement M
 look-at-spec =
     tie.close
     (
-    tie.spec Inv-loop μ-loop entry-requires loop-holds add-entry entry-requires-2 mul-day shared-slice-read-day is-over-requires sub-t29 returns add-p is-first-requires entry-requires-3 entry-requires-4 other-requires mul-greater shared-slice-read-greater greater-requires pick-requires note-requires loop-less loop-again sub-t31 returns-2)
+    tie.spec Inv-loop μ-loop entry-requires loop-holds add-entry entry-requires-2 mul-day shared-slice-read-day is-over-requires sub-t27 returns add-p is-first-requires entry-requires-3 entry-requires-4 other-requires mul-greater shared-slice-read-greater greater-requires pick-requires note-requires loop-less loop-again sub-t29 returns-2)

@@ -54,7 +54,7 @@ add-result : tie.Need-add-result
 add-result c =
     let one2 = c .before .one2 in
     let pre = c .before .before .before .before .before .before .before .before .before .before .pre in
-    omega (arith, pre .3, c .wide .ensures, by-most (one2 .ensures))
+    omega (arith, pre .room, c .wide .ensures, by-most (one2 .ensures))
 
 -- src/settle.rt:239:1
 same-length : tie.Need-same-length

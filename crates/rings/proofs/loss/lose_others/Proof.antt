@@ -22,22 +22,22 @@ use Rattle.rings.proofs.loss.lose.Reads as lose-reads
 use Rattle.rings.proofs.times.greater.Reads as greater-reads
 
 abbrev Inv-loop : tie.InvT-loop
-Inv-loop days first second links frame times u from old new tail spare₀ queue₀ counting counts₀ n last until p₀ end₀ moved₀ spare queue counts p end moved = (n ≡ length days) × (last ≡ getD links u 0) × (length counts ≡ length counts₀) × Surge days first second links frame times u old new tail spare₀ queue₀ counting counts₀ p end moved spare queue counts
+Inv-loop days first second links frame times rise tail spare₀ queue₀ counting counts₀ n last until p₀ end₀ moved₀ spare queue counts p end moved = (n ≡ length days) × (last ≡ getD links (rise .account) 0) × (length counts ≡ length counts₀) × Surge days first second links frame times (rise .account) (rise .old) (rise .new) tail spare₀ queue₀ counting counts₀ p end moved spare queue counts
 
 abbrev μ-loop : tie.MeasureT-loop
-μ-loop days first second links frame times u from old new tail spare₀ queue₀ counting counts₀ n last until p₀ end₀ moved₀ spare queue counts p end moved = last - p
+μ-loop days first second links frame times rise tail spare₀ queue₀ counting counts₀ n last until p₀ end₀ moved₀ spare queue counts p end moved = last - p
 
 -- src/settle.rt:271:9
 entry-requires : tie.Need-entry-requires Inv-loop μ-loop
 entry-requires c κs =
     let pre = c .before .before .before .before .before .before .before .before .pre in
-    omega (arith, pre .1 .0 .0, pre .0 .shelves .long)
+    omega (arith, pre .small, pre .opened .shelves .long)
 
 -- src/settle.rt:272:29
 add-lesser : tie.Need-add-lesser Inv-loop μ-loop
 add-lesser c =
     let pre = c .before .before .before .before .before .before .before .before .before .before .pre in
-    omega (arith, pre .0 .setting .fits)
+    omega (arith, pre .opened .setting .fits)
 
 -- src/settle.rt:272:9
 lesser-requires : tie.Need-lesser-requires Inv-loop μ-loop
@@ -51,8 +51,8 @@ loop-holds c =
       refl,
       entry .ensures,
       refl,
-      surge-start _ _ _ _ _ (pre .0) _ (pre .1 .0 .1) (pre .1 .0 .0) (pre .1 .0 .5) (pre .1 .0 .6) _ _ (pre .1 .0 .7) _
-          _ _ _ (pre .1 .0 .2) (pre .1 .0 .3) (pre .1 .0 .4) (pre .1 .1),
+      surge-start _ _ _ _ _ (pre .opened) _ (pre .times-long) (pre .small) (pre .every) (pre .days) _ _ (pre .now-is) _
+          _ _ _ (pre .spare-long) (pre .queue-long) (pre .reading) (pre .counted),
     )
 
 -- src/settle.rt:277:30
@@ -62,7 +62,7 @@ add-entry c =
     let pre = c .before .before .before .before .before .before .before .before .before .before .before .before .before .pre in
     omega (
       arith,
-      reading-few _ _ _ _ (pre .0 .sound) (pre .0 .shelves) (pre .1 .0 .0) (loop .inv .3 .wave .reading)
+      reading-few _ _ _ _ (pre .opened .sound) (pre .opened .shelves) (pre .small) (loop .inv .3 .wave .reading)
           (loop .inv .1) (c .loop-test .taken),
     )
 
@@ -71,7 +71,7 @@ entry-requires-2 : tie.Need-entry-requires-2 Inv-loop μ-loop
 entry-requires-2 c κs =
     let loop = c .before .loop in
     let pre = c .before .before .before .before .before .before .before .before .before .before .before .before .before .pre in
-    reading-place _ _ _ _ (pre .0 .sound) (pre .0 .shelves) (pre .1 .0 .0) (loop .inv .3 .wave .reading) (loop .inv .1)
+    reading-place _ _ _ _ (pre .opened .sound) (pre .opened .shelves) (pre .small) (loop .inv .3 .wave .reading) (loop .inv .1)
     (c .loop-test .taken)
 
 -- src/settle.rt:278:19
@@ -82,9 +82,9 @@ mul-day c =
     let pre = c .before .before .before .before .before .before .before .before .before .before .before .before .before .before .pre in
     omega (
       arith,
-      reading-row _ _ _ _ (pre .0 .sound) (pre .0 .shelves) (pre .1 .0 .0) (loop .inv .3 .wave .reading)
+      reading-row _ _ _ _ (pre .opened .sound) (pre .opened .shelves) (pre .small) (loop .inv .3 .wave .reading)
           (loop .inv .1) (loop-test .taken) (c .entry2 .ensures),
-      pre .0 .sound .most,
+      pre .opened .sound .most,
     )
 
 -- src/settle.rt:278:19
@@ -94,7 +94,7 @@ shared-slice-read-day c =
     let loop-test = c .before .before .loop-test in
     let loop = c .before .before .before .loop in
     let pre = c .before .before .before .before .before .before .before .before .before .before .before .before .before .before .before .pre in
-    reading-row _ _ _ _ (pre .0 .sound) (pre .0 .shelves) (pre .1 .0 .0) (loop .inv .3 .wave .reading) (loop .inv .1)
+    reading-row _ _ _ _ (pre .opened .sound) (pre .opened .shelves) (pre .small) (loop .inv .3 .wave .reading) (loop .inv .1)
     (loop-test .taken) (entry2 .ensures)
 
 -- src/settle.rt:280:13
@@ -107,9 +107,9 @@ pay-counts-requires c κs =
     let lesser = c .before .before .before .before .before .before .lesser in
     let args = c .before .before .before .before .before .before .before .before .before .before .before .before .before .before .before .before .before .args in
     let pre = c .before .before .before .before .before .before .before .before .before .before .before .before .before .before .before .before .before .pre in
-    λ h. surge-pays (args .times .now) (pre .0) (pre .1 .0 .0) (pre .1 .0 .6) (pre .1 .0 .7) (pre .1 .1 h .top)
+    λ h. surge-pays (args .times .now) (pre .opened) (pre .small) (pre .days) (pre .now-is) (pre .counted h .top)
     (
-    surge-stop _ _ _ _ _ (pre .0) _ (pre .1 .0 .1) (pre .1 .0 .0) (pre .1 .0 .5) (pre .1 .0 .6) _ _ (pre .1 .0 .7) _
+    surge-stop _ _ _ _ _ (pre .opened) _ (pre .times-long) (pre .small) (pre .every) (pre .days) _ _ (pre .now-is) _
     _ _ _ (loop .inv .3) (loop .inv .1) (loop-test .taken) (entry2 .ensures) refl (lesser .ensures)
     (if1 .taken) .1 .counted h
     )
@@ -119,14 +119,14 @@ same-length : tie.Need-same-length Inv-loop μ-loop
 same-length c =
     let loop = c .before .before .before .before .before .before .before .before .loop in
     let pre = c .before .before .before .before .before .before .before .before .before .before .before .before .before .before .before .before .before .before .before .before .pre in
-    loop .inv .3 .wave .done .long ∙ sym (pre .1 .0 .2)
+    loop .inv .3 .wave .done .long ∙ sym (pre .spare-long)
 
 -- src/settle.rt:281:13
 same-length-2 : tie.Need-same-length-2 Inv-loop μ-loop
 same-length-2 c =
     let loop = c .before .before .before .before .before .before .before .before .loop in
     let pre = c .before .before .before .before .before .before .before .before .before .before .before .before .before .before .before .before .before .before .before .before .pre in
-    loop .inv .3 .wave .queued .long ∙ sym (pre .1 .0 .3)
+    loop .inv .3 .wave .queued .long ∙ sym (pre .queue-long)
 
 -- src/settle.rt:281:13
 same-length-3 : tie.Need-same-length-3 Inv-loop μ-loop
@@ -143,31 +143,28 @@ returns c =
     let loop-test = c .before .before .before .before .before .before .before .loop-test in
     let loop = c .before .before .before .before .before .before .before .before .loop in
     let lesser = c .before .before .before .before .before .before .before .before .before .lesser in
-    let pre = c .before .before .before .before .before .before .before .before .before .before .before .before .before .before .before .before .before .before .before .before .pre in (
-      λ h. surge-stop _ _ _ _ _ (pre .0) _ (pre .1 .0 .1) (pre .1 .0 .0) (pre .1 .0 .5) (pre .1 .0 .6) _ _
-          (pre .1 .0 .7) _ _ _ _ (loop .inv .3) (loop .inv .1) (loop-test .taken) (entry2 .ensures) refl (lesser .ensures)
-          (if1 .taken) .0,
-      counted-paid
-          (
-          surge-stop _ _ _ _ _ (pre .0) _ (pre .1 .0 .1) (pre .1 .0 .0) (pre .1 .0 .5) (pre .1 .0 .6) _ _ (pre .1 .0 .7)
-          _ _ _ _ (loop .inv .3) (loop .inv .1) (loop-test .taken) (entry2 .ensures) refl (lesser .ensures)
-          (if1 .taken) .1
-          ) (pay-counts .ensures),
-    )
+    let pre = c .before .before .before .before .before .before .before .before .before .before .before .before .before .before .before .before .before .before .before .before .pre in
+    let done = surge-stop _ _ _ _ _ (pre .opened) _ (pre .times-long) (pre .small) (pre .every) (pre .days) _ _ (pre .now-is)
+    _ _ _ _ (loop .inv .3) (loop .inv .1) (loop-test .taken) (entry2 .ensures) refl (lesser .ensures) (if1 .taken) in
+    record {
+      lessened = λ h. done .0 .0;
+      queued = λ h. done .0 .1;
+      counted = counted-paid (done .1) (pay-counts .ensures);
+    }
 
 -- src/settle.rt:284:13
 same-length-4 : tie.Need-same-length-4 Inv-loop μ-loop
 same-length-4 c =
     let loop = c .before .before .before .before .before .loop in
     let pre = c .before .before .before .before .before .before .before .before .before .before .before .before .before .before .before .before .before .pre in
-    loop .inv .3 .wave .done .long ∙ sym (pre .1 .0 .2)
+    loop .inv .3 .wave .done .long ∙ sym (pre .spare-long)
 
 -- src/settle.rt:284:13
 same-length-5 : tie.Need-same-length-5 Inv-loop μ-loop
 same-length-5 c =
     let loop = c .before .before .before .before .before .loop in
     let pre = c .before .before .before .before .before .before .before .before .before .before .before .before .before .before .before .before .before .pre in
-    loop .inv .3 .wave .queued .long ∙ sym (pre .1 .0 .3)
+    loop .inv .3 .wave .queued .long ∙ sym (pre .queue-long)
 
 -- src/settle.rt:284:13
 same-length-6 : tie.Need-same-length-6 Inv-loop μ-loop
@@ -179,7 +176,11 @@ same-length-6 c =
 returns-2 : tie.Need-returns-2 Inv-loop μ-loop
 returns-2 c =
     let loop = c .before .before .before .before .before .loop in
-    (λ h. absurd (omega (arith, h)), counted-so (λ y h. absurd (omega (arith, h))) (loop .inv .3 .shift))
+    record {
+      lessened = λ h. absurd (omega (arith, h));
+      queued = λ h. absurd (omega (arith, h));
+      counted = counted-so (λ y h. absurd (omega (arith, h))) (loop .inv .3 .shift);
+    }
 
 -- src/settle.rt:286:9
 add-p : tie.Need-add-p Inv-loop μ-loop
@@ -189,7 +190,7 @@ add-p c =
     let pre = c .before .before .before .before .before .before .before .before .before .before .before .before .before .before .before .before .before .pre in
     omega (
       arith,
-      reading-few _ _ _ _ (pre .0 .sound) (pre .0 .shelves) (pre .1 .0 .0) (loop .inv .3 .wave .reading)
+      reading-few _ _ _ _ (pre .opened .sound) (pre .opened .shelves) (pre .small) (loop .inv .3 .wave .reading)
           (loop .inv .1) (loop-test .taken),
     )
 
@@ -202,11 +203,11 @@ is-first-requires c κs =
     let pre = c .before .before .before .before .before .before .before .before .before .before .before .before .before .before .before .before .before .pre in
     rw (loop .inv .0)
     (
-    let a = reading-fresh-place _ _ _ _ (pre .0 .sound) (pre .0 .shelves) (pre .1 .0 .0)
+    let a = reading-fresh-place _ _ _ _ (pre .opened .sound) (pre .opened .shelves) (pre .small)
     (loop .inv .3 .wave .reading) (loop .inv .1) (loop-test .taken) (entry2 .ensures) in (
       a,
-      surge-late _ _ _ _ _ (pre .0) _ (pre .1 .0 .1) (pre .1 .0 .0) (pre .1 .0 .5) (pre .1 .0 .6) _ _
-          (pre .1 .0 .7) _ _ _ _ (loop .inv .3) (loop .inv .1) (loop-test .taken) (entry2 .ensures),
+      surge-late _ _ _ _ _ (pre .opened) _ (pre .times-long) (pre .small) (pre .every) (pre .days) _ _
+          (pre .now-is) _ _ _ _ (loop .inv .3) (loop .inv .1) (loop-test .taken) (entry2 .ensures),
     )
     )
 
@@ -219,9 +220,9 @@ entry-requires-3 c κs =
     let pre = c .before .before .before .before .before .before .before .before .before .before .before .before .before .before .before .before .before .before .pre in
     omega (
       arith,
-      reading-row _ _ _ _ (pre .0 .sound) (pre .0 .shelves) (pre .1 .0 .0) (loop .inv .3 .wave .reading)
+      reading-row _ _ _ _ (pre .opened .sound) (pre .opened .shelves) (pre .small) (loop .inv .3 .wave .reading)
           (loop .inv .1) (loop-test .taken) (entry2 .ensures),
-      pre .0 .sound .firsts,
+      pre .opened .sound .firsts,
     )
 
 -- src/settle.rt:289:13
@@ -233,9 +234,9 @@ entry-requires-4 c κs =
     let pre = c .before .before .before .before .before .before .before .before .before .before .before .before .before .before .before .before .before .before .before .pre in
     omega (
       arith,
-      reading-row _ _ _ _ (pre .0 .sound) (pre .0 .shelves) (pre .1 .0 .0) (loop .inv .3 .wave .reading)
+      reading-row _ _ _ _ (pre .opened .sound) (pre .opened .shelves) (pre .small) (loop .inv .3 .wave .reading)
           (loop .inv .1) (loop-test .taken) (entry2 .ensures),
-      pre .0 .sound .seconds,
+      pre .opened .sound .seconds,
     )
 
 -- src/settle.rt:290:13
@@ -246,7 +247,7 @@ other-requires c κs =
     let loop-test = c .before .before .before .before .before .before .before .loop-test in
     let loop = c .before .before .before .before .before .before .before .before .loop in
     let pre = c .before .before .before .before .before .before .before .before .before .before .before .before .before .before .before .before .before .before .before .before .pre in
-    reading-ends _ _ _ _ (pre .0 .sound) (pre .0 .shelves) (pre .1 .0 .0) (loop .inv .3 .wave .reading) (loop .inv .1)
+    reading-ends _ _ _ _ (pre .opened .sound) (pre .opened .shelves) (pre .small) (loop .inv .3 .wave .reading) (loop .inv .1)
     (loop-test .taken) (entry2 .ensures) (entry3 .ensures) (c .entry4 .ensures)
 
 -- src/settle.rt:291:17
@@ -260,7 +261,7 @@ mul-z c =
     let pre = c .before .before .before .before .before .before .before .before .before .before .before .before .before .before .before .before .before .before .before .before .before .pre in
     omega (
       arith,
-      wave-small _ _ _ _ _ (pre .0) _ (pre .1 .0 .1) (pre .1 .0 .0) (pre .1 .0 .5) (pre .1 .0 .6) _ _ (pre .1 .0 .7) _
+      wave-small _ _ _ _ _ (pre .opened) _ (pre .times-long) (pre .small) (pre .every) (pre .days) _ _ (pre .now-is) _
           _ _ (loop .inv .3 .wave) (loop .inv .1) (loop-test .taken) (entry2 .ensures) refl (entry3 .ensures)
           (entry4 .ensures) (c .other .ensures),
     )
@@ -277,10 +278,10 @@ shared-slice-read-z c =
     let pre = c .before .before .before .before .before .before .before .before .before .before .before .before .before .before .before .before .before .before .before .before .before .before .pre in
     omega (
       arith,
-      wave-small _ _ _ _ _ (pre .0) _ (pre .1 .0 .1) (pre .1 .0 .0) (pre .1 .0 .5) (pre .1 .0 .6) _ _ (pre .1 .0 .7) _
+      wave-small _ _ _ _ _ (pre .opened) _ (pre .times-long) (pre .small) (pre .every) (pre .days) _ _ (pre .now-is) _
           _ _ (loop .inv .3 .wave) (loop .inv .1) (loop-test .taken) (entry2 .ensures) refl (entry3 .ensures)
           (entry4 .ensures) (other .ensures),
-      pre .1 .0 .1,
+      pre .times-long,
     )
 
 -- src/settle.rt:292:13
@@ -290,21 +291,22 @@ greater-requires c κs = search needs
 -- src/settle.rt:295:9
 lose-requires : tie.Need-lose-requires Inv-loop μ-loop
 lose-requires c κs =
-    let other = c .before .before .before .before .other in
-    let entry4 = c .before .before .before .before .before .entry4 in
-    let entry3 = c .before .before .before .before .before .before .entry3 in
-    let if2 = c .before .before .before .before .before .before .before .before .if2 in
-    let entry2 = c .before .before .before .before .before .before .before .before .before .before .before .entry2 in
-    let loop-test = c .before .before .before .before .before .before .before .before .before .before .before .before .loop-test in
-    let loop = c .before .before .before .before .before .before .before .before .before .before .before .before .before .loop in
-    let pre = c .before .before .before .before .before .before .before .before .before .before .before .before .before .before .before .before .before .before .before .before .before .before .before .before .before .pre in (
-      loop .inv .3 .wave .done .long,
-      loop .inv .3 .wave .queued .long,
-      wave-small _ _ _ _ _ (pre .0) _ (pre .1 .0 .1) (pre .1 .0 .0) (pre .1 .0 .5) (pre .1 .0 .6) _ _ (pre .1 .0 .7) _ _
-          _ (loop .inv .3 .wave) (loop .inv .1) (loop-test .taken) (entry2 .ensures) refl (entry3 .ensures)
-          (entry4 .ensures) (other .ensures),
-      if2 .left,
-    )
+    let other = c .before .before .before .before .before .other in
+    let entry4 = c .before .before .before .before .before .before .entry4 in
+    let entry3 = c .before .before .before .before .before .before .before .entry3 in
+    let if2 = c .before .before .before .before .before .before .before .before .before .if2 in
+    let entry2 = c .before .before .before .before .before .before .before .before .before .before .before .before .entry2 in
+    let loop-test = c .before .before .before .before .before .before .before .before .before .before .before .before .before .loop-test in
+    let loop = c .before .before .before .before .before .before .before .before .before .before .before .before .before .before .loop in
+    let pre = c .before .before .before .before .before .before .before .before .before .before .before .before .before .before .before .before .before .before .before .before .before .before .before .before .before .before .pre in
+    record {
+      spare-long = loop .inv .3 .wave .done .long;
+      queue-long = loop .inv .3 .wave .queued .long;
+      small = wave-small _ _ _ _ _ (pre .opened) _ (pre .times-long) (pre .small) (pre .every) (pre .days) _ _ (pre .now-is)
+          _ _ _ (loop .inv .3 .wave) (loop .inv .1) (loop-test .taken) (entry2 .ensures) refl (entry3 .ensures)
+          (entry4 .ensures) (other .ensures);
+      room = if2 .left;
+    }
 
 -- src/settle.rt:296:13
 greater-requires-2 : tie.Need-greater-requires-2 Inv-loop μ-loop
@@ -314,24 +316,24 @@ greater-requires-2 c κs = search needs
 take-count-requires : tie.Need-take-count-requires Inv-loop μ-loop
 take-count-requires c κs =
     let greater2 = c .before .greater2 in
-    let greater = c .before .before .before .before .before .before .before .before .before .greater in
-    let other = c .before .before .before .before .before .before .before .before .before .before .before .other in
-    let entry4 = c .before .before .before .before .before .before .before .before .before .before .before .before .entry4 in
-    let entry3 = c .before .before .before .before .before .before .before .before .before .before .before .before .before .entry3 in
-    let if1 = c .before .before .before .before .before .before .before .before .before .before .before .before .before .before .before .before .if1 in
-    let entry2 = c .before .before .before .before .before .before .before .before .before .before .before .before .before .before .before .before .before .before .entry2 in
-    let loop-test = c .before .before .before .before .before .before .before .before .before .before .before .before .before .before .before .before .before .before .before .loop-test in
-    let loop = c .before .before .before .before .before .before .before .before .before .before .before .before .before .before .before .before .before .before .before .before .loop in
-    let lesser = c .before .before .before .before .before .before .before .before .before .before .before .before .before .before .before .before .before .before .before .before .before .lesser in
-    let pre = c .before .before .before .before .before .before .before .before .before .before .before .before .before .before .before .before .before .before .before .before .before .before .before .before .before .before .before .before .before .before .before .before .pre in
-    λ h. surge-asks _ _ _ _ _ (pre .0) _ (pre .1 .0 .1) (pre .1 .0 .0) (pre .1 .0 .5) (pre .1 .0 .6) _ _ (pre .1 .0 .7)
+    let greater = c .before .before .before .before .before .before .before .before .before .before .greater in
+    let other = c .before .before .before .before .before .before .before .before .before .before .before .before .other in
+    let entry4 = c .before .before .before .before .before .before .before .before .before .before .before .before .before .entry4 in
+    let entry3 = c .before .before .before .before .before .before .before .before .before .before .before .before .before .before .entry3 in
+    let if1 = c .before .before .before .before .before .before .before .before .before .before .before .before .before .before .before .before .before .if1 in
+    let entry2 = c .before .before .before .before .before .before .before .before .before .before .before .before .before .before .before .before .before .before .before .entry2 in
+    let loop-test = c .before .before .before .before .before .before .before .before .before .before .before .before .before .before .before .before .before .before .before .before .loop-test in
+    let loop = c .before .before .before .before .before .before .before .before .before .before .before .before .before .before .before .before .before .before .before .before .before .loop in
+    let lesser = c .before .before .before .before .before .before .before .before .before .before .before .before .before .before .before .before .before .before .before .before .before .before .lesser in
+    let pre = c .before .before .before .before .before .before .before .before .before .before .before .before .before .before .before .before .before .before .before .before .before .before .before .before .before .before .before .before .before .before .before .before .before .pre in
+    λ h. surge-asks _ _ _ _ _ (pre .opened) _ (pre .times-long) (pre .small) (pre .every) (pre .days) _ _ (pre .now-is)
     _ _ _ _ (loop .inv .3) (loop .inv .1) (loop-test .taken) (entry2 .ensures) refl (lesser .ensures) (if1 .left)
     (entry3 .ensures) (entry4 .ensures) (other .ensures) refl (greater .ensures) (greater2 .ensures) refl h
 
 -- src/settle.rt:276:5
 loop-less : tie.Need-loop-less Inv-loop μ-loop
 loop-less c =
-    let loop-test = c .before .before .before .before .before .before .before .before .before .before .before .before .before .before .before .before .before .before .before .before .before .before .loop-test in
+    let loop-test = c .before .before .before .before .before .before .before .before .before .before .before .before .before .before .before .before .before .before .before .before .before .before .before .loop-test in
     omega (arith, loop-test .taken)
 
 -- src/settle.rt:276:5
@@ -340,22 +342,22 @@ loop-again c =
     let take-count = c .before .before .take-count in
     let greater2 = c .before .before .before .before .greater2 in
     let lose = c .before .before .before .before .before .before .before .before .before .lose in
-    let greater = c .before .before .before .before .before .before .before .before .before .before .before .before .greater in
-    let other = c .before .before .before .before .before .before .before .before .before .before .before .before .before .before .other in
-    let entry4 = c .before .before .before .before .before .before .before .before .before .before .before .before .before .before .before .entry4 in
-    let entry3 = c .before .before .before .before .before .before .before .before .before .before .before .before .before .before .before .before .entry3 in
-    let is-first = c .before .before .before .before .before .before .before .before .before .before .before .before .before .before .before .before .before .is-first in
-    let if2 = c .before .before .before .before .before .before .before .before .before .before .before .before .before .before .before .before .before .before .if2 in
-    let if1 = c .before .before .before .before .before .before .before .before .before .before .before .before .before .before .before .before .before .before .before .if1 in
-    let entry2 = c .before .before .before .before .before .before .before .before .before .before .before .before .before .before .before .before .before .before .before .before .before .entry2 in
-    let loop-test = c .before .before .before .before .before .before .before .before .before .before .before .before .before .before .before .before .before .before .before .before .before .before .loop-test in
-    let loop = c .before .before .before .before .before .before .before .before .before .before .before .before .before .before .before .before .before .before .before .before .before .before .before .loop in
-    let lesser = c .before .before .before .before .before .before .before .before .before .before .before .before .before .before .before .before .before .before .before .before .before .before .before .before .lesser in
-    let pre = c .before .before .before .before .before .before .before .before .before .before .before .before .before .before .before .before .before .before .before .before .before .before .before .before .before .before .before .before .before .before .before .before .before .before .before .pre in (
+    let greater = c .before .before .before .before .before .before .before .before .before .before .before .before .before .greater in
+    let other = c .before .before .before .before .before .before .before .before .before .before .before .before .before .before .before .other in
+    let entry4 = c .before .before .before .before .before .before .before .before .before .before .before .before .before .before .before .before .entry4 in
+    let entry3 = c .before .before .before .before .before .before .before .before .before .before .before .before .before .before .before .before .before .entry3 in
+    let is-first = c .before .before .before .before .before .before .before .before .before .before .before .before .before .before .before .before .before .before .is-first in
+    let if2 = c .before .before .before .before .before .before .before .before .before .before .before .before .before .before .before .before .before .before .before .if2 in
+    let if1 = c .before .before .before .before .before .before .before .before .before .before .before .before .before .before .before .before .before .before .before .before .if1 in
+    let entry2 = c .before .before .before .before .before .before .before .before .before .before .before .before .before .before .before .before .before .before .before .before .before .before .entry2 in
+    let loop-test = c .before .before .before .before .before .before .before .before .before .before .before .before .before .before .before .before .before .before .before .before .before .before .before .loop-test in
+    let loop = c .before .before .before .before .before .before .before .before .before .before .before .before .before .before .before .before .before .before .before .before .before .before .before .before .loop in
+    let lesser = c .before .before .before .before .before .before .before .before .before .before .before .before .before .before .before .before .before .before .before .before .before .before .before .before .before .lesser in
+    let pre = c .before .before .before .before .before .before .before .before .before .before .before .before .before .before .before .before .before .before .before .before .before .before .before .before .before .before .before .before .before .before .before .before .before .before .before .before .pre in (
       loop .inv .0,
       loop .inv .1,
       search (needs, loop .inv .2),
-      surge-next _ _ _ _ _ (pre .0) _ (pre .1 .0 .1) (pre .1 .0 .0) (pre .1 .0 .5) (pre .1 .0 .6) _ _ (pre .1 .0 .7) _ _
+      surge-next _ _ _ _ _ (pre .opened) _ (pre .times-long) (pre .small) (pre .every) (pre .days) _ _ (pre .now-is) _ _
           _ _ (loop .inv .3) (loop .inv .1) (loop-test .taken) (entry2 .ensures) refl (lesser .ensures) (if1 .left)
           (entry3 .ensures) (entry4 .ensures) (other .ensures) refl (greater .ensures) (greater2 .ensures) refl
           {fr = is-first .result} (if2 .left) (rw (sym (loop .inv .0)) (is-first .ensures)) refl (lose .ensures)
@@ -369,9 +371,9 @@ pay-counts-requires-2 c κs =
     let loop = c .before .before .loop in
     let args = c .before .before .before .before .before .before .before .before .before .before .before .before .before .before .args in
     let pre = c .before .before .before .before .before .before .before .before .before .before .before .before .before .before .pre in
-    λ h. surge-pays (args .times .now) (pre .0) (pre .1 .0 .0) (pre .1 .0 .6) (pre .1 .0 .7) (pre .1 .1 h .top)
+    λ h. surge-pays (args .times .now) (pre .opened) (pre .small) (pre .days) (pre .now-is) (pre .counted h .top)
     (
-    surge-out _ _ _ _ _ (pre .0) _ (pre .1 .0 .1) (pre .1 .0 .0) (pre .1 .0 .5) (pre .1 .0 .6) _ _ (pre .1 .0 .7) _
+    surge-out _ _ _ _ _ (pre .opened) _ (pre .times-long) (pre .small) (pre .every) (pre .days) _ _ (pre .now-is) _
     _ _ _ (loop .inv .3) (loop .inv .1) (loop-test .left) .1 .counted h
     )
 
@@ -380,14 +382,14 @@ same-length-7 : tie.Need-same-length-7 Inv-loop μ-loop
 same-length-7 c =
     let loop = c .before .before .before .before .before .loop in
     let pre = c .before .before .before .before .before .before .before .before .before .before .before .before .before .before .before .before .before .pre in
-    loop .inv .3 .wave .done .long ∙ sym (pre .1 .0 .2)
+    loop .inv .3 .wave .done .long ∙ sym (pre .spare-long)
 
 -- src/settle.rt:245:1
 same-length-8 : tie.Need-same-length-8 Inv-loop μ-loop
 same-length-8 c =
     let loop = c .before .before .before .before .before .loop in
     let pre = c .before .before .before .before .before .before .before .before .before .before .before .before .before .before .before .before .before .pre in
-    loop .inv .3 .wave .queued .long ∙ sym (pre .1 .0 .3)
+    loop .inv .3 .wave .queued .long ∙ sym (pre .queue-long)
 
 -- src/settle.rt:245:1
 same-length-9 : tie.Need-same-length-9 Inv-loop μ-loop
@@ -401,15 +403,14 @@ returns-3 c =
     let pay-counts2 = c .before .before .pay-counts2 in
     let loop-test = c .before .before .before .before .loop-test in
     let loop = c .before .before .before .before .before .loop in
-    let pre = c .before .before .before .before .before .before .before .before .before .before .before .before .before .before .before .before .before .pre in (
-      λ h. surge-out _ _ _ _ _ (pre .0) _ (pre .1 .0 .1) (pre .1 .0 .0) (pre .1 .0 .5) (pre .1 .0 .6) _ _ (pre .1 .0 .7)
-          _ _ _ _ (loop .inv .3) (loop .inv .1) (loop-test .left) .0,
-      counted-paid
-          (
-          surge-out _ _ _ _ _ (pre .0) _ (pre .1 .0 .1) (pre .1 .0 .0) (pre .1 .0 .5) (pre .1 .0 .6) _ _ (pre .1 .0 .7)
-          _ _ _ _ (loop .inv .3) (loop .inv .1) (loop-test .left) .1
-          ) (pay-counts2 .ensures),
-    )
+    let pre = c .before .before .before .before .before .before .before .before .before .before .before .before .before .before .before .before .before .pre in
+    let done = surge-out _ _ _ _ _ (pre .opened) _ (pre .times-long) (pre .small) (pre .every) (pre .days) _ _ (pre .now-is)
+    _ _ _ _ (loop .inv .3) (loop .inv .1) (loop-test .left) in
+    record {
+      lessened = λ h. done .0 .0;
+      queued = λ h. done .0 .1;
+      counted = counted-paid (done .1) (pay-counts2 .ensures);
+    }
 
 pub lose-others-spec : {M : Type 1} → statement M
 lose-others-spec =

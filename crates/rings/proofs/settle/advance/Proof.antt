@@ -1,114 +1,141 @@
-use Rattle.rings.proofs.ShelfLaws.{linked-shelves, linked-covered}
-use Rattle.rings.proofs.DayLaws.{open-of, span-after}
-use Rattle.rings.proofs.SettleLaws.{all-risen}
-use Rattle.rings.proofs.WordLaws.{clash}
-use mathlib.Core.Path.{_∙_, refl}
 use native.Mathlib.Omega.{arith}
+use mathlib.Core.Path.{_∙_, refl}
+use Rattle.rings.proofs.WordLaws.{clash}
+use Rattle.rings.proofs.SettleLaws.{all-risen}
+use Rattle.rings.proofs.DayLaws.{open-of, span-after}
+use Rattle.rings.proofs.ShelfLaws.{linked-shelves, linked-covered}
 use borrow.Author.Needs.{needs}
 use Rattle.rings.proofs.settle.advance.Statement.{statement}
 use Rattle.rings.proofs.settle.advance.Tie as tie
 use Rattle.rings.proofs.settle.advance.Reads as reads
 use Rattle.rings.proofs.settle.advance.Lts as lts
+use Rattle.rings.proofs.frame.next_frame.Reads as next-frame-reads
 use Rattle.rings.proofs.settle.begin.Reads as begin-reads
 use Rattle.rings.proofs.settle.list_all.Reads as list-all-reads
 use Rattle.rings.proofs.settle.step.Reads as step-reads
 
--- src/settle.rt:673:9
+-- src/settle.rt:543:9
+slice-aggregate-step : tie.Need-slice-aggregate-step
+slice-aggregate-step c = search needs
+
+-- src/settle.rt:531:9
 step-requires : tie.Need-step-requires
 step-requires c κs =
-    let pre = c .before .before .before .before .before .before .before .before .before .before .before .before .pre in (
-      open-of (pre .0 .sound) (linked-shelves (pre .0 .linked)) (pre .0 .setting .some-k) (pre .1 .0 .1) (pre .1 .0 .3),
-      (
-        pre .1 .0,
-        (
-          (pre .1 .1 .0, pre .1 .1 .1, pre .1 .1 .2, linked-covered (pre .0 .linked) _ (pre .0 .setting .from-lo)),
-          λ y. clash y refl,
-        ),
-      ),
-    )
+    let pre = c .before .before .before .before .before .before .before .before .before .before .before .pre in
+    let ready = pre .ready in
+    record {
+      opened = open-of (ready .sound) (linked-shelves (ready .linked)) (ready .setting .some-k) (pre .in-days) (pre .follows);
+      ordered = pre .ordered;
+      in-days = pre .in-days;
+      starts = pre .starts;
+      follows = pre .follows;
+      ends = pre .ends;
+      times-are = pre .times-are;
+      spares = pre .spares;
+      queue-long = pre .queue-long;
+      covered = linked-covered (ready .linked) _ (ready .setting .from-lo);
+      counted = λ y. clash y refl;
+    }
 
--- src/settle.rt:691:9
-same-length : tie.Need-same-length
-same-length c = search needs
+-- src/settle.rt:546:24
+enum-known-found : tie.Need-enum-known-found
+enum-known-found c = search needs
 
--- src/settle.rt:691:9
-same-length-2 : tie.Need-same-length-2
-same-length-2 c = search needs
+-- src/settle.rt:548:17
+enum-told : tie.Need-enum-told
+enum-told c = search needs
 
--- src/settle.rt:691:9
-same-length-3 : tie.Need-same-length-3
-same-length-3 c = search needs
-
--- src/settle.rt:691:9
-same-length-4 : tie.Need-same-length-4
-same-length-4 c = search needs
-
--- src/settle.rt:691:9
-returns : tie.Need-returns
-returns c =
-    let step = c .before .before .before .before .before .before .before .before .before .step in
-    (step .ensures .0 (c .if1 .taken), step .ensures .1 .same refl)
-
--- src/settle.rt:699:9
+-- src/settle.rt:548:17
 next-frame-requires : tie.Need-next-frame-requires
-next-frame-requires c = search needs
+next-frame-requires c κs = search needs
 
--- src/settle.rt:693:5
+-- src/settle.rt:549:13
 begin-requires : tie.Need-begin-requires
 begin-requires c κs =
     let next = c .before .before .before .next-frame in
     let step = c .before .before .before .before .before .before .before .before .before .before .before .before .before .step in
-    let pre = c .before .before .before .before .before .before .before .before .before .before .before .before .before .before .before .before .before .before .before .before .before .before .before .before .before .before .pre in
+    let pre = c .before .before .before .before .before .before .before .before .before .before .before .before .before .before .before .before .before .before .before .before .before .before .before .before .before .pre in
     rw (next .ensures) (
-      pre .0,
+      pre .ready,
       (
-        (span-after (omega (arith, pre .1 .0 .0)) (pre .1 .0 .3) (pre .1 .0 .4)),
+        span-after (omega (arith, pre .ordered)) (pre .follows) (pre .ends),
         (
-          step .kept .1 .1 .1 .1 .1 .1 .1 .0 ∙ pre .1 .1 .0 .long,
-          step .kept .1 .1 .1 .1 .1 .1 .1 .1 .0 ∙ pre .1 .1 .1 .long,
-          step .kept .1 .1 .1 .1 .1 .1 .1 .1 .1 .0 ∙ pre .1 .1 .2,
+          step .kept .1 .1 .1 .1 .1 .1 .1 .0 ∙ pre .times-are .long,
+          step .kept .1 .1 .1 .1 .1 .1 .1 .1 .0 ∙ pre .spares .long,
+          step .kept .1 .1 .1 .1 .1 .1 .1 .1 .1 .0 ∙ pre .queue-long,
         ),
       ),
     )
 
--- src/settle.rt:707:5
+-- src/settle.rt:550:13
 list-all-requires : tie.Need-list-all-requires
 list-all-requires c κs =
     let begin = c .before .before .before .before .before .before .before .begin in
     let step = c .before .before .before .before .before .before .before .before .before .before .before .before .before .before .before .before .before .before .before .before .before .step in
-    let pre = c .before .before .before .before .before .before .before .before .before .before .before .before .before .before .before .before .before .before .before .before .before .before .before .before .before .before .before .before .before .before .before .before .before .before .pre in
-    begin .kept .1 .1 .1 .1 .1 .1 .1 .1 .0 ∙ (step .kept .1 .1 .1 .1 .1 .1 .1 .1 .1 .0 ∙ pre .1 .1 .2)
+    let pre = c .before .before .before .before .before .before .before .before .before .before .before .before .before .before .before .before .before .before .before .before .before .before .before .before .before .before .before .before .before .before .before .before .before .pre in
+    begin .kept .1 .1 .1 .1 .1 .1 .1 .1 .0 ∙ (step .kept .1 .1 .1 .1 .1 .1 .1 .1 .1 .0 ∙ pre .queue-long)
 
--- src/settle.rt:651:1
+-- src/settle.rt:513:1
+same-length : tie.Need-same-length
+same-length c = search needs
+
+-- src/settle.rt:513:1
+same-length-2 : tie.Need-same-length-2
+same-length-2 c = search needs
+
+-- src/settle.rt:513:1
+same-length-3 : tie.Need-same-length-3
+same-length-3 c = search needs
+
+-- src/settle.rt:513:1
+returns : tie.Need-returns
+returns c =
+    let found = c .before .found in
+    let step = c .before .before .before .before .before .before .before .before .before .before .step in
+    let done = rw (found .given .1) at (step .ensures) in
+    record { times-are = done .times-are; spares = done .spares; listed = done .listed }
+
+-- src/settle.rt:513:1
+same-length-4 : tie.Need-same-length-4
+same-length-4 c = search needs
+
+-- src/settle.rt:513:1
 same-length-5 : tie.Need-same-length-5
 same-length-5 c = search needs
 
--- src/settle.rt:651:1
+-- src/settle.rt:513:1
 same-length-6 : tie.Need-same-length-6
 same-length-6 c = search needs
 
--- src/settle.rt:651:1
-same-length-7 : tie.Need-same-length-7
-same-length-7 c = search needs
-
--- src/settle.rt:651:1
-same-length-8 : tie.Need-same-length-8
-same-length-8 c = search needs
-
--- src/settle.rt:651:1
+-- src/settle.rt:513:1
 returns-2 : tie.Need-returns-2
 returns-2 c =
     let list-all = c .before .before .list-all in
     let begin = c .before .before .before .before .before .before .before .before .before .before .begin in
     let next = c .before .before .before .before .before .before .before .before .before .before .before .before .before .before .next-frame in
-    let step = c .before .before .before .before .before .before .before .before .before .before .before .before .before .before .before .before .before .before .before .before .before .before .before .before .step in
-    let done = rw (next .ensures) at (begin .ensures) in (
-      (done .0, done .1, all-risen (list-all .ensures .0) (list-all .ensures .1)),
-      step .ensures .1 .same refl,
-    )
+    let done = rw (next .ensures) at (begin .ensures) in
+    record {
+      times-are = done .0;
+      spares = done .1;
+      listed = all-risen (list-all .ensures .0) (list-all .ensures .1);
+    }
 
 pub advance-spec : {M : Type 1} → statement M
 advance-spec =
     tie.close
-    (
-    tie.spec step-requires same-length same-length-2 same-length-3 same-length-4 returns next-frame-requires begin-requires list-all-requires same-length-5 same-length-6 same-length-7 same-length-8 returns-2)
+    (tie.spec
+    slice-aggregate-step
+    step-requires
+    enum-known-found
+    enum-told
+    next-frame-requires
+    begin-requires
+    list-all-requires
+    same-length
+    same-length-2
+    same-length-3
+    returns
+    same-length-4
+    same-length-5
+    same-length-6
+    returns-2)

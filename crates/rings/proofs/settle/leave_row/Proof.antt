@@ -14,7 +14,8 @@ use Rattle.rings.proofs.loss.lose.Reads as lose-reads
 
 -- src/settle.rt:473:9
 returns : tie.Need-returns
-returns c = λ h. absurd (omega (arith, h))
+returns c =
+    record { queued = λ h. absurd (omega (arith, h)); leaving = λ h. absurd (omega (arith, h)) }
 
 -- src/settle.rt:476:9
 is-fresh-requires : tie.Need-is-fresh-requires
@@ -33,28 +34,28 @@ mul-x : tie.Need-mul-x
 mul-x c =
     let entry = c .before .entry in
     let pre = c .before .before .before .before .before .before .before .before .before .before .before .pre in
-    omega (arith, (first-small _ _ _ (pre .0 .sound) (pre .1 .0) (entry .ensures)))
+    omega (arith, first-small _ _ _ (pre .0 .placed .sound) (pre .1) (entry .ensures))
 
 -- src/settle.rt:479:13
 shared-slice-read-x : tie.Need-shared-slice-read-x
 shared-slice-read-x c =
     let entry = c .before .before .entry in
     let pre = c .before .before .before .before .before .before .before .before .before .before .before .before .pre in
-    omega (arith, (first-small _ _ _ (pre .0 .sound) (pre .1 .0) (entry .ensures)), pre .1 .1)
+    omega (arith, first-small _ _ _ (pre .0 .placed .sound) (pre .1) (entry .ensures), pre .0 .times-long)
 
 -- src/settle.rt:480:13
 mul-y : tie.Need-mul-y
 mul-y c =
     let entry2 = c .before .entry2 in
     let pre = c .before .before .before .before .before .before .before .before .before .before .before .before .pre in
-    omega (arith, (second-small _ _ _ (pre .0 .sound) (pre .1 .0) (entry2 .ensures)))
+    omega (arith, second-small _ _ _ (pre .0 .placed .sound) (pre .1) (entry2 .ensures))
 
 -- src/settle.rt:480:13
 shared-slice-read-y : tie.Need-shared-slice-read-y
 shared-slice-read-y c =
     let entry2 = c .before .before .entry2 in
     let pre = c .before .before .before .before .before .before .before .before .before .before .before .before .before .pre in
-    omega (arith, (second-small _ _ _ (pre .0 .sound) (pre .1 .0) (entry2 .ensures)), pre .1 .1)
+    omega (arith, second-small _ _ _ (pre .0 .placed .sound) (pre .1) (entry2 .ensures), pre .0 .times-long)
 
 -- src/settle.rt:481:15
 mul-day : tie.Need-mul-day
@@ -78,7 +79,12 @@ lose-requires c κs =
     let entry = c .before .before .before .before .before .before .before .before .entry in
     let if1 = c .before .before .before .before .before .before .before .before .before .before .if1 in
     let pre = c .before .before .before .before .before .before .before .before .before .before .before .before .before .before .before .before .before .before .pre in
-    (pre .1 .3, pre .1 .4, (first-small _ _ _ (pre .0 .sound) (pre .1 .0) (entry .ensures)), omega (arith, if1 .left))
+    record {
+      spare-long = pre .0 .spare-long;
+      queue-long = pre .0 .queue-long;
+      small = first-small _ _ _ (pre .0 .placed .sound) (pre .1) (entry .ensures);
+      room = omega (arith, if1 .left);
+    }
 
 -- src/settle.rt:485:5
 lose-requires-2 : tie.Need-lose-requires-2
@@ -87,12 +93,14 @@ lose-requires-2 c κs =
     let entry2 = c .before .before .before .before .before .before .before .before .before .before .before .before .before .before .entry2 in
     let entry = c .before .before .before .before .before .before .before .before .before .before .before .before .before .before .before .entry in
     let if1 = c .before .before .before .before .before .before .before .before .before .before .before .before .before .before .before .before .before .if1 in
-    let pre = c .before .before .before .before .before .before .before .before .before .before .before .before .before .before .before .before .before .before .before .before .before .before .before .before .before .pre in (
-      (losing-less (first-small _ _ _ (pre .0 .sound) (pre .1 .0) (entry .ensures)) (pre .1 .3) (lose .ensures) .long),
-      (queued-losing (first-small _ _ _ (pre .0 .sound) (pre .1 .0) (entry .ensures)) (omega (arith, if1 .left)) (pre .1 .3) (queued-start _ _ _ (pre .1 .4)) (lose .ensures)) .long,
-      (second-small _ _ _ (pre .0 .sound) (pre .1 .0) (entry2 .ensures)),
-      (omega (arith, if1 .left, losing-on (lose .ensures))),
-    )
+    let pre = c .before .before .before .before .before .before .before .before .before .before .before .before .before .before .before .before .before .before .before .before .before .before .before .before .before .pre in
+    let small = first-small _ _ _ (pre .0 .placed .sound) (pre .1) (entry .ensures) in
+    record {
+      spare-long = losing-less small (pre .0 .spare-long) (lose .ensures) .long;
+      queue-long = (queued-losing small (omega (arith, if1 .left)) (pre .0 .spare-long) (queued-start _ _ _ (pre .0 .queue-long)) (lose .ensures)) .long;
+      small = second-small _ _ _ (pre .0 .placed .sound) (pre .1) (entry2 .ensures);
+      room = omega (arith, if1 .left, losing-on (lose .ensures));
+    }
 
 -- src/settle.rt:453:1
 same-length : tie.Need-same-length
@@ -115,26 +123,19 @@ returns-2 c =
     let if1 = c .before .before .before .before .before .before .before .before .before .before .before .before .before .before .before .before .before .before .before .before .before .before .if1 in
     let args = c .before .before .before .before .before .before .before .before .before .before .before .before .before .before .before .before .before .before .before .before .before .before .before .before .before .before .before .before .before .before .args in
     let pre = c .before .before .before .before .before .before .before .before .before .before .before .before .before .before .before .before .before .before .before .before .before .before .before .before .before .before .before .before .before .before .pre in
-    λ h. (
-      queued-losing (second-small _ _ _ (pre .0 .sound) (pre .1 .0) (entry2 .ensures))
+    let sound = pre .0 .placed .sound in
+    let small = first-small _ _ _ sound (pre .1) (entry .ensures) in
+    record {
+      queued = λ h. queued-losing (second-small _ _ _ sound (pre .1) (entry2 .ensures))
           (omega (arith, if1 .left, losing-on (lose .ensures)))
-          (
-          losing-less (first-small _ _ _ (pre .0 .sound) (pre .1 .0) (entry .ensures)) (pre .1 .3)
-          (lose .ensures) .long
-          )
-          (
-          queued-losing (first-small _ _ _ (pre .0 .sound) (pre .1 .0) (entry .ensures)) (omega (arith, if1 .left))
-          (pre .1 .3) (queued-start _ _ _ (pre .1 .4)) (lose .ensures)
-          ) (lose2 .ensures),
-      λ sp F. leaving-row _ _ _ _ _ (pre .0 .setting) _ (pre .1 .1) (pre .1 .2) F (pre .1 .0)
-          (
-          fresh-reads _ _ _ (pre .0 .sound) (pre .1 .0) _ (args .links .now) (pre .0 .paired .pairs)
-          (is-fresh .ensures)
-          ) (first-is _ _ _ (pre .0 .sound) (pre .1 .0) (entry .ensures))
-          (second-is _ _ _ (pre .0 .sound) (pre .1 .0) (entry2 .ensures))
-          (day-of _ _ _ (pre .0 .sound) (pre .1 .0) refl) refl refl (is-lost .ensures) (is-lost2 .ensures)
-          (lose .ensures) (lose2 .ensures),
-    )
+          (losing-less small (pre .0 .spare-long) (lose .ensures) .long)
+          (queued-losing small (omega (arith, if1 .left)) (pre .0 .spare-long) (queued-start _ _ _ (pre .0 .queue-long)) (lose .ensures))
+          (lose2 .ensures);
+      leaving = λ h sp F. leaving-row _ _ _ _ _ (pre .0 .placed .setting) _ (pre .0 .times-long) (pre .0 .days) F (pre .1)
+          (fresh-reads _ _ _ sound (pre .1) _ (args .links .now) (pre .0 .placed .paired .pairs) (is-fresh .ensures))
+          (first-is _ _ _ sound (pre .1) (entry .ensures)) (second-is _ _ _ sound (pre .1) (entry2 .ensures))
+          (day-of _ _ _ sound (pre .1) refl) refl refl (is-lost .ensures) (is-lost2 .ensures) (lose .ensures) (lose2 .ensures);
+    }
 
 pub leave-row-spec : {M : Type 1} → statement M
 leave-row-spec =

@@ -22,12 +22,12 @@ abbrev μ-loop : tie.MeasureT-loop
 loop-holds : tie.Need-loop-holds Inv-loop μ-loop
 loop-holds c =
     let pre = c .before .before .before .before .before .before .before .pre in (
-      pre .1 .0,
-      pre .1 .4,
-      pre .1 .5,
+      pre .1 .order,
+      pre .0 .spare-long,
+      pre .0 .queue-long,
       λ h. (
-        queued-start _ _ _ (pre .1 .5),
-        leaving-start _ _ _ _ _ (pre .0 .setting) _ (pre .1 .2) (pre .1 .3) _ (pre .1 .4),
+        queued-start _ _ _ (pre .0 .queue-long),
+        leaving-start _ _ _ _ _ (pre .0 .placed .setting) _ (pre .0 .times-long) (pre .0 .days) _ (pre .0 .spare-long),
       ),
     )
 
@@ -36,15 +36,23 @@ leave-row-requires : tie.Need-leave-row-requires Inv-loop μ-loop
 leave-row-requires c κs =
     let loop-test = c .before .before .loop-test in
     let loop = c .before .before .before .loop in
-    let pre = c .before .before .before .before .before .before .before .before .before .before .before .pre in
-    (pre .0, (omega (arith, loop-test .taken, pre .1 .1), pre .1 .2, pre .1 .3, loop .inv .1, loop .inv .2))
+    let pre = c .before .before .before .before .before .before .before .before .before .before .before .pre in (
+      record {
+        placed = pre .0 .placed;
+        times-long = pre .0 .times-long;
+        days = pre .0 .days;
+        spare-long = loop .inv .1;
+        queue-long = loop .inv .2;
+      },
+      omega (arith, loop-test .taken, pre .1 .within),
+    )
 
 -- src/settle.rt:525:9
 add-j : tie.Need-add-j Inv-loop μ-loop
 add-j c =
     let loop-test = c .before .before .before .before .before .before .before .loop-test in
     let pre = c .before .before .before .before .before .before .before .before .before .before .before .before .before .before .before .before .pre in
-    omega (arith, loop-test .taken, pre .1 .1, pre .0 .sound .most)
+    omega (arith, loop-test .taken, pre .1 .within, pre .0 .placed .sound .most)
 
 -- src/settle.rt:509:5
 loop-less : tie.Need-loop-less Inv-loop μ-loop
@@ -59,12 +67,10 @@ loop-again c =
     let loop-test = c .before .before .before .before .before .before .before .loop-test in
     let loop = c .before .before .before .before .before .before .before .before .loop in (
       omega (arith, loop-test .taken),
-      (leave-row .kept .1 .1 .1 .1 .1 .1 .1 .1 .0 ∙ loop .inv .1),
-      (leave-row .kept .1 .1 .1 .1 .1 .1 .1 .1 .1 .0 ∙ loop .inv .2),
-      λ h. (
-        queued-then (loop .inv .3 (omega (arith, leave-row .ensures h .0 .grows h, h)) .0) (leave-row .ensures h .0),
-        leave-row .ensures h .1 _ (loop .inv .3 (omega (arith, leave-row .ensures h .0 .grows h, h)) .1),
-      ),
+      leave-row .kept .1 .1 .1 .1 .1 .1 .1 .1 .0 ∙ loop .inv .1,
+      leave-row .kept .1 .1 .1 .1 .1 .1 .1 .1 .1 .0 ∙ loop .inv .2,
+      λ h. let till = loop .inv .3 (omega (arith, leave-row .ensures .queued h .grows h, h)) in
+          (queued-then (till .0) (leave-row .ensures .queued h), leave-row .ensures .leaving h _ (till .1)),
     )
 
 -- src/settle.rt:489:1
@@ -72,20 +78,23 @@ same-length : tie.Need-same-length Inv-loop μ-loop
 same-length c =
     let loop = c .before .loop in
     let pre = c .before .before .before .before .before .before .before .before .before .pre in
-    loop .inv .1 ∙ sym (pre .1 .4)
+    loop .inv .1 ∙ sym (pre .0 .spare-long)
 
 -- src/settle.rt:489:1
 same-length-2 : tie.Need-same-length-2 Inv-loop μ-loop
 same-length-2 c =
     let loop = c .before .loop in
     let pre = c .before .before .before .before .before .before .before .before .before .pre in
-    loop .inv .2 ∙ sym (pre .1 .5)
+    loop .inv .2 ∙ sym (pre .0 .queue-long)
 
 -- src/settle.rt:489:1
 returns : tie.Need-returns Inv-loop μ-loop
 returns c =
     let loop = c .before .loop in
-    λ h. let i = loop .inv .3 h in (i .0, leaving-last (i .1) (loop .inv .0) (c .loop-test .left))
+    record {
+      queued = λ h. loop .inv .3 h .0;
+      leaving = λ h. leaving-last (loop .inv .3 h .1) (loop .inv .0) (c .loop-test .left);
+    }
 
 pub leave-rows-spec : {M : Type 1} → statement M
 leave-rows-spec =

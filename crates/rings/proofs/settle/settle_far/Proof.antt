@@ -1,8 +1,9 @@
-use native.Mathlib.Omega.{arith}
-use mathlib.Core.Path.{refl, sym, _∙_}
-use Rattle.rings.proofs.SettleLaws.{account-same, account-rise, account-days, account-now, account-never, account-every, account-raised}
-use lib.ListN.{length-set}
+use Rattle.rings.proofs.CountingLaws.{counted-so}
 use Rattle.rings.proofs.FallLaws.{guess-at}
+use lib.ListN.{length-set}
+use Rattle.rings.proofs.SettleLaws.{account-same, account-rise, account-days, account-now, account-never, account-every, account-raised}
+use mathlib.Core.Path.{refl, sym, _∙_}
+use native.Mathlib.Omega.{arith}
 use borrow.Author.Needs.{needs}
 use Rattle.rings.proofs.settle.settle_far.Statement.{statement}
 use Rattle.rings.proofs.settle.settle_far.Tie as tie
@@ -12,149 +13,293 @@ use Rattle.rings.proofs.links.put.Reads as put-reads
 use Rattle.rings.proofs.look.look.Reads as look-reads
 use Rattle.rings.proofs.loss.lose_others.Reads as lose-others-reads
 
--- src/settle.rt:170:15
+-- src/settle.rt:162:15
 mul-old : tie.Need-mul-old
-mul-old c = search needs
+mul-old c =
+    let pre = c .before .before .before .before .before .before .before .before .pre in
+    omega (arith, pre .at-head .small)
 
--- src/settle.rt:170:15
+-- src/settle.rt:162:15
 slice-read-old : tie.Need-slice-read-old
-slice-read-old c = search needs
+slice-read-old c =
+    let pre = c .before .before .before .before .before .before .before .before .before .pre in
+    omega (arith, pre .at-head .small, pre .working .times-long)
 
--- src/settle.rt:171:9
+-- src/settle.rt:163:9
 look-requires : tie.Need-look-requires
 look-requires c κs =
     let args = c .before .before .before .before .before .before .before .before .before .before .args in
-    let pre = c .before .before .before .before .before .before .before .before .before .before .pre in (
-      pre .0,
-      (
-        ((pre .1 .0 .7), pre .1 .0 .4, pre .1 .0 .10, pre .1 .0 .0, pre .1 .0 .9, λ n. pre .1 .0 .11 .rows _ (pre .1 .0 .7) (λ e. n (sym (guess-at (args .times .now) _ (pre .1 .0 .4) (pre .1 .0 .7)) ∙ e))),
-        pre .1 .1 .0,
-      ),
-    )
+    let pre = c .before .before .before .before .before .before .before .before .before .before .pre in
+    let w = pre .working in
+    let h = pre .at-head in
+    record {
+      lent = record {
+        opened = w .opened;
+        small = h .small;
+        long = w .times-long;
+        days = w .days;
+        reading = h .reading;
+      };
+      bounded = pre .bounded;
+      every = λ n. w .covered .rows _ (h .small) (λ e. n (sym (guess-at (args .times .now) _ (w .times-long) (h .small)) ∙ e));
+      short = pre .short;
+    }
 
--- src/settle.rt:188:9
+-- src/settle.rt:164:23
+enum-known-seen : tie.Need-enum-known-seen
+enum-known-seen c = search needs
+
+-- src/settle.rt:165:9
+enum-told : tie.Need-enum-told
+enum-told c = search needs
+
+-- src/settle.rt:165:9
 same-length : tie.Need-same-length
 same-length c = search needs
 
--- src/settle.rt:188:9
+-- src/settle.rt:165:9
 returns : tie.Need-returns
-returns c =
-    let look = c .before .look in (
-      (look .ensures .1, λ h. absurd (omega (arith, h))),
-      (λ v e. e, record { counted = λ y h. absurd (omega (arith, h)); same = λ y. refl }),
-    )
+returns c = record { same = λ y. refl }
 
--- src/settle.rt:194:5
+-- src/settle.rt:167:5
 mul-spare : tie.Need-mul-spare
 mul-spare c =
-    let pre = c .before .before .before .before .before .before .before .before .before .before .before .before .pre in
-    omega (arith, pre .1 .0 .7)
+    let pre = c .before .before .before .before .before .before .before .before .before .before .before .before .before .before .pre in
+    omega (arith, pre .at-head .small)
 
--- src/settle.rt:194:5
+-- src/settle.rt:167:5
 slice-write-spare : tie.Need-slice-write-spare
 slice-write-spare c =
-    let pre = c .before .before .before .before .before .before .before .before .before .before .before .before .pre in
-    omega (arith, pre .1 .0 .7, pre .1 .0 .5)
+    let pre = c .before .before .before .before .before .before .before .before .before .before .before .before .before .before .pre in
+    omega (arith, pre .at-head .small, pre .working .spare-long)
 
--- src/settle.rt:196:9
+-- src/settle.rt:170:19
+add-t28 : tie.Need-add-t28
+add-t28 c =
+    let seen = c .before .before .before .seen in
+    let look = c .before .before .before .before .before .look in
+    let view = rw (seen .given .1) at (look .ensures) in
+    let pre = c .before .before .before .before .before .before .before .before .before .before .before .before .before .before .before .before .pre in
+    let w = pre .working in
+    let h = pre .at-head in
+    omega (arith, w .waits, w .within, w .behind, w .few, view .short-walk)
+
+-- src/settle.rt:173:21
+add-t29 : tie.Need-add-t29
+add-t29 c =
+    let seen = c .before .before .before .before .seen in
+    let look = c .before .before .before .before .before .before .look in
+    let view = rw (seen .given .1) at (look .ensures) in
+    let pre = c .before .before .before .before .before .before .before .before .before .before .before .before .before .before .before .before .before .pre in
+    let w = pre .working in
+    let h = pre .at-head in
+    omega (arith, w .waits, w .within, w .behind, w .few, view .short-walk)
+
+-- src/settle.rt:169:9
 same-length-2 : tie.Need-same-length-2
 same-length-2 c = search needs
 
--- src/settle.rt:196:9
+-- src/settle.rt:169:9
 same-length-3 : tie.Need-same-length-3
 same-length-3 c = search needs
 
--- src/settle.rt:196:9
+-- src/settle.rt:169:9
 returns-2 : tie.Need-returns-2
 returns-2 c =
-    let if1 = c .before .if1 in
-    let look = c .before .before .look in
-    let pre = c .before .before .before .before .before .before .before .before .before .before .before .before .before .pre in (
-      (look .ensures .1, λ h xs Z. account-same _ _ _ _ _ (pre .0 .setting) (Z .settling) (pre .1 .0 .7) (look .ensures .0 (if1 .left)) (Z .waiting) (pre .1 .0 .8) (Z .behind) (Z .risen) (pre .1 .0 .1) (pre .1 .0 .2) (c .if2 .taken)),
-      (λ v e. e, record { counted = λ y h. pre .1 .1 .1 y .1; same = λ y. refl }),
-    )
+    let seen = c .before .before .before .before .seen in
+    let look = c .before .before .before .before .before .before .look in
+    let view = rw (seen .given .1) at (look .ensures) in
+    let pre = c .before .before .before .before .before .before .before .before .before .before .before .before .before .before .before .before .before .pre in
+    let w = pre .working in
+    let h = pre .at-head in
+    record {
+      next = refl;
+      within = w .within;
+      walked = omega (arith, view .short-walk);
+      rising = λ xs Z. account-same _ _ _ _ _ (w .opened .setting) (Z .settling) (h .small) (view .looked) (Z .waiting)
+          (h .is-head) (Z .behind) (Z .risen) (w .waits) (w .within) (c .before .before .if1 .taken);
+      nevers = λ v e. e;
+      counted = record { counted = λ y. w .counted y .counts-are; same = λ y. refl };
+    }
 
--- src/settle.rt:202:5
+-- src/settle.rt:176:5
 mul-times : tie.Need-mul-times
 mul-times c =
-    let pre = c .before .before .before .before .before .before .before .before .before .before .before .before .before .pre in
-    omega (arith, pre .1 .0 .7)
+    let pre = c .before .before .before .before .before .before .before .before .before .before .before .before .before .before .before .pre in
+    omega (arith, pre .at-head .small)
 
--- src/settle.rt:202:5
+-- src/settle.rt:176:5
 slice-write-times : tie.Need-slice-write-times
 slice-write-times c =
-    let pre = c .before .before .before .before .before .before .before .before .before .before .before .before .before .pre in
-    omega (arith, pre .1 .0 .7, pre .1 .0 .4)
+    let pre = c .before .before .before .before .before .before .before .before .before .before .before .before .before .before .before .pre in
+    omega (arith, pre .at-head .small, pre .working .times-long)
 
--- src/settle.rt:203:5
+-- src/settle.rt:177:5
 put-requires : tie.Need-put-requires
 put-requires c κs =
-    let pre = c .before .before .before .before .before .before .before .before .before .before .before .before .before .before .pre in
-    (omega (arith, pre .1 .0 .1, pre .1 .0 .2, pre .1 .0 .3, pre .1 .0 .6), omega (arith, pre .1 .0 .7))
+    let pre = c .before .before .before .before .before .before .before .before .before .before .before .before .before .before .before .before .pre in
+    let w = pre .working in
+    let h = pre .at-head in
+    (omega (arith, w .waits, w .within, w .behind, w .queue-long), omega (arith, h .small))
 
--- src/settle.rt:204:9
+-- src/settle.rt:184:9
 lose-others-requires : tie.Need-lose-others-requires
 lose-others-requires c κs =
     let put = c .before .before .before .before .before .before .put in
-    let if2 = c .before .before .before .before .before .before .before .before .if2 in
-    let if1 = c .before .before .before .before .before .before .before .before .before .if1 in
-    let look = c .before .before .before .before .before .before .before .before .before .before .look in
-    let args = c .before .before .before .before .before .before .before .before .before .before .before .before .before .before .before .before .before .before .before .before .before .args in
-    let pre = c .before .before .before .before .before .before .before .before .before .before .before .before .before .before .before .before .before .before .before .before .before .pre in (
-      pre .0,
-      (
-        ((pre .1 .0 .7), search (needs, pre .1 .0 .4), search (needs, pre .1 .0 .5), put .kept .0 ∙ pre .1 .0 .6, pre .1 .0 .9, account-every (args .times .now) (omega (arith, pre .0 .setting .fits)) (pre .1 .0 .4) (pre .1 .0 .7) (pre .1 .0 .10) (look .ensures .0 (if1 .left)) (if2 .left) (pre .1 .0 .11), account-days (args .times .now) (omega (arith, pre .0 .setting .fits)) (pre .1 .0 .4) (pre .1 .0 .7) (pre .1 .0 .10) (look .ensures .0 (if1 .left)), account-now (args .times .now) (omega (arith, pre .0 .setting .fits)) (pre .1 .0 .4) (pre .1 .0 .7) (pre .1 .0 .10) (look .ensures .0 (if1 .left))),
-        λ y. account-raised (args .times .now) (omega (arith, pre .0 .setting .fits)) (pre .1 .0 .4) (pre .1 .0 .7)
-            (pre .1 .0 .10) (look .ensures .0 (if1 .left)) (if2 .left) (pre .1 .1 .1 y .0) (pre .1 .1 .1 y .1),
-      ),
-    )
+    let if1 = c .before .before .before .before .before .before .before .before .if1 in
+    let args = c .before .before .before .before .before .before .before .before .before .before .before .before .before .before .before .before .before .before .before .before .before .before .before .args in
+    let seen = c .before .before .before .before .before .before .before .before .before .before .seen in
+    let look = c .before .before .before .before .before .before .before .before .before .before .before .before .look in
+    let view = rw (seen .given .1) at (look .ensures) in
+    let pre = c .before .before .before .before .before .before .before .before .before .before .before .before .before .before .before .before .before .before .before .before .before .before .before .pre in
+    let w = pre .working in
+    let h = pre .at-head in
+    record {
+      opened = w .opened;
+      small = h .small;
+      times-long = search (needs, w .times-long);
+      spare-long = search (needs, w .spare-long);
+      queue-long = put .kept .0 ∙ w .queue-long;
+      reading = h .reading;
+      every = account-every (args .times .now) (omega (arith, w .opened .setting .fits)) (w .times-long) (h .small) (w .days) (view .looked)
+          (if1 .left) (w .covered);
+      days = account-days (args .times .now) (omega (arith, w .opened .setting .fits)) (w .times-long) (h .small) (w .days) (view .looked);
+      now-is = account-now (args .times .now) (omega (arith, w .opened .setting .fits)) (w .times-long) (h .small) (w .days) (view .looked);
+      counted = λ y. account-raised (args .times .now) (omega (arith, w .opened .setting .fits)) (w .times-long) (h .small) (w .days) (view .looked)
+          (if1 .left) (w .counted y .in-days) (w .counted y .counts-are);
+    }
 
--- src/settle.rt:225:16
-add-t22 : tie.Need-add-t22
-add-t22 c =
-    let pre = c .before .before .before .before .before .before .before .before .before .before .before .before .before .before .before .before .before .before .before .before .before .before .before .before .before .before .before .before .pre in
-    omega (arith, pre .1 .0 .1, pre .1 .0 .2, pre .1 .0 .3)
-
--- src/settle.rt:140:1
+-- src/settle.rt:199:9
 same-length-4 : tie.Need-same-length-4
 same-length-4 c = search needs
 
--- src/settle.rt:140:1
+-- src/settle.rt:199:9
 same-length-5 : tie.Need-same-length-5
 same-length-5 c =
-    let lose-others = c .before .before .before .before .before .before .lose-others in
-    let look = c .before .before .before .before .before .before .before .before .before .before .before .before .before .before .before .before .before .look in
-    let args = c .before .before .before .before .before .before .before .before .before .before .before .before .before .before .before .before .before .before .before .before .before .before .before .before .before .before .before .before .args in
-    lose-others .kept .1 .1 .1 .1 .1 .1 .1 .1 .1 .1 .1 .0 ∙ length-set (args .spare .now) (args .u)
-    (look .result .spare)
+    let lose-others = c .before .before .before .before .before .before .before .lose-others in
+    lose-others .kept .1 .1 .1 .1 .1 .1 .1 .1 .0 ∙ simp length-set
 
--- src/settle.rt:140:1
+-- src/settle.rt:199:9
 same-length-6 : tie.Need-same-length-6
 same-length-6 c = search needs
 
--- src/settle.rt:140:1
+-- src/settle.rt:199:9
 same-length-7 : tie.Need-same-length-7
 same-length-7 c = search needs
 
--- src/settle.rt:140:1
+-- src/settle.rt:199:9
 returns-3 : tie.Need-returns-3
 returns-3 c =
-    let lose-others = c .before .before .before .before .before .before .lose-others in
-    let put = c .before .before .before .before .before .before .before .before .before .before .before .before .before .put in
-    let if1 = c .before .before .before .before .before .before .before .before .before .before .before .before .before .before .before .before .if1 in
-    let look = c .before .before .before .before .before .before .before .before .before .before .before .before .before .before .before .before .before .look in
-    let args = c .before .before .before .before .before .before .before .before .before .before .before .before .before .before .before .before .before .before .before .before .before .before .before .before .before .before .before .before .args in
-    let pre = c .before .before .before .before .before .before .before .before .before .before .before .before .before .before .before .before .before .before .before .before .before .before .before .before .before .before .before .before .pre in (
-      (look .ensures .1, λ h xs Z. account-rise _ _ _ _ _ (pre .0 .setting) (Z .settling) (pre .1 .0 .7) (look .ensures .0 (if1 .left)) (Z .waiting) (pre .1 .0 .8) (Z .behind) (Z .risen) (pre .1 .0 .1) (pre .1 .0 .2) (put .ensures) (lose-others .ensures .0 h .0) (lose-others .ensures .0 h .1) h),
-      (
-        account-never (args .times .now) (omega (arith, pre .0 .setting .fits)) (pre .1 .0 .4) (pre .1 .0 .7)
-            (pre .1 .0 .10) (look .ensures .0 (if1 .left)),
-        lose-others .ensures .1,
-      ),
-    )
+    let lose-others = c .before .before .before .before .before .before .before .lose-others in
+    record { same = lose-others .ensures .counted .same }
+
+-- src/settle.rt:202:15
+add-t21 : tie.Need-add-t21
+add-t21 c =
+    let seen = c .before .before .before .before .before .before .before .before .before .before .before .before .before .before .before .before .before .before .before .seen in
+    let look = c .before .before .before .before .before .before .before .before .before .before .before .before .before .before .before .before .before .before .before .before .before .look in
+    let view = rw (seen .given .1) at (look .ensures) in
+    let pre = c .before .before .before .before .before .before .before .before .before .before .before .before .before .before .before .before .before .before .before .before .before .before .before .before .before .before .before .before .before .before .before .before .pre in
+    let w = pre .working in
+    let h = pre .at-head in
+    omega (arith, w .waits, w .within, w .behind, w .few, view .short-walk)
+
+-- src/settle.rt:204:16
+add-t43 : tie.Need-add-t43
+add-t43 c =
+    let seen = c .before .before .before .before .before .before .before .before .before .before .before .before .before .before .before .before .before .before .before .before .seen in
+    let look = c .before .before .before .before .before .before .before .before .before .before .before .before .before .before .before .before .before .before .before .before .before .before .look in
+    let view = rw (seen .given .1) at (look .ensures) in
+    let pre = c .before .before .before .before .before .before .before .before .before .before .before .before .before .before .before .before .before .before .before .before .before .before .before .before .before .before .before .before .before .before .before .before .before .pre in
+    let w = pre .working in
+    let h = pre .at-head in
+    omega (arith, w .waits, w .within, w .behind, w .few, view .short-walk)
+
+-- src/settle.rt:205:17
+add-t44 : tie.Need-add-t44
+add-t44 c =
+    let seen = c .before .before .before .before .before .before .before .before .before .before .before .before .before .before .before .before .before .before .before .before .before .seen in
+    let look = c .before .before .before .before .before .before .before .before .before .before .before .before .before .before .before .before .before .before .before .before .before .before .before .look in
+    let view = rw (seen .given .1) at (look .ensures) in
+    let pre = c .before .before .before .before .before .before .before .before .before .before .before .before .before .before .before .before .before .before .before .before .before .before .before .before .before .before .before .before .before .before .before .before .before .before .pre in
+    let w = pre .working in
+    let h = pre .at-head in
+    omega (arith, w .waits, w .within, w .behind, w .few, view .short-walk)
+
+-- src/settle.rt:138:1
+same-length-8 : tie.Need-same-length-8
+same-length-8 c = search needs
+
+-- src/settle.rt:138:1
+same-length-9 : tie.Need-same-length-9
+same-length-9 c =
+    let lose-others = c .before .before .before .before .before .before .before .before .before .before .lose-others in
+    lose-others .kept .1 .1 .1 .1 .1 .1 .1 .1 .0 ∙ simp length-set
+
+-- src/settle.rt:138:1
+same-length-10 : tie.Need-same-length-10
+same-length-10 c = search needs
+
+-- src/settle.rt:138:1
+same-length-11 : tie.Need-same-length-11
+same-length-11 c = search needs
+
+-- src/settle.rt:138:1
+returns-4 : tie.Need-returns-4
+returns-4 c =
+    let if2 = c .before .before .before .if2 in
+    let lose-others = c .before .before .before .before .before .before .before .before .before .before .lose-others in
+    let put = c .before .before .before .before .before .before .before .before .before .before .before .before .before .before .before .before .before .put in
+    let args = c .before .before .before .before .before .before .before .before .before .before .before .before .before .before .before .before .before .before .before .before .before .before .before .before .before .before .before .before .before .before .before .before .before .before .args in
+    let seen = c .before .before .before .before .before .before .before .before .before .before .before .before .before .before .before .before .before .before .before .before .before .seen in
+    let look = c .before .before .before .before .before .before .before .before .before .before .before .before .before .before .before .before .before .before .before .before .before .before .before .look in
+    let view = rw (seen .given .1) at (look .ensures) in
+    let pre = c .before .before .before .before .before .before .before .before .before .before .before .before .before .before .before .before .before .before .before .before .before .before .before .before .before .before .before .before .before .before .before .before .before .before .pre in
+    let w = pre .working in
+    let h = pre .at-head in
+    record {
+      next = refl;
+      within = if2 .left;
+      walked = omega (arith, view .short-walk);
+      rising = λ xs Z. account-rise _ _ _ _ _ (w .opened .setting) (Z .settling) (h .small) (view .looked) (Z .waiting)
+          (h .is-head) (Z .behind) (Z .risen) (w .waits) (w .within) (put .ensures)
+          (lose-others .ensures .lessened (if2 .left)) (lose-others .ensures .queued (if2 .left)) (if2 .left);
+      nevers = account-never (args .times .now) (omega (arith, w .opened .setting .fits)) (w .times-long) (h .small) (w .days) (view .looked);
+      counted = counted-so (λ y. y (if2 .left)) (lose-others .ensures .counted);
+    }
 
 pub settle-far-spec : {M : Type 1} → statement M
 settle-far-spec =
     tie.close
-    (
-    tie.spec mul-old slice-read-old look-requires same-length returns mul-spare slice-write-spare same-length-2 same-length-3 returns-2 mul-times slice-write-times put-requires lose-others-requires add-t22 same-length-4 same-length-5 same-length-6 same-length-7 returns-3)
+    (tie.spec
+    mul-old
+    slice-read-old
+    look-requires
+    enum-known-seen
+    enum-told
+    same-length
+    returns
+    mul-spare
+    slice-write-spare
+    add-t28
+    add-t29
+    same-length-2
+    same-length-3
+    returns-2
+    mul-times
+    slice-write-times
+    put-requires
+    lose-others-requires
+    same-length-4
+    same-length-5
+    same-length-6
+    same-length-7
+    returns-3
+    add-t21
+    add-t43
+    add-t44
+    same-length-8
+    same-length-9
+    same-length-10
+    same-length-11
+    returns-4)
