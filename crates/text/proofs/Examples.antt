@@ -83,11 +83,15 @@ example =
     32 ∷ 32 ∷ 32 ∷ 32 ∷ 54 ∷ 32 ∷ 32 ∷ 32 ∷ 32 ∷ 32 ∷ 50 ∷ 32 ∷ 32 ∷ 32 ∷ 32 ∷ 32 ∷ 52 ∷ 10 ∷ []
 
 example-reads : tableReadOf example 6 7 6 ≡ Rows 6
-unfolding example tableReadOf judgedFrom rowOf lineAs fieldAt judged isWhole linesOf prepend fieldOf numeralOf unblank isNumeral leadsWell allDigits isDigit value
+unfolding
+    example tableReadOf judgedFrom rowOf lineAs fieldAt judged isWhole linesOf prepend
+    fieldOf numeralOf unblank isNumeral leadsWell allDigits isDigit value
 example-reads = refl
 
 example-days : daysOf example ≡ 1 ∷ 2 ∷ 2 ∷ 4 ∷ 5 ∷ 6 ∷ []
-unfolding example daysOf rowOf lineAs fieldAt judged isWhole linesOf prepend fieldOf numeralOf unblank isNumeral leadsWell allDigits isDigit value
+unfolding
+    example daysOf rowOf lineAs fieldAt judged isWhole linesOf prepend
+    fieldOf numeralOf unblank isNumeral leadsWell allDigits isDigit value
 example-days = refl
 
 example-query : queryOf (32 ∷ 32 ∷ 32 ∷ 32 ∷ 50 ∷ 32 ∷ 32 ∷ 32 ∷ 32 ∷ 49 ∷ 32 ∷ 32 ∷ 32 ∷ 32 ∷ 54 ∷ 10 ∷ []) ≡ Query 2 1 6

@@ -30,7 +30,8 @@ use lib.Seq.{take-take, length-take-le, getD-take, drop-drop, drop-cons, drop-le
 use borrow.Author.Tests.{eq-eqb, ne-eqb, eqb-true, eqb-false}
 use Rattle.text.specs.Layout.{bytesOf, tableLayout, lineBytes}
 use Rattle.text.specs.Decimal.{fieldOf, refuses}
-use Rattle.text.specs.Line.{prepend, linesOf, firstLine, isWhole, oneRefuses, judged, fieldAt, lineAs, stepAs, stepAt, passed, stepFrom, lineAt, Reached}
+use Rattle.text.specs.Line.{prepend, linesOf, firstLine, isWhole, oneRefuses, judged, fieldAt, lineAs}
+use Rattle.text.specs.Line.{stepAs, stepAt, passed, stepFrom, lineAt, Reached}
 use Rattle.text.specs.declared.layout.Format.{Format}
 use Rattle.text.specs.declared.layout.Layout.{Layout}
 use Rattle.text.specs.declared.lines.Line.{Line}
@@ -90,7 +91,8 @@ first-part [] = refl
 first-part (b ∷ bs) =
     ⊎-elim (λ e. rw (first-end b bs e)) (λ e. rw (first-more b bs e) (ap (λ (l : List ℕ). b ∷ l) (first-part bs))) (ends b)
 
-pub first-take : (s : List ℕ) (k : ℕ) → k < length s → ((i : ℕ) → i < k → getD s i 0 ≡ 10 → ⊥) → getD s k 0 ≡ 10 → firstLine s ≡ take (suc k) s
+pub first-take : (s : List ℕ) (k : ℕ) → k < length s → ((i : ℕ) → i < k → getD s i 0 ≡ 10 → ⊥) → getD s k 0 ≡ 10
+    → firstLine s ≡ take (suc k) s
 first-take [] k h n e = absurd (not-suc-le-zero h)
 first-take (b ∷ bs) zero h n e = first-end b bs e
 first-take (b ∷ bs) (suc k) h n e =
@@ -105,13 +107,17 @@ lines-one : (b : ℕ) → linesOf (b ∷ []) ≡ (b ∷ []) ∷ []
 unfolding linesOf prepend
 lines-one b = ⊎-elim (λ e. lines-end b [] e) (λ e. lines-more b [] e) (ends b)
 
+-- a text is its first line and the lines behind it
+abbrev Split : List ℕ → Type 0
+Split s = linesOf s ≡ firstLine s ∷ linesOf (drop (length (firstLine s)) s)
+
 pub lines-first : (s : List ℕ) → 0 < length s → linesOf s ≡ firstLine s ∷ linesOf (drop (length (firstLine s)) s)
 unfolding firstLine linesOf
 lines-first [] h = absurd (not-suc-le-zero h)
 lines-first (b ∷ []) h = rw (lines-one b)
 lines-first (b ∷ d ∷ bs) h = go (lines-first (d ∷ bs) (omega arith))
   where
-    go : linesOf (d ∷ bs) ≡ firstLine (d ∷ bs) ∷ linesOf (drop (length (firstLine (d ∷ bs))) (d ∷ bs)) → linesOf (b ∷ d ∷ bs) ≡ firstLine (b ∷ d ∷ bs) ∷ linesOf (drop (length (firstLine (b ∷ d ∷ bs))) (b ∷ d ∷ bs))
+    go : Split (d ∷ bs) → Split (b ∷ d ∷ bs)
     go ih =
         ⊎-elim (λ e. rw (first-end b (d ∷ bs) e) (lines-end b (d ∷ bs) e))
         (λ e. rw (first-more b (d ∷ bs) e) (lines-more b (d ∷ bs) e ∙ ap (prepend b) ih ∙ prepend-cons b _ _)) (ends b)
@@ -134,20 +140,26 @@ and-false false b h = refl
 
 pub open-line : (s : List ℕ) (n : ℕ) → 0 < n → n ≤ length s → (getD s (n - 1) 0 ≡ 10 → ⊥) → isWhole n (firstLine s) ≡ false
 unfolding isWhole
-open-line s n p l h = and-false (eqb (length (firstLine s)) n) (eqb (getD (firstLine s) (n - 1) 0) 10) (λ t. ne-eqb _ _ (λ e. h (sym (same (eqb-true _ _ t)) ∙ e)))
+open-line s n p l h =
+    and-false (eqb (length (firstLine s)) n) (eqb (getD (firstLine s) (n - 1) 0) 10)
+    (λ t. ne-eqb _ _ (λ e. h (sym (same (eqb-true _ _ t)) ∙ e)))
   where
     same : length (firstLine s) ≡ n → getD (firstLine s) (n - 1) 0 ≡ getD s (n - 1) 0
     same q = ap (λ (x : List ℕ). getD x (n - 1) 0) (first-part s ∙ ap (λ (k : ℕ). take k s) q) ∙ getD-take n s (n - 1) 0 (omega arith)
 
-pub whole-line : (s : List ℕ) (n : ℕ) → 0 < n → n ≤ length s → ((i : ℕ) → i < n - 1 → getD s i 0 ≡ 10 → ⊥) → getD s (n - 1) 0 ≡ 10 → isWhole n (firstLine s) ≡ true
+pub whole-line : (s : List ℕ) (n : ℕ) → 0 < n → n ≤ length s → ((i : ℕ) → i < n - 1 → getD s i 0 ≡ 10 → ⊥) → getD s (n - 1) 0 ≡ 10
+    → isWhole n (firstLine s) ≡ true
 unfolding isWhole
 whole-line s n p l h e =
     let k : suc (n - 1) ≡ n = omega arith in
     let f : firstLine s ≡ take n s = first-take s (n - 1) (omega arith) h e ∙ ap (λ (m : ℕ). take m s) k in
-    both-true _ _ (eq-eqb _ _ (ap length f ∙ length-take-le n s l)) (eq-eqb _ _ (ap (λ (x : List ℕ). getD x (n - 1) 0) f ∙ getD-take n s (n - 1) 0 (omega arith) ∙ e))
+    let size : length (firstLine s) ≡ n = ap length f ∙ length-take-le n s l in
+    let end : getD (firstLine s) (n - 1) 0 ≡ 10 = ap (λ (x : List ℕ). getD x (n - 1) 0) f ∙ getD-take n s (n - 1) 0 (omega arith) ∙ e in
+    both-true _ _ (eq-eqb _ _ size) (eq-eqb _ _ end)
 
 -- the byte at the end decides
-pub line-ends : (s : List ℕ) (n i : ℕ) → 0 < n → n ≤ length s → n - 1 ≤ i → ((k : ℕ) → k < i → getD s k 0 ≡ 10 → ⊥) → isWhole n (firstLine s) ≡ eqb (getD s (n - 1) 0) 10
+pub line-ends : (s : List ℕ) (n i : ℕ) → 0 < n → n ≤ length s → n - 1 ≤ i → ((k : ℕ) → k < i → getD s k 0 ≡ 10 → ⊥)
+    → isWhole n (firstLine s) ≡ eqb (getD s (n - 1) 0) 10
 line-ends s n i p l m h =
     ⊎-elim (λ e. whole-line s n p l (λ k q. h k (omega arith)) e ∙ sym (eq-eqb _ _ e))
     (λ e. open-line s n p l e ∙ sym (ne-eqb _ _ e)) (ends (getD s (n - 1) 0))
@@ -200,7 +212,9 @@ unfolding fieldAt
 field-part f from n s h = ap (fieldOf (f .limit)) (part-of from (f .width) n s h)
 
 pub step-whole : (y : Layout) (s : List ℕ) → 0 < length s → isWhole (bytesOf y) (firstLine s) ≡ true
-    → stepAs y (linesOf s) ≡ judged (fieldAt (y .first) 0 s) (fieldAt (y .second) (y .first .width) s) (fieldAt (y .third) (y .first .width + y .second .width) s)
+    → let a = y .first .width in
+    let b = y .second .width in
+    stepAs y (linesOf s) ≡ judged (fieldAt (y .first) 0 s) (fieldAt (y .second) a s) (fieldAt (y .third) (a + b) s)
 unfolding lineAs
 step-whole y s h e =
     let a = y .first .width in
@@ -237,7 +251,9 @@ step-within text n e = e ∙ ap (λ (s : List ℕ). stepAs tableLayout (linesOf 
 
 -- line n + 1 starts a line's bytes behind line n
 pub next-start : (text : List ℕ) (n : ℕ) → drop lineBytes (drop (lineBytes * n) text) ≡ drop (lineBytes * (n + 1)) text
-next-start text n = let e : lineBytes * n + lineBytes ≡ lineBytes * (n + 1) = omega arith in drop-drop lineBytes (lineBytes * n) text ∙ ap (λ (k : ℕ). drop k text) e
+next-start text n =
+    let e : lineBytes * n + lineBytes ≡ lineBytes * (n + 1) = omega arith in
+    drop-drop lineBytes (lineBytes * n) text ∙ ap (λ (k : ℕ). drop k text) e
 
 some-bytes : (s : List ℕ) → 0 < length (linesOf s) → 0 < length s
 unfolding linesOf
@@ -245,7 +261,8 @@ some-bytes [] h = h
 some-bytes (x ∷ xs) h = omega arith
 
 -- one line on, where s starts line n of the lines ls
-next-lines : (s : List ℕ) (ls : List (List ℕ)) (n : ℕ) {t : List ℕ} → linesOf s ≡ drop n ls → n < length ls → isWhole lineBytes (getD ls n []) ≡ true → drop lineBytes s ≡ t → linesOf t ≡ drop (suc n) ls
+next-lines : (s : List ℕ) (ls : List (List ℕ)) (n : ℕ) {t : List ℕ} → linesOf s ≡ drop n ls → n < length ls
+    → isWhole lineBytes (getD ls n []) ≡ true → drop lineBytes s ≡ t → linesOf t ≡ drop (suc n) ls
 unfolding firstLine
 next-lines s ls n e h w q =
     let d : drop n ls ≡ getD ls n [] ∷ drop (suc n) ls = drop-cons ls n [] h in
@@ -255,15 +272,17 @@ next-lines s ls n e h w q =
     ap linesOf (sym q) ∙ ap (λ (k : ℕ). linesOf (drop k s)) (sym z) ∙ ap (drop 1) (sym (lines-first s p) ∙ e ∙ d)
 
 -- where each line before line n is 18 bytes, the lines from line n on are those of the text from byte 18 n on
-pub lines-from : (text : List ℕ) (n : ℕ) → n ≤ length (linesOf text) → ((i : ℕ) → i < n → isWhole lineBytes (getD (linesOf text) i []) ≡ true) → linesOf (drop (lineBytes * n) text) ≡ drop n (linesOf text)
+pub lines-from : (text : List ℕ) (n : ℕ) → n ≤ length (linesOf text) → Reached text n → linesOf (drop (lineBytes * n) text) ≡ drop n (linesOf text)
 lines-from text zero h w = refl
-lines-from text (suc n) h w = go (lines-from text n (omega arith) (λ i l. w i (omega arith)))
+lines-from text (suc n) h w = go (lines-from text n (omega arith) (record { each = λ i l k. w .each i (omega arith) k }))
   where
     go : linesOf (drop (lineBytes * n) text) ≡ drop n (linesOf text) → linesOf (drop (lineBytes * suc n) text) ≡ drop (suc n) (linesOf text)
-    go e = next-lines (drop (lineBytes * n) text) (linesOf text) n e h (w n (omega arith)) (next-start text n ∙ ap (λ (k : ℕ). drop (lineBytes * k) text) (add-one n))
+    go e =
+        let next = next-start text n ∙ ap (λ (k : ℕ). drop (lineBytes * k) text) (add-one n) in
+        next-lines (drop (lineBytes * n) text) (linesOf text) n e h (w .each n (omega arith) h) next
 
 -- what the line reader finds there is what line n holds
-pub step-from : (text : List ℕ) (n : ℕ) → n ≤ length (linesOf text) → ((i : ℕ) → i < n → isWhole lineBytes (getD (linesOf text) i []) ≡ true) → stepAt text n ≡ stepAs tableLayout (drop n (linesOf text))
+pub step-from : (text : List ℕ) (n : ℕ) → n ≤ length (linesOf text) → Reached text n → stepAt text n ≡ stepAs tableLayout (drop n (linesOf text))
 unfolding stepAt
 step-from text n h w = ap (stepAs tableLayout) (lines-from text n h w)
 
@@ -283,7 +302,8 @@ past-line : (text : List ℕ) (n : ℕ) → length (linesOf text) < n → Reache
 unfolding stepAt lineAt
 past-line text n past h =
     let m : ℕ = length (linesOf text) in
-    let rest : linesOf (drop (lineBytes * m) text) ≡ [] = lines-from text m (le-refl m) (λ i l. h .each i (omega arith) l) ∙ drop-length (linesOf text) in
+    let reached : Reached text m = record { each = λ i l k. h .each i (omega arith) k } in
+    let rest : linesOf (drop (lineBytes * m) text) ≡ [] = lines-from text m (le-refl m) reached ∙ drop-length (linesOf text) in
     let size : length (drop (lineBytes * m) text) ≡ 0 = no-lines (drop (lineBytes * m) text) rest in
     step-none tableLayout (drop (lineBytes * n) text) (omega (arith, length-drop (lineBytes * n) text, length-drop (lineBytes * m) text))
     ∙ sym (none-left (drop n (linesOf text)) (omega (arith, length-drop n (linesOf text))))
@@ -291,7 +311,7 @@ past-line text n past h =
 pub found-line : (text : List ℕ) (n : ℕ) → Reached text n → stepAt text n ≡ lineAt text n
 unfolding lineAt
 found-line text n h =
-    ⊎-elim (λ past. past-line text n past h) (λ (l : n ≤ length (linesOf text)). step-from text n l (λ i k. h .each i k (omega arith)))
+    ⊎-elim (λ past. past-line text n past h) (λ (l : n ≤ length (linesOf text)). step-from text n l h)
     (lt-or-le (length (linesOf text)) n)
 
 passed-most : (l : Line) → passed l ≤ 1
@@ -304,8 +324,10 @@ passed-most LargeNumber = omega arith
 passed-whole : (l : List ℕ) → 0 < passed (lineAs tableLayout l) → isWhole lineBytes l ≡ true
 unfolding lineAs
 passed-whole l h =
-    ⊎-elim (λ t. t) (λ t. let e : lineAs tableLayout l ≡ BadLength = pick-false _ _ _ t in let z : ⊥ = omega (arith, ap passed e) in absurd z)
-    (look (isWhole lineBytes l))
+    ⊎-elim (λ t. t) (λ t. absurd (none (pick-false _ _ _ t))) (look (isWhole lineBytes l))
+  where
+    none : lineAs tableLayout l ≡ BadLength → ⊥
+    none e = omega (arith, ap passed e)
 
 pub reached-first : (text : List ℕ) → Reached text 0
 reached-first text = record { each = λ i h. absurd (not-suc-le-zero h) }
@@ -316,12 +338,14 @@ reached-next text n h = record {
   each = λ i l k. ⊎-elim (λ before. h .each i before k) (λ (here : n ≤ i). at-line i here l k) (lt-or-le i n);
 }
   where
-    at-line : (i : ℕ) → n ≤ i → i < n + passed (stepAt text n) → i < length (linesOf text) → isWhole lineBytes (getD (linesOf text) i []) ≡ true
+    at-line : (i : ℕ) → n ≤ i → i < n + passed (stepAt text n) → i < length (linesOf text)
+        → isWhole lineBytes (getD (linesOf text) i []) ≡ true
     at-line i here l k =
         let same : n ≡ i = omega (arith, passed-most (stepAt text n)) in
         let is : stepAt text n ≡ lineAs tableLayout (getD (linesOf text) n []) =
         found-line text n h ∙ ap (stepAs tableLayout) (drop-cons (linesOf text) n [] (omega arith)) in
-        ap (λ (j : ℕ). isWhole lineBytes (getD (linesOf text) j [])) (sym same) ∙ passed-whole (getD (linesOf text) n []) (omega (arith, ap passed is))
+        ap (λ (j : ℕ). isWhole lineBytes (getD (linesOf text) j [])) (sym same)
+        ∙ passed-whole (getD (linesOf text) n []) (omega (arith, ap passed is))
 
 pub passed-fits : (s : List ℕ) → lineBytes * passed (stepAs tableLayout (linesOf s)) ≤ length s
 passed-fits [] = omega (arith, ap passed (step-none tableLayout [] refl))

@@ -30,7 +30,8 @@ pub pasting-none : (s d : List ℕ) (at c : ℕ) → length s ≡ c → at + c �
 pasting-none s d at c e h = record { size = e; within = omega arith; room = h; long = refl; is = paste-zero d at s }
 
 -- x is stored at the next place k
-pub pasting-more : {s d now : List ℕ} {at c j : ℕ} (k x : ℕ) → Pasting s d now at c j → j < c → k ≡ at + j → x ≡ getD s j 0 → Pasting s d (set now k x) at c (j + 1)
+pub pasting-more : {s d now : List ℕ} {at c j : ℕ} (k x : ℕ) → Pasting s d now at c j → j < c → k ≡ at + j → x ≡ getD s j 0
+    → Pasting s d (set now k x) at c (j + 1)
 pasting-more {s} {d} {now} {at} {c} {j} k x p h e q =
     record {
       size = p .size;
@@ -55,22 +56,27 @@ pasting-all {s} {d} {now} {at} {c} {j} p h =
 
 pub pasted-length : (d : List ℕ) (at : ℕ) (s : List ℕ) → at + length s ≤ length d → length (pasted d at s) ≡ length d
 unfolding pasted
-pasted-length d at s h = ap (λ (t : List ℕ). length (take at d ++ t ++ drop (at + length s) d)) (sym (take-length s)) ∙ length-paste d at s (length s) h (omega arith)
+pasted-length d at s h =
+    ap (λ (t : List ℕ). length (take at d ++ t ++ drop (at + length s) d)) (sym (take-length s))
+    ∙ length-paste d at s (length s) h (omega arith)
 
 pub pasted-start : (d s : List ℕ) (n : ℕ) → length s ≡ n → pasted d 0 s ≡ s ++ drop n d
 unfolding pasted
 pasted-start d s n e = rw (e, zero-add n)
 
 -- two pieces, one behind the other, are their join
-pub pasted-pasted : (d : List ℕ) (at : ℕ) (s t : List ℕ) → at + length s ≤ length d → pasted (pasted d at s) (at + length s) t ≡ pasted d at (s ++ t)
+pub pasted-pasted : (d : List ℕ) (at : ℕ) (s t : List ℕ) → at + length s ≤ length d
+    → pasted (pasted d at s) (at + length s) t ≡ pasted d at (s ++ t)
 unfolding pasted
 pasted-pasted d at s t h =
-    let n : length (take at d ++ s) ≡ at + length s = length-append (take at d) s ∙ ap (λ (k : ℕ). k + length s) (length-take-le at d (omega arith)) in
-    let a : take (at + length s) (take at d ++ s ++ drop (at + length s) d) ≡ take at d ++ s = take-at (take at d ++ s) (drop (at + length s) d) (at + length s) n in
-    let b : drop (at + length s + length t) (take at d ++ s ++ drop (at + length s) d) ≡ drop (at + length (s ++ t)) d =
-    sym (drop-drop (length t) (at + length s) (take at d ++ s ++ drop (at + length s) d))
-    ∙ ap (drop (length t)) (drop-at (take at d ++ s) (drop (at + length s) d) (at + length s) n)
-    ∙ drop-drop (length t) (at + length s) d ∙ ap (λ (k : ℕ). drop k d) (add-assoc at (length s) (length t) ∙ ap (λ (k : ℕ). at + k) (sym (length-append s t))) in
+    let front : List ℕ = take at d ++ s in
+    let rest : List ℕ = drop (at + length s) d in
+    let n : length front ≡ at + length s = length-append (take at d) s ∙ ap (λ (k : ℕ). k + length s) (length-take-le at d (omega arith)) in
+    let both : at + length s + length t ≡ at + length (s ++ t) = add-assoc at (length s) (length t) ∙ ap (λ (k : ℕ). at + k) (sym (length-append s t)) in
+    let a : take (at + length s) (front ++ rest) ≡ front = take-at front rest (at + length s) n in
+    let b : drop (at + length s + length t) (front ++ rest) ≡ drop (at + length (s ++ t)) d =
+    sym (drop-drop (length t) (at + length s) (front ++ rest)) ∙ ap (drop (length t)) (drop-at front rest (at + length s) n)
+    ∙ drop-drop (length t) (at + length s) d ∙ ap (λ (k : ℕ). drop k d) both in
     rw (a, b) (ap (λ (l : List ℕ). l ++ drop (at + length (s ++ t)) d) (append-assoc (take at d) s t))
 
 -- ---- piece by piece

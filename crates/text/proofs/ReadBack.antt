@@ -12,7 +12,8 @@ use mathlib.Core.Path.{_≡_, refl, sym, ap, _∙_}
 use mathlib.Core.Bool.{Bool, true, false, cond, _&&_}
 use mathlib.Core.Logic.{_⊎_, inl, inr}
 use mathlib.Core.List.{List, [], _∷_, _++_, append-assoc, map}
-use native.Mathlib.Nat.{mod-one, mod-lt, mod-eq-of-lt, div-one, pow-succ', one-le-pow, le-div-iff-mul-le, div-lt-iff-lt-mul, not-suc-le-zero, one-mul, add-zero, zero-add}
+use native.Mathlib.Nat.{mod-one, mod-lt, mod-eq-of-lt, div-one, le-div-iff-mul-le, div-lt-iff-lt-mul}
+use native.Mathlib.Nat.{pow-succ', one-le-pow, not-suc-le-zero, one-mul, add-zero, zero-add}
 use native.Mathlib.Omega.{arith}
 use lib.Arith.{mod-mul}
 use lib.Dec.{ltb, lit<, lit≤}
@@ -147,7 +148,8 @@ module _ (a b c : List ℕ) (rest : List ℕ) where
   third-part n m e f = rw (append-assoc (a ++ b) c rest) (ap (take m) (drop-at (a ++ b) (c ++ rest) n e) ∙ take-at c rest m f)
 
 -- a printed row reads back as its row
-pub row-back : (day first second : ℕ) → day < 2 ^ 16 → first < 2 ^ 16 → second < 2 ^ 16 → rowOf (tableLine day first second) ≡ Row day first second
+pub row-back : (day first second : ℕ) → day < 2 ^ 16 → first < 2 ^ 16 → second < 2 ^ 16
+    → rowOf (tableLine day first second) ≡ Row day first second
 unfolding rowOf lineAs fieldAt tableLine judged
 row-back day first second p q r =
     let d : List ℕ = printed dayWidth day in
@@ -192,12 +194,16 @@ lines-behind [] rest i = lines-end 10 rest refl
 lines-behind (b ∷ p) rest i =
     lines-more b (p ++ 10 ∷ rest) (i .0) ∙ ap (prepend b) (lines-behind p rest (i .1)) ∙ prepend-cons b (p ++ 10 ∷ []) (linesOf rest)
 
-row-lines : (day first second : ℕ) (rest : List ℕ) → linesOf (tableLine day first second ++ rest) ≡ tableLine day first second ∷ linesOf rest
+row-lines : (day first second : ℕ) (rest : List ℕ)
+    → linesOf (tableLine day first second ++ rest) ≡ tableLine day first second ∷ linesOf rest
 unfolding tableLine
 row-lines day first second rest =
-    let p : List ℕ = printed dayWidth day ++ printed accountWidth first ++ printed accountWidth second in
-    ap linesOf (append-assoc p (10 ∷ []) rest)
-    ∙ lines-behind p rest (inner-append (printed dayWidth day ++ printed accountWidth first) (printed accountWidth second) (inner-append (printed dayWidth day) (printed accountWidth first) (printed-inner dayWidth day) (printed-inner accountWidth first)) (printed-inner accountWidth second))
+    let d : List ℕ = printed dayWidth day in
+    let f : List ℕ = printed accountWidth first in
+    let s : List ℕ = printed accountWidth second in
+    let i : Inner (d ++ f) = inner-append d f (printed-inner dayWidth day) (printed-inner accountWidth first) in
+    let j : Inner (d ++ f ++ s) = inner-append (d ++ f) s i (printed-inner accountWidth second) in
+    ap linesOf (append-assoc (d ++ f ++ s) (10 ∷ []) rest) ∙ lines-behind (d ++ f ++ s) rest j
 
 -- each number is one of 16 bits
 pub record Small (r : TableRow) : Type 0 where
@@ -225,7 +231,8 @@ judged-back n (r ∷ rs) a =
     ∙ ap (λ (x : Line). faultOr (n + 1) x (judgedFrom (n + 1) (linesOf (tableText rs)))) (small-back r (a .0))
     ∙ judged-back (n + 1) rs (a .1) ∙ ap Rows e
 
-column-back : (f : Line → ℕ) (rs : List TableRow) → AllSmall rs → map (λ (l : List ℕ). f (rowOf l)) (linesOf (tableText rs)) ≡ map (λ (r : TableRow). f (rowIn r)) rs
+column-back : (f : Line → ℕ) (rs : List TableRow) → AllSmall rs
+    → map (λ (l : List ℕ). f (rowOf l)) (linesOf (tableText rs)) ≡ map (λ (r : TableRow). f (rowIn r)) rs
 unfolding tableText linesOf
 column-back f [] a = refl
 column-back f (r ∷ rs) a =

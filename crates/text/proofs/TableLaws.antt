@@ -22,7 +22,8 @@ use borrow.Author.Tests.{lt-leb, le-leb}
 use lib.Seq.{drop-cons, drop-length}
 use Rattle.text.specs.Layout.{tableLayout, lineBytes}
 use Rattle.text.specs.Decimal.{fieldValue}
-use Rattle.text.specs.Line.{linesOf, firstLine, isWhole, lineNumber, oneRefuses, judged, lineAs, stepAs, rowOf, stepAt, passed, stepFrom}
+use Rattle.text.specs.Line.{linesOf, firstLine, isWhole, lineNumber, oneRefuses, judged, lineAs}
+use Rattle.text.specs.Line.{stepAs, rowOf, stepAt, passed, stepFrom, Reached}
 use Rattle.text.specs.Table.{dayOf, firstOf, secondOf, daysOf, firstsOf, secondsOf, faultOr, judgedFrom, roomFor, tableReadOf, filled}
 use Rattle.text.specs.Table.{Columns, columns, RowsFit, RowsWritten, TableReads}
 use Rattle.text.specs.declared.decimal.Field.{Field}
@@ -56,7 +57,10 @@ line-is false r e = refl
 
 fields-are : (x y z : Field) → is-end (judged x y z) ≡ 0
 unfolding judged
-fields-are x y z = judged-is (oneRefuses (lineNumber line.BadField) x y z) (oneRefuses (lineNumber line.LargeNumber) x y z) (fieldValue x) (fieldValue y) (fieldValue z)
+fields-are x y z =
+    let broken = oneRefuses (lineNumber line.BadField) x y z in
+    let large = oneRefuses (lineNumber line.LargeNumber) x y z in
+    judged-is broken large (fieldValue x) (fieldValue y) (fieldValue z)
 
 pub never-end : (l : List ℕ) → is-end (rowOf l) ≡ 0
 unfolding rowOf lineAs
@@ -64,7 +68,8 @@ never-end l = line-is (isWhole lineBytes l) _ (fields-are _ _ _)
 
 -- ---- the lowest fault from line n on
 
-fault-at : (n : ℕ) (ls : List (List ℕ)) (r : Line) → stepAs tableLayout ls ≡ r → is-end r ≡ 0 → judgedFrom n ls ≡ faultOr (n + 1) r (judgedFrom (n + 1) (drop 1 ls))
+fault-at : (n : ℕ) (ls : List (List ℕ)) (r : Line) → stepAs tableLayout ls ≡ r → is-end r ≡ 0
+    → judgedFrom n ls ≡ faultOr (n + 1) r (judgedFrom (n + 1) (drop 1 ls))
 unfolding stepAs judgedFrom rowOf
 fault-at n [] r e z = zero-one (sym (ap is-end e ∙ z))
 fault-at n (l ∷ ls) r e z = ap (λ (x : Line). faultOr (n + 1) x (judgedFrom (n + 1) ls)) e
@@ -99,29 +104,41 @@ row-step (x ∷ xs) d a b e =
     ⊎-elim (λ t. whole-step (x ∷ xs) t) (λ t. no-row d a b (sym (step-short tableLayout (x ∷ xs) (omega arith) t) ∙ e))
     (look (isWhole lineBytes (firstLine (x ∷ xs))))
 
--- line m is the one behind line n, within the text, and the lowest fault from there on is that of the whole
-pub record Onward (text : List ℕ) (n m : ℕ) (found : TableRead) : Type 0 where
-  pub next : m ≡ n + 1
-  pub within : lineBytes * m ≤ length text
-  pub rest : judgedFrom m (linesOf (drop (lineBytes * m) text)) ≡ found
+-- line n starts within the text, and the lowest fault from there on is that of the whole
+pub record Judging (text : List ℕ) (found : TableRead) (n : ℕ) : Type 0 where
+  pub within : lineBytes * n ≤ length text
+  pub rest : judgedFrom n (linesOf (drop (lineBytes * n) text)) ≡ found
 
-module _ (text : List ℕ) (n : ℕ) {s : Step} {found : TableRead} (so : judgedFrom n (linesOf (drop (lineBytes * n) text)) ≡ found) (is : s ≡ stepFrom text n) where
+pub judging-first : (text : List ℕ) → Judging text (judgedFrom 0 (linesOf text)) 0
+judging-first text = record { within = omega arith; rest = refl }
+
+-- line m is the one behind line n
+pub record NextLine (text : List ℕ) (found : TableRead) (n m : ℕ) : Type 0 where
+  pub next : m ≡ n + 1
+  pub judging : Judging text found m
+
+module _ {text : List ℕ} {found : TableRead} {n : ℕ} {s : Step} (so : Judging text found n) (is : s ≡ stepFrom text n) where
+  -- the text from line n on
+  abbrev from-line : List ℕ
+  from-line = drop (lineBytes * n) text
+
   at-end : s .found ≡ line.End → Rows n ≡ found
   unfolding stepAt
-  at-end e = sym (fault-none n _ (sym (step-found text n is) ∙ e)) ∙ so
+  at-end e = sym (fault-none n _ (sym (step-found text n is) ∙ e)) ∙ so .rest
 
-  at-fault : (f : Line) → s .found ≡ f → is-end f ≡ 0 → faultOr (n + 1) f (judgedFrom (n + 1) (drop 1 (linesOf (drop (lineBytes * n) text)))) ≡ found
+  at-fault : (f : Line) → s .found ≡ f → is-end f ≡ 0 → faultOr (n + 1) f (judgedFrom (n + 1) (drop 1 (linesOf from-line))) ≡ found
   unfolding stepAt
-  at-fault f e z = sym (fault-at n _ f (sym (step-found text n is) ∙ e) z) ∙ so
+  at-fault f e z = sym (fault-at n _ f (sym (step-found text n is) ∙ e) z) ∙ so .rest
 
-  next-row : (d a b : ℕ) → s .found ≡ line.Row d a b → (lineBytes * (n + 1) ≤ length text) × (judgedFrom (n + 1) (linesOf (drop (lineBytes * (n + 1)) text)) ≡ found)
+  at-row : (d a b : ℕ) → s .found ≡ line.Row d a b → Judging text found (n + 1)
   unfolding stepAt
-  next-row d a b e =
-      let st : FirstWhole (drop (lineBytes * n) text) = row-step (drop (lineBytes * n) text) d a b (sym (step-found text n is) ∙ e) in (
-        omega (arith, length-drop (lineBytes * n) text),
-        ap (λ (s : List ℕ). judgedFrom (n + 1) (linesOf s)) (sym (next-start text n))
-            ∙ ap (λ (ls : List (List ℕ)). judgedFrom (n + 1) (drop 1 ls)) (sym (st .split)) ∙ at-fault (line.Row d a b) e refl,
-      )
+  at-row d a b e =
+      let first : FirstWhole from-line = row-step from-line d a b (sym (step-found text n is) ∙ e) in
+      record {
+        within = omega (arith, first .fits, length-drop (lineBytes * n) text);
+        rest = ap (λ (t : List ℕ). judgedFrom (n + 1) (linesOf t)) (sym (next-start text n))
+            ∙ ap (λ (ls : List (List ℕ)). judgedFrom (n + 1) (drop 1 ls)) (sym (first .split)) ∙ at-fault (line.Row d a b) e refl;
+      }
 
   by-stay : (l : Line) → s .found ≡ l → passed l ≡ 0 → faultOr (n + 1) l (Rows n) ≡ found
   by-stay (line.Row d a b) e z = zero-one (sym z)
@@ -134,17 +151,17 @@ module _ (text : List ℕ) (n : ℕ) {s : Step} {found : TableRead} (so : judged
   pub stays : s .line ≡ n → faultOr (n + 1) (s .found) (Rows n) ≡ found
   stays h = by-stay (s .found) refl (omega (arith, step-line text n is))
 
-  by-move : (l : Line) → s .found ≡ l → (passed l ≡ 0 → ⊥) → Onward text n (s .line) found
+  by-move : (l : Line) → s .found ≡ l → (passed l ≡ 0 → ⊥) → NextLine text found n (s .line)
   by-move (line.Row d a b) e h =
       let on : s .line ≡ n + 1 = step-line text n is ∙ ap (λ (l : Line). n + passed l) e in
-      record { next = on; within = rw on (next-row d a b e .0); rest = rw on (next-row d a b e .1) }
+      record { next = on; judging = rw on (at-row d a b e) }
   by-move line.End e h = absurd (h refl)
   by-move line.BadLength e h = absurd (h refl)
   by-move line.BadField e h = absurd (h refl)
   by-move line.LargeNumber e h = absurd (h refl)
 
   -- one that moves has passed a row
-  pub moves : (s .line ≡ n → ⊥) → Onward text n (s .line) found
+  pub moves : (s .line ≡ n → ⊥) → NextLine text found n (s .line)
   moves h = by-move (s .found) refl (λ z. h (omega (arith, step-line text n is)))
 
 -- ---- a text of rows alone
@@ -199,27 +216,31 @@ unfolding rowOf lineAs isWhole
 no-bytes = refl
 
 module _ (text : List ℕ) (c : ℕ) (so : judgedFrom 0 (linesOf text) ≡ Rows c) where
+  -- every line can be reached
+  reached : (n : ℕ) → Reached text n
+  reached n = record { each = λ i l k. rows-whole 0 c (linesOf text) so i k }
+
+  all : c ≡ length (linesOf text)
+  all = all-rows c (linesOf text) so
+
   pub found-at : (i : ℕ) → i < c → stepAt text i ≡ rowOf (getD (linesOf text) i [])
   unfolding stepAs rowOf
   found-at i h =
-      let k : i < length (linesOf text) = omega (arith, rows-count 0 c (linesOf text) so) in
-      step-from text i (omega arith) (λ j q. rows-whole 0 c (linesOf text) so j (omega arith))
-      ∙ ap (stepAs tableLayout) (drop-cons (linesOf text) i [] k)
+      let k : i < length (linesOf text) = omega (arith, all) in
+      step-from text i (omega arith) (reached i) ∙ ap (stepAs tableLayout) (drop-cons (linesOf text) i [] k)
 
   -- the line reached behind row i is that of row i + 1
   pub line-on : (i : ℕ) → i < c → {s : Step} → s ≡ stepFrom text i → s .line ≡ i + 1
   line-on i h {s} is =
-      let one : passed (rowOf (getD (linesOf text) i [])) ≡ 1 = rows-passed 0 c (linesOf text) so i (omega (arith, rows-count 0 c (linesOf text) so)) in
+      let one : passed (rowOf (getD (linesOf text) i [])) ≡ 1 = rows-passed 0 c (linesOf text) so i (omega (arith, all)) in
       step-line text i is ∙ ap (λ (k : ℕ). i + k) (ap passed (step-found text i is ∙ found-at i h) ∙ one)
 
   -- behind the last row the reader stays
   pub line-end : (i : ℕ) → i ≡ c → {s : Step} → s ≡ stepFrom text i → s .line ≡ i
   unfolding stepAs
   line-end i h {s} is =
-      let all : i ≡ length (linesOf text) = h ∙ all-rows c (linesOf text) so in
-      let end : stepAt text i ≡ line.End =
-      step-from text i (omega arith) (λ j q. rows-whole 0 c (linesOf text) so j (omega arith))
-      ∙ ap (stepAs tableLayout) (ap (λ (k : ℕ). drop k (linesOf text)) all ∙ drop-length (linesOf text)) in
+      let none : drop i (linesOf text) ≡ [] = ap (λ (k : ℕ). drop k (linesOf text)) (h ∙ all) ∙ drop-length (linesOf text) in
+      let end : stepAt text i ≡ line.End = step-from text i (omega (arith, all)) (reached i) ∙ ap (stepAs tableLayout) none in
       omega (arith, step-line text i is, ap passed (step-found text i is ∙ end))
 
   -- where the reader moves there is a row
@@ -230,18 +251,24 @@ module _ (text : List ℕ) (c : ℕ) (so : judgedFrom 0 (linesOf text) ≡ Rows 
   pub no-row-left : (i : ℕ) → i ≤ c → {s : Step} → s ≡ stepFrom text i → s .line ≡ i → c ≤ i
   no-row-left i h is e = ⊎-elim (λ (l : i < c). let z : ⊥ = omega (arith, line-on i l is) in absurd z) (λ l. l) (lt-or-le i c)
 
-  -- a column of the text's rows, as the lines found give it
-  pub column-at : (f : Line → ℕ) → f line.BadLength ≡ 0 → (i : ℕ) → i < c → getD (map (λ (l : List ℕ). f (rowOf l)) (linesOf text)) i 0 ≡ f (stepAt text i)
-  column-at f z i h =
-      ap (getD (map (λ (l : List ℕ). f (rowOf l)) (linesOf text)) i) (sym (ap f no-bytes ∙ z))
-      ∙ List·getD-map (λ (l : List ℕ). f (rowOf l)) (linesOf text) i [] ∙ ap f (sym (found-at i h))
+  module _ (f : Line → ℕ) where
+    -- a column of the text's rows
+    abbrev column : List ℕ
+    column = map (λ (l : List ℕ). f (rowOf l)) (linesOf text)
 
-  pub column-length : (f : Line → ℕ) → length (map (λ (l : List ℕ). f (rowOf l)) (linesOf text)) ≡ c
-  column-length f = length-map (linesOf text) (λ (l : List ℕ). f (rowOf l)) ∙ omega (arith, rows-count 0 c (linesOf text) so)
+    pub column-length : length (map (λ (l : List ℕ). f (rowOf l)) (linesOf text)) ≡ c
+    column-length = length-map (linesOf text) (λ (l : List ℕ). f (rowOf l)) ∙ sym all
 
-pub cell : (text : List ℕ) (c : ℕ) → judgedFrom 0 (linesOf text) ≡ Rows c → (f : Line → ℕ) → f line.BadLength ≡ 0 → (i : ℕ) → i < c
-    → {r : Line} {x : ℕ} → r ≡ stepAt text i → x ≡ f r → x ≡ getD (map (λ (l : List ℕ). f (rowOf l)) (linesOf text)) i 0
-cell text c so f z i h e q = q ∙ ap f e ∙ sym (column-at text c so f z i h)
+    module _ (z : f line.BadLength ≡ 0) (i : ℕ) (h : i < c) where
+      -- its number at a row is that of the line found there
+      column-at : getD column i 0 ≡ f (stepAt text i)
+      column-at =
+          ap (getD column i) (sym (ap f no-bytes ∙ z)) ∙ List·getD-map (λ (l : List ℕ). f (rowOf l)) (linesOf text) i []
+          ∙ ap f (sym (found-at i h))
+
+      -- so it is the number that the loop stores
+      stored : {r : Line} {x : ℕ} → r ≡ stepAt text i → x ≡ f r → x ≡ getD column i 0
+      stored e q = q ∙ ap f e ∙ sym column-at
 
 -- ---- a text's rows, written into three columns row by row
 
@@ -274,9 +301,9 @@ module _ {text : List ℕ} {old : Columns} (fit : RowsFit text old) where
       let found = step-found text i is in
       let on = line-on text _ (fit .rows) i row is in
       record {
-        days-hold = pasting-on _ _ on (w .days-hold) row (omega arith) (cell text _ (fit .rows) dayOf refl i row found p);
-        first-hold = pasting-on _ _ on (w .first-hold) row (omega arith) (cell text _ (fit .rows) firstOf refl i row found q);
-        second-hold = pasting-on _ _ on (w .second-hold) row (omega arith) (cell text _ (fit .rows) secondOf refl i row found r);
+        days-hold = pasting-on _ _ on (w .days-hold) row (omega arith) (stored text _ (fit .rows) dayOf refl i row found p);
+        first-hold = pasting-on _ _ on (w .first-hold) row (omega arith) (stored text _ (fit .rows) firstOf refl i row found q);
+        second-hold = pasting-on _ _ on (w .second-hold) row (omega arith) (stored text _ (fit .rows) secondOf refl i row found r);
       }
 
   -- the reader has stayed: all rows stand
