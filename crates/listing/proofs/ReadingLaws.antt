@@ -26,7 +26,7 @@ use Rattle.text.specs.declared.lines.QueryRead.{QueryRead}
 use Rattle.text.specs.declared.table.TableRead.{TableRead}
 use Rattle.text.proofs.Tests.{look}
 use Rattle.text.proofs.LineLaws.{step-none, step-short, whole-fits}
-use Rattle.text.proofs.TableLaws.{column-length}
+use Rattle.text.proofs.RowsLaws.{column-length}
 use Rattle.rings.specs.Table.{tableOf as columns}
 use Rattle.rings.specs.Refusals.{numberOf}
 use Rattle.listing.specs.Program.{Outcome, stopped, readerLine, inputLine, stoppedBy, unlessRefused, tableOf, listed, fromRows, fromQuery, unlessLong, outcome}

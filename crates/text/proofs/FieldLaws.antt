@@ -1,18 +1,37 @@
 -- Laws of decimal fields, over plain lists.
 --
---   unblank-at unblank-past      a list that starts with a blank, or not
---   unblank-yes unblank-no unblank-end            a step over a blank, the first byte that is none, the end
---   digit-yes digit-between      a digit, and the bytes that are one
---   digits-next digits-low digits-high digits-end   a step of the test that every byte is a digit
---   digits-drop digit-at         a part of digits, and one of them
---   numeral-none numeral-one numeral-zero numeral-more   the test for a numeral, by the code's cases
---   numeral-digits     a numeral is all digits
---   value-below        digits have a value below 10 to their number
---   value-next value-end value-sum   a digit's part of the value, the end, and that the sum fits
---   numeral-above      a numeral of more than k digits is at least 10 ^ k
---   broken-field large-field number-field   what a field holds, for any limit
---   tail tail-is       the part of a slice behind a position
---   tail-broken tail-large tail-high tail-number     what a field holds, by the code's cases, for any limit
+--   unblank-at       a list that starts with a blank, without its blanks
+--   unblank-past     a list that starts with another byte
+--   unblank-yes      from position i on: a blank is passed
+--   unblank-no       the first byte that is no blank
+--   unblank-end      the end
+--   digit-yes        a byte from 48 to 57 is a digit
+--   digit-between    and a digit is one of these
+--   digits-next      from position i on: a digit is passed
+--   digits-low       a byte below 48
+--   digits-high      a byte above 57
+--   digits-end       the end
+--   numeral-none     no byte is no numeral
+--   numeral-one      one byte is one if it is a digit
+--   numeral-zero     more bytes that start with 0 are none
+--   numeral-more     more bytes that do not are one if all are digits
+--   numeral-digits   a numeral is all digits
+--   value-below      digits have a value below 10 to their number
+--   digits-drop      a part of digits is digits
+--   digit-at         one of them
+--   value-next       a digit's part of the value
+--   value-end        the value of no digits
+--   value-few        the value of few digits
+--   numeral-above    a numeral of more than k digits is at least 10 ^ k
+--   broken-field     what a field holds, for any limit: no numeral
+--   large-field      a numeral above the limit
+--   number-field     a numeral within it
+--   tail             the part of a slice behind a position
+--   tail-is          it is the list behind that position
+--   tail-broken      what a field holds, by the code's cases: no numeral behind the blanks
+--   tail-large       too many digits
+--   tail-high        a value above the limit
+--   tail-number      a value within it
 -- Assumes nothing.
 use Prim.Native.Nat.{ℕ, zero, suc, _+_, _-_, _*_, _^_, _≤_, _<_}
 use mathlib.Core.Path.{_≡_, refl, sym, ap, _∙_}

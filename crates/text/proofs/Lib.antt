@@ -1,8 +1,10 @@
 pub mod Tests
 pub mod ConstantLaws
 pub mod FieldLaws
+pub mod SplitLaws
 pub mod LineLaws
 pub mod PasteLaws
+pub mod RowsLaws
 pub mod TableLaws
 pub mod PrintLaws
 pub mod ReadBack

@@ -1,37 +1,45 @@
--- Laws of lines, over plain lists.
+-- What a line holds, and what the line reader finds, over plain lists.
 --
---   lines-end lines-more prepend-cons     the lines, byte by byte
---   first-end first-more      the first line, byte by byte
---   first-length first-ends first-part first-take   how long the first line is, and its bytes
---   lines-first               a text is its first line and the lines behind it
---   short-line early-end open-line whole-line line-ends     the test for a whole line, by the code's cases
---   whole-size whole-first whole-fits     a whole first line is the text's first bytes
---   part-of                   a part of the first bytes is a part of the text
---   first-refuses second-refuses third-decides     one of three fields is refused, by the first that is
---   step-none step-first step-short step-whole part-field step-judged   what the first line holds, by the code's cases
---   step-past step-within     past the text there is no line; within it, the part that the code takes
---   next-start lines-from step-from     where each line before line n is 18 bytes, the reader finds line n
---   found-line                the same where line n is reached, past the last line too
---   reached-first reached-next     line 0 is reached, and from a line that is reached a step goes to one that is
---   passed-fits step-fits     a row is 18 bytes, so a step stays within the numbers
---   step-is step-found step-line     a step by its two parts
+--   part-of          a part of the first bytes is a part of the text
+--   first-refuses    one of three fields is refused: the first
+--   second-refuses   the second
+--   third-decides    the third, or none
+--   step-none        what the first line holds: there is none
+--   step-first       the first line alone counts
+--   step-short       it is not whole
+--   step-whole       it is whole: its fields are the text's
+--   step-past        past the text there is no line
+--   whole-fits       a whole first line lies within the text
+--   part-field       a field, as the part of the slice that the code takes
+--   step-judged      the answer from three such fields
+--   step-within      the line at a place within the text
+--   next-start       where line n + 1 starts
+--   lines-from       where line n is reached, the lines from there on
+--   step-from        what the reader finds there
+--   found-line       the same past the last line too
+--   reached-first    line 0 is reached
+--   reached-next     from a line that is reached a step goes to one that is
+--   passed-fits      a row has the bytes of a line
+--   step-fits        so a step stays within the numbers
+--   step-is          a step by its two parts
+--   step-found       what it finds
+--   step-line        the line reached then
+--   is-end           1 at the text's end, 0 at what a line holds
+--   never-end        no line of a text is its end
 -- Assumes nothing.
-use Prim.Native.Nat.{ℕ, zero, suc, _+_, _-_, _*_, _/_, _≤_, _<_, suc-le-suc}
+use Prim.Native.Nat.{ℕ, zero, suc, _+_, _-_, _*_, _/_, _≤_, _<_}
 use mathlib.Core.Path.{_≡_, refl, sym, ap, _∙_}
-use mathlib.Core.Bool.{Bool, true, false, cond, _&&_}
-use mathlib.Core.Logic.{_⊎_, inl, inr, ⊎-elim}
+use mathlib.Core.Bool.{Bool, true, false, cond}
+use mathlib.Core.Logic.{⊎-elim}
 use mathlib.Core.List.{List, [], _∷_}
-use native.Mathlib.Nat.{le-refl, le-of-suc-le-suc, not-suc-le-zero, zero-add}
+use native.Mathlib.Nat.{le-refl, not-suc-le-zero, zero-add}
 use native.Mathlib.Numerals.{add-one}
 use native.Mathlib.Omega.{arith}
-use lib.Dec.{eqb}
 use lib.ListN.{length, getD, take, drop, length-drop}
-use lib.Seq.{take-take, length-take-le, getD-take, drop-drop, drop-cons, drop-length}
-use borrow.Author.Tests.{eq-eqb, ne-eqb, eqb-true, eqb-false}
+use lib.Seq.{take-take, drop-drop, drop-cons, drop-length}
 use Rattle.text.specs.Layout.{bytesOf, tableLayout, lineBytes}
-use Rattle.text.specs.Decimal.{fieldOf, refuses}
-use Rattle.text.specs.Line.{prepend, linesOf, firstLine, isWhole, oneRefuses, judged, fieldAt, lineAs}
-use Rattle.text.specs.Line.{stepAs, stepAt, passed, stepFrom, lineAt, Reached}
+use Rattle.text.specs.Decimal.{fieldOf, refuses, fieldValue}
+use Rattle.text.specs.Line.{linesOf, firstLine, isWhole, oneRefuses, judged, fieldAt, lineAs, stepAs, stepAt, passed, stepFrom, lineAt, Reached, lineNumber, rowOf}
 use Rattle.text.specs.declared.layout.Format.{Format}
 use Rattle.text.specs.declared.layout.Layout.{Layout}
 use Rattle.text.specs.declared.lines.Line.{Line}
@@ -39,137 +47,8 @@ use Rattle.text.specs.declared.lines.Line.the-variants.{Row, End, BadLen
 use Rattle.text.specs.declared.lines.Step.{Step}
 use Rattle.text.specs.declared.decimal.Field.{Field}
 use Rattle.text.proofs.FieldLaws.{tail, tail-is}
-use Rattle.text.proofs.Tests.{look, lt-or-le, and-left, both-true, pick-true, pick-false}
-
--- ---- the first line
-
-lines-cons : (b : ℕ) (bs : List ℕ) → linesOf (b ∷ bs) ≡ cond (eqb b 10) ((b ∷ []) ∷ linesOf bs) (prepend b (linesOf bs))
-unfolding linesOf
-lines-cons b bs = refl
-
-pub lines-end : (b : ℕ) (bs : List ℕ) → b ≡ 10 → linesOf (b ∷ bs) ≡ (b ∷ []) ∷ linesOf bs
-lines-end b bs e = lines-cons b bs ∙ pick-true _ _ _ (eq-eqb b 10 e)
-
-pub lines-more : (b : ℕ) (bs : List ℕ) → (b ≡ 10 → ⊥) → linesOf (b ∷ bs) ≡ prepend b (linesOf bs)
-lines-more b bs e = lines-cons b bs ∙ pick-false _ _ _ (ne-eqb b 10 e)
-
-pub first-end : (b : ℕ) (bs : List ℕ) → b ≡ 10 → firstLine (b ∷ bs) ≡ b ∷ []
-unfolding firstLine
-first-end b bs e = rw (lines-end b bs e)
-
-prepend-first : (b : ℕ) (ls : List (List ℕ)) → getD (prepend b ls) 0 [] ≡ b ∷ getD ls 0 []
-unfolding prepend
-prepend-first b [] = refl
-prepend-first b (l ∷ ls) = refl
-
-pub first-more : (b : ℕ) (bs : List ℕ) → (b ≡ 10 → ⊥) → firstLine (b ∷ bs) ≡ b ∷ firstLine bs
-unfolding firstLine
-first-more b bs e = rw (lines-more b bs e) (prepend-first b (linesOf bs))
-
--- a byte is the line's end or it is not
-ends : (b : ℕ) → (b ≡ 10) ⊎ (b ≡ 10 → ⊥)
-ends b = ⊎-elim (λ t. inl (eqb-true b 10 t)) (λ t. inr (eqb-false b 10 t)) (look (eqb b 10))
-
-pub first-length : (s : List ℕ) → length (firstLine s) ≤ length s
-unfolding firstLine linesOf
-first-length [] = le-refl 0
-first-length (b ∷ bs) =
-    ⊎-elim (λ e. rw (first-end b bs e) (omega arith))
-    (λ e. rw (first-more b bs e) (suc-le-suc (first-length bs))) (ends b)
-
-pub first-ends : (s : List ℕ) (i : ℕ) → i < length s → getD s i 0 ≡ 10 → length (firstLine s) ≤ suc i
-first-ends [] i h e = absurd (not-suc-le-zero h)
-first-ends (b ∷ bs) zero h e = rw (first-end b bs e) (le-refl 1)
-first-ends (b ∷ bs) (suc i) h e =
-    ⊎-elim (λ t. rw (first-end b bs t) (omega arith))
-    (λ t. rw (first-more b bs t) (suc-le-suc (first-ends bs i (le-of-suc-le-suc h) e))) (ends b)
-
--- the first line is the text's first bytes
-pub first-part : (s : List ℕ) → firstLine s ≡ take (length (firstLine s)) s
-unfolding firstLine linesOf
-first-part [] = refl
-first-part (b ∷ bs) =
-    ⊎-elim (λ e. rw (first-end b bs e)) (λ e. rw (first-more b bs e) (ap (λ (l : List ℕ). b ∷ l) (first-part bs))) (ends b)
-
-pub first-take : (s : List ℕ) (k : ℕ) → k < length s → ((i : ℕ) → i < k → getD s i 0 ≡ 10 → ⊥) → getD s k 0 ≡ 10
-    → firstLine s ≡ take (suc k) s
-first-take [] k h n e = absurd (not-suc-le-zero h)
-first-take (b ∷ bs) zero h n e = first-end b bs e
-first-take (b ∷ bs) (suc k) h n e =
-    first-more b bs (n 0 (omega arith))
-    ∙ ap (λ (l : List ℕ). b ∷ l) (first-take bs k (le-of-suc-le-suc h) (λ i l. n (suc i) (suc-le-suc l)) e)
-
-pub prepend-cons : (b : ℕ) (l : List ℕ) (ls : List (List ℕ)) → prepend b (l ∷ ls) ≡ (b ∷ l) ∷ ls
-unfolding prepend
-prepend-cons b l ls = refl
-
-lines-one : (b : ℕ) → linesOf (b ∷ []) ≡ (b ∷ []) ∷ []
-unfolding linesOf prepend
-lines-one b = ⊎-elim (λ e. lines-end b [] e) (λ e. lines-more b [] e) (ends b)
-
--- a text is its first line and the lines behind it
-abbrev Split : List ℕ → Type 0
-Split s = linesOf s ≡ firstLine s ∷ linesOf (drop (length (firstLine s)) s)
-
-pub lines-first : (s : List ℕ) → 0 < length s → linesOf s ≡ firstLine s ∷ linesOf (drop (length (firstLine s)) s)
-unfolding firstLine linesOf
-lines-first [] h = absurd (not-suc-le-zero h)
-lines-first (b ∷ []) h = rw (lines-one b)
-lines-first (b ∷ d ∷ bs) h = go (lines-first (d ∷ bs) (omega arith))
-  where
-    go : Split (d ∷ bs) → Split (b ∷ d ∷ bs)
-    go ih =
-        ⊎-elim (λ e. rw (first-end b (d ∷ bs) e) (lines-end b (d ∷ bs) e))
-        (λ e. rw (first-more b (d ∷ bs) e) (lines-more b (d ∷ bs) e ∙ ap (prepend b) ih ∙ prepend-cons b _ _)) (ends b)
-
--- ---- the test for a whole line
-
-whole-no-size : (n : ℕ) (l : List ℕ) → (length l ≡ n → ⊥) → isWhole n l ≡ false
-unfolding isWhole
-whole-no-size n l h = rw (ne-eqb (length l) n h)
-
-pub short-line : (s : List ℕ) (n : ℕ) → length s < n → isWhole n (firstLine s) ≡ false
-short-line s n h = whole-no-size n (firstLine s) (λ e. omega (arith, first-length s))
-
-pub early-end : (s : List ℕ) (n i : ℕ) → i < n - 1 → n ≤ length s → getD s i 0 ≡ 10 → isWhole n (firstLine s) ≡ false
-early-end s n i h l e = whole-no-size n (firstLine s) (λ q. omega (arith, first-ends s i (omega arith) e))
-
-and-false : (a b : Bool) → (a ≡ true → b ≡ false) → (a && b) ≡ false
-and-false true b h = h refl
-and-false false b h = refl
-
-pub open-line : (s : List ℕ) (n : ℕ) → 0 < n → n ≤ length s → (getD s (n - 1) 0 ≡ 10 → ⊥) → isWhole n (firstLine s) ≡ false
-unfolding isWhole
-open-line s n p l h =
-    and-false (eqb (length (firstLine s)) n) (eqb (getD (firstLine s) (n - 1) 0) 10)
-    (λ t. ne-eqb _ _ (λ e. h (sym (same (eqb-true _ _ t)) ∙ e)))
-  where
-    same : length (firstLine s) ≡ n → getD (firstLine s) (n - 1) 0 ≡ getD s (n - 1) 0
-    same q = ap (λ (x : List ℕ). getD x (n - 1) 0) (first-part s ∙ ap (λ (k : ℕ). take k s) q) ∙ getD-take n s (n - 1) 0 (omega arith)
-
-pub whole-line : (s : List ℕ) (n : ℕ) → 0 < n → n ≤ length s → ((i : ℕ) → i < n - 1 → getD s i 0 ≡ 10 → ⊥) → getD s (n - 1) 0 ≡ 10
-    → isWhole n (firstLine s) ≡ true
-unfolding isWhole
-whole-line s n p l h e =
-    let k : suc (n - 1) ≡ n = omega arith in
-    let f : firstLine s ≡ take n s = first-take s (n - 1) (omega arith) h e ∙ ap (λ (m : ℕ). take m s) k in
-    let size : length (firstLine s) ≡ n = ap length f ∙ length-take-le n s l in
-    let end : getD (firstLine s) (n - 1) 0 ≡ 10 = ap (λ (x : List ℕ). getD x (n - 1) 0) f ∙ getD-take n s (n - 1) 0 (omega arith) ∙ e in
-    both-true _ _ (eq-eqb _ _ size) (eq-eqb _ _ end)
-
--- the byte at the end decides
-pub line-ends : (s : List ℕ) (n i : ℕ) → 0 < n → n ≤ length s → n - 1 ≤ i → ((k : ℕ) → k < i → getD s k 0 ≡ 10 → ⊥)
-    → isWhole n (firstLine s) ≡ eqb (getD s (n - 1) 0) 10
-line-ends s n i p l m h =
-    ⊎-elim (λ e. whole-line s n p l (λ k q. h k (omega arith)) e ∙ sym (eq-eqb _ _ e))
-    (λ e. open-line s n p l e ∙ sym (ne-eqb _ _ e)) (ends (getD s (n - 1) 0))
-
-pub whole-size : (n : ℕ) (l : List ℕ) → isWhole n l ≡ true → length l ≡ n
-unfolding isWhole
-whole-size n l e = eqb-true _ _ (and-left (eqb (length l) n) (eqb (getD l (n - 1) 0) 10) e)
-
-pub whole-first : (s : List ℕ) (n : ℕ) → isWhole n (firstLine s) ≡ true → firstLine s ≡ take n s
-whole-first s n e = first-part s ∙ ap (λ (k : ℕ). take k s) (whole-size n (firstLine s) e)
+use Rattle.text.proofs.Tests.{look, lt-or-le, pick-true, pick-false}
+use Rattle.text.proofs.SplitLaws.{first-length, lines-first, whole-size, whole-first}
 
 -- ---- fields of the first line
 
@@ -370,3 +249,33 @@ module _ (text : List ℕ) (n : ℕ) {s : Step} (is : s ≡ stepFrom text n) whe
   pub step-line : s .line ≡ n + passed (s .found)
   unfolding stepFrom
   step-line = ap (λ (x : Step). x .line) is ∙ ap (λ (l : Line). n + passed l) (sym step-found)
+
+-- ---- no line is the text's end
+
+-- 1 at the end, 0 at what a line holds
+abbrev pub is-end : Line → ℕ
+is-end (Row d a b) = 0
+is-end End = 1
+is-end BadLength = 0
+is-end BadField = 0
+is-end LargeNumber = 0
+
+judged-is : (broken large : Bool) (d a b : ℕ) → is-end (cond broken BadField (cond large LargeNumber (Row d a b))) ≡ 0
+judged-is true large d a b = refl
+judged-is false true d a b = refl
+judged-is false false d a b = refl
+
+line-is : (whole : Bool) (r : Line) → is-end r ≡ 0 → is-end (cond whole r BadLength) ≡ 0
+line-is true r e = e
+line-is false r e = refl
+
+fields-are : (x y z : Field) → is-end (judged x y z) ≡ 0
+unfolding judged
+fields-are x y z =
+    let broken = oneRefuses (lineNumber BadField) x y z in
+    let large = oneRefuses (lineNumber LargeNumber) x y z in
+    judged-is broken large (fieldValue x) (fieldValue y) (fieldValue z)
+
+pub never-end : (l : List ℕ) → is-end (rowOf l) ≡ 0
+unfolding rowOf lineAs
+never-end l = line-is (isWhole lineBytes l) _ (fields-are _ _ _)

@@ -1,10 +1,16 @@
 -- A list written over another from a position on, element by element and piece by piece.
 --
---   Pasting pasting-none pasting-more pasting-on pasting-all     through a loop that writes one element a turn
---   pasted-length     the buffer keeps its length
---   pasted-start      written from the start
---   pasted-pasted     two pieces, one behind the other, are their join
---   Pieces piece-first piece-more     through calls that write one piece behind the other
+--   Pasting         through a loop that writes one element a turn: its invariant
+--   pasting-none    at its start
+--   pasting-more    after a turn
+--   pasting-on      the same where the next number is told
+--   pasting-all     at its end
+--   pasted-length   the buffer keeps its length
+--   pasted-start    written from the start
+--   pasted-pasted   two pieces, one behind the other, are their join
+--   Pieces          through calls that write one piece behind the other: what stands so far
+--   piece-first     the first piece
+--   piece-more      one more
 -- Assumes nothing.
 use Prim.Native.Nat.{ℕ, _+_, _≤_, _<_}
 use mathlib.Core.Path.{_≡_, refl, sym, ap, subst, _∙_}

@@ -1,13 +1,26 @@
 -- Laws of printing, over plain lists.
 --
---   column-unit column-blank column-digit     a column, by the code's cases
---   above          a number of 16 bits is below 10 ^ 5
---   printed-length printed-at      a printed field, column by column
---   fits-none fits-wide fits-place    whether a number fits, by the code's cases
---   room-short room-left           whether bytes fit, by the code's cases
---   room-for puts-none puts-all field-wide field-fits     the answer of a call that writes
---   line-pieces refused-pieces     a line is its pieces, one behind the other
---   line-length refused-length     how long the lines are
+--   column-unit      a column, by the code's cases: the units
+--   column-blank     a blank
+--   column-digit     a digit
+--   above            a number of 16 bits is below 10 ^ 5
+--   printed-length   a printed field has its width
+--   printed-at       and these columns
+--   fits-none        whether a number fits, by the code's cases: no column
+--   fits-place       by its place value
+--   fits-wide        five columns or more
+--   room-short       whether bytes fit, by the code's cases: the buffer is shorter than they are
+--   room-left        or it is not
+--   room-for         bytes that the test lets pass fit
+--   puts-none        the answer of a call that writes: no room
+--   puts-all         all is written
+--   field-wide       of a call that writes a number: it does not fit
+--   field-fits       it does
+--   line-pieces      a listing's line is its pieces, one behind the other
+--   refused          the word `refused`
+--   refused-pieces   the line of a refusal is its pieces
+--   line-length      how long a listing's line is
+--   refused-length   how long the line of a refusal is
 -- Assumes nothing.
 use Prim.Native.Nat.{ℕ, zero, suc, _+_, _-_, _/_, _%_, _^_, _≤_, _<_}
 use mathlib.Core.Path.{_≡_, refl, sym, ap, _∙_}

@@ -4,8 +4,12 @@
 --   large-back     a number above the limit is Large
 --   wide-back      every number of 16 bits, in 5 columns or more
 --   row-back       a printed line of a table reads back as its row
---   Small AllSmall     rows of numbers of 16 bits
---   table-back days-back firsts-back seconds-back     a table's text reads back as its rows
+--   Small          a row of numbers of 16 bits
+--   AllSmall       rows of such numbers
+--   table-back     a table's text reads back as its rows
+--   days-back      its days
+--   firsts-back    its first accounts
+--   seconds-back   its second accounts
 -- Assumes nothing.
 use Prim.Native.Nat.{ℕ, zero, suc, _+_, _-_, _*_, _/_, _%_, _^_, _≤_, _<_, min}
 use mathlib.Core.Path.{_≡_, refl, sym, ap, _∙_}
@@ -31,7 +35,7 @@ use Rattle.text.specs.declared.lines.Line.the-variants.{Row}
 use Rattle.text.specs.declared.table.TableRead.the-variants.{Rows}
 use Rattle.text.proofs.Tests.{lt-or-le, both-true, pick-true}
 use Rattle.text.proofs.FieldLaws.{unblank-at, unblank-past, digit-yes, numeral-one, numeral-more, number-field, large-field}
-use Rattle.text.proofs.LineLaws.{lines-end, lines-more, prepend-cons}
+use Rattle.text.proofs.SplitLaws.{lines-end, lines-more, prepend-cons}
 use Rattle.text.proofs.PrintLaws.{column-unit, column-blank, column-digit, above, printed-length}
 
 -- the columns of places k - 1 down to 0 are digits, with the value n % 10 ^ k

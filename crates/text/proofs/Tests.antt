@@ -1,11 +1,15 @@
 -- Cases of a test, and of two tests joined.
 --
---   look               a test is true or false
---   lt-or-le           one number is below another, or not
---   and-left and-right both-true     a conjunction and its parts
---   pick-true pick-false   a choice whose test is known
---   negated-true negated-false     a test whose negation is known
---   zero-one           0 is not 1, so anything follows
+--   look            a test is true or false
+--   lt-or-le        one number is below another, or not
+--   and-left        of a conjunction that is true, the first test
+--   and-right       the second
+--   both-true       two tests that are true, joined
+--   pick-true       a choice whose test is true
+--   pick-false      a choice whose test is false
+--   negated-true    a test whose negation is true
+--   negated-false   a test whose negation is false
+--   zero-one        0 is not 1, so anything follows
 -- Assumes nothing.
 use Prim.Native.Nat.{ℕ, _<_, _≤_}
 use mathlib.Core.Path.{_≡_, refl, sym, _∙_}

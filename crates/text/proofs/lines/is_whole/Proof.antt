@@ -5,7 +5,7 @@ use mathlib.Core.Path.{_≡_, sym}
 use native.Mathlib.Omega.{arith}
 use lib.ListN.{length, getD}
 use borrow.Author.Count.{below-none, below-more}
-use Rattle.text.proofs.LineLaws.{short-line, early-end, line-ends}
+use Rattle.text.proofs.SplitLaws.{short-line, early-end, line-ends}
 use Rattle.text.proofs.lines.is_whole.Statement.{statement}
 use Rattle.text.proofs.lines.is_whole.Tie as tie
 

@@ -6,7 +6,7 @@ use native.Mathlib.Omega.{arith}
 use lib.ListN.{length}
 use Rattle.text.specs.Line.{linesOf}
 use Rattle.text.specs.Table.{columns}
-use Rattle.text.proofs.TableLaws.{Writing, writing-none, writing-row, writing-more, writing-all, line-on}
+use Rattle.text.proofs.RowsLaws.{Writing, writing-none, writing-row, writing-more, writing-all, line-on}
 use Rattle.text.proofs.reader.read_line.Reads as read-line
 use Rattle.text.proofs.table.day_of.Reads as day-of
 use Rattle.text.proofs.table.first_of.Reads as first-of
