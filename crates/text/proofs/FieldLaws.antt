@@ -89,7 +89,8 @@ pub digit-between : (b : ℕ) → isDigit b ≡ true → (48 ≤ b) × (b ≤ 57
 unfolding isDigit
 digit-between b e = (leb-true 48 b (and-left (leb 48 b) (leb b 57) e), leb-true b 57 (and-right (leb 48 b) (leb b 57) e))
 
-pub digits-next : (f : List ℕ) (i : ℕ) → i < length f → 48 ≤ getD f i 0 → getD f i 0 ≤ 57 → allDigits (drop i f) ≡ allDigits (drop (i + 1) f)
+pub digits-next : (f : List ℕ) (i : ℕ) → i < length f → 48 ≤ getD f i 0 → getD f i 0 ≤ 57
+    → allDigits (drop i f) ≡ allDigits (drop (i + 1) f)
 digits-next f i h l g = digits-cons f i h ∙ rw (digit-yes (getD f i 0) l g, add-one)
 
 pub digits-low : (f : List ℕ) (i : ℕ) → i < length f → getD f i 0 < 48 → allDigits (drop i f) ≡ false
@@ -150,7 +151,8 @@ pub digit-at : (f : List ℕ) (i : ℕ) → allDigits f ≡ true → i < length 
 digit-at f i e h = digit-between (getD f i 0) (and-left _ _ (sym (digits-cons f i h) ∙ digits-drop f i e))
 
 -- a digit's part of the value, where p is its place value
-pub value-next : (f : List ℕ) (i p : ℕ) → i < length f → p ≡ 10 ^ (length f - 1 - i) → value (drop i f) ≡ (getD f i 0 - 48) * p + value (drop (i + 1) f)
+pub value-next : (f : List ℕ) (i p : ℕ) → i < length f → p ≡ 10 ^ (length f - 1 - i)
+    → value (drop i f) ≡ (getD f i 0 - 48) * p + value (drop (i + 1) f)
 unfolding value
 value-next f i p h q =
     let e : length (drop (suc i) f) ≡ length f - 1 - i = length-drop (suc i) f ∙ omega arith in

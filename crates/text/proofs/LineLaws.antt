@@ -39,7 +39,8 @@ use lib.ListN.{length, getD, take, drop, length-drop}
 use lib.Seq.{take-take, drop-drop, drop-cons, drop-length}
 use Rattle.text.specs.Layout.{bytesOf, tableLayout, lineBytes}
 use Rattle.text.specs.Decimal.{fieldOf, refuses, fieldValue}
-use Rattle.text.specs.Line.{linesOf, firstLine, isWhole, oneRefuses, judged, fieldAt, lineAs, stepAs, stepAt, passed, stepFrom, lineAt, Reached, lineNumber, rowOf}
+use Rattle.text.specs.Line.{linesOf, firstLine, isWhole, oneRefuses, judged, fieldAt, lineAs, stepAs, stepAt, passed, stepFrom}
+use Rattle.text.specs.Line.{lineAt, Reached, lineNumber, rowOf}
 use Rattle.text.specs.declared.layout.Format.{Format}
 use Rattle.text.specs.declared.layout.Layout.{Layout}
 use Rattle.text.specs.declared.lines.Line.{Line}
@@ -118,7 +119,8 @@ part-field f s from q = let w : from + f .width - from ≡ f .width = omega arit
 
 -- the line's answer from the parts that the code takes
 pub step-judged : (y : Layout) (s : List ℕ) {a b c : Field} {r : Line} → 0 < length s → isWhole (bytesOf y) (firstLine s) ≡ true
-    → a ≡ fieldAt (y .first) 0 s → b ≡ fieldAt (y .second) (y .first .width) s → c ≡ fieldAt (y .third) (y .first .width + y .second .width) s
+    → a ≡ fieldAt (y .first) 0 s → b ≡ fieldAt (y .second) (y .first .width) s
+    → c ≡ fieldAt (y .third) (y .first .width + y .second .width) s
     → r ≡ judged a b c → r ≡ stepAs y (linesOf s)
 step-judged y s h e p q t j = j ∙ rw (p, q, t) (sym (step-whole y s h e))
 
@@ -151,7 +153,8 @@ next-lines s ls n e h w q =
     ap linesOf (sym q) ∙ ap (λ (k : ℕ). linesOf (drop k s)) (sym z) ∙ ap (drop 1) (sym (lines-first s p) ∙ e ∙ d)
 
 -- where each line before line n is 18 bytes, the lines from line n on are those of the text from byte 18 n on
-pub lines-from : (text : List ℕ) (n : ℕ) → n ≤ length (linesOf text) → Reached text n → linesOf (drop (lineBytes * n) text) ≡ drop n (linesOf text)
+pub lines-from : (text : List ℕ) (n : ℕ) → n ≤ length (linesOf text) → Reached text n
+    → linesOf (drop (lineBytes * n) text) ≡ drop n (linesOf text)
 lines-from text zero h w = refl
 lines-from text (suc n) h w = go (lines-from text n (omega arith) (record { each = λ i l k. w .each i (omega arith) k }))
   where
@@ -161,7 +164,8 @@ lines-from text (suc n) h w = go (lines-from text n (omega arith) (record { each
         next-lines (drop (lineBytes * n) text) (linesOf text) n e h (w .each n (omega arith) h) next
 
 -- what the line reader finds there is what line n holds
-pub step-from : (text : List ℕ) (n : ℕ) → n ≤ length (linesOf text) → Reached text n → stepAt text n ≡ stepAs tableLayout (drop n (linesOf text))
+pub step-from : (text : List ℕ) (n : ℕ) → n ≤ length (linesOf text) → Reached text n
+    → stepAt text n ≡ stepAs tableLayout (drop n (linesOf text))
 unfolding stepAt
 step-from text n h w = ap (stepAs tableLayout) (lines-from text n h w)
 

@@ -78,7 +78,8 @@ pasted-pasted d at s t h =
     let front : List ℕ = take at d ++ s in
     let rest : List ℕ = drop (at + length s) d in
     let n : length front ≡ at + length s = length-append (take at d) s ∙ ap (λ (k : ℕ). k + length s) (length-take-le at d (omega arith)) in
-    let both : at + length s + length t ≡ at + length (s ++ t) = add-assoc at (length s) (length t) ∙ ap (λ (k : ℕ). at + k) (sym (length-append s t)) in
+    let both : at + length s + length t ≡ at + length (s ++ t) =
+    add-assoc at (length s) (length t) ∙ ap (λ (k : ℕ). at + k) (sym (length-append s t)) in
     let a : take (at + length s) (front ++ rest) ≡ front = take-at front rest (at + length s) n in
     let b : drop (at + length s + length t) (front ++ rest) ≡ drop (at + length (s ++ t)) d =
     sym (drop-drop (length t) (at + length s) (front ++ rest)) ∙ ap (drop (length t)) (drop-at front rest (at + length s) n)

@@ -100,18 +100,19 @@ room-left len at size h =
 pub room-for : (len at size : ℕ) {b : Bool} → b ≡ leb (at + size) len → not b ≡ false → at + size ≤ len
 room-for len at size e t = leb-true (at + size) len (negated-false e t)
 
-module _ (out : List ℕ) (at : ℕ) (bytes : List ℕ) {size : ℕ} {b : Bool} (e : length bytes ≡ size) (q : b ≡ leb (at + size) (length out)) where
-  -- the test, on the bytes themselves
-  tests : b ≡ leb (at + length bytes) (length out)
-  tests = rw (e) q
+module _ (out : List ℕ) (at : ℕ) (bytes : List ℕ) {size : ℕ} {b : Bool} (e : length bytes ≡ size) (q : b ≡ leb (at + size) (length out))
+  where
+    -- the test, on the bytes themselves
+    tests : b ≡ leb (at + length bytes) (length out)
+    tests = rw (e) q
 
-  pub puts-none : not b ≡ true → Puts out at bytes NoRoom out
-  unfolding putOf
-  puts-none t = record { answers = sym (pick-false _ _ _ (negated-true tests t)); holds = refl }
+    pub puts-none : not b ≡ true → Puts out at bytes NoRoom out
+    unfolding putOf
+    puts-none t = record { answers = sym (pick-false _ _ _ (negated-true tests t)); holds = refl }
 
-  pub puts-all : {next : ℕ} {now : List ℕ} → not b ≡ false → WrittenAt out at size bytes next now → Puts out at bytes (Wrote next) now
-  unfolding putOf
-  puts-all t w = record { answers = rw (w .behind, ← e) (sym (pick-true _ _ _ (negated-false tests t))); holds = w .holds }
+    pub puts-all : {next : ℕ} {now : List ℕ} → not b ≡ false → WrittenAt out at size bytes next now → Puts out at bytes (Wrote next) now
+    unfolding putOf
+    puts-all t w = record { answers = rw (w .behind, ← e) (sym (pick-true _ _ _ (negated-false tests t))); holds = w .holds }
 
 module _ (out : List ℕ) (at width n : ℕ) {b : Bool} (e : b ≡ fits width n) where
   pub field-wide : not b ≡ true → PutsField out at width n NoRoom out
@@ -124,26 +125,27 @@ module _ (out : List ℕ) (at width n : ℕ) {b : Bool} (e : b ≡ fits width n)
 
 -- ---- lines, piece by piece
 
-module _ (out : List ℕ) (at : ℕ) {o₁ o₂ o₃ o₄ o₅ : List ℕ} {a b c d r : ℕ} (start end span rows : ℕ) (h : at + entryBytes ≤ length out) where
-  pub line-pieces : WrittenAt out at dayWidth (printed dayWidth start) a o₁
-      → WrittenAt o₁ a dayWidth (printed dayWidth end) b o₂
-      → WrittenAt o₂ b dayWidth (printed dayWidth span) c o₃
-      → WrittenAt o₃ c rowsWidth (printed rowsWidth rows) d o₄
-      → WrittenAt o₄ d 1 (10 ∷ []) r o₅
-      → WrittenAt out at entryBytes (listingLine start end span rows) r o₅
-  unfolding listingLine
-  line-pieces w₁ w₂ w₃ w₄ w₅ =
-      let p₁ : Pieces (printed dayWidth start) out o₁ at a = piece-first _ dayWidth (printed-length dayWidth start) (omega arith) w₁ in
-      let p₂ : Pieces (printed dayWidth start ++ printed dayWidth end) out o₂ at b =
-      piece-more _ dayWidth p₁ (printed-length dayWidth end) (omega (arith, w₁ .behind)) w₂ in
-      let p₃ : Pieces (printed dayWidth start ++ printed dayWidth end ++ printed dayWidth span) out o₃ at c =
-      piece-more _ dayWidth p₂ (printed-length dayWidth span) (omega (arith, w₁ .behind, w₂ .behind)) w₃ in
-      let p₄ : Pieces (printed dayWidth start ++ printed dayWidth end ++ printed dayWidth span ++ printed rowsWidth rows) out o₄ at d =
-      piece-more _ rowsWidth p₃ (printed-length rowsWidth rows) (omega (arith, w₁ .behind, w₂ .behind, w₃ .behind)) w₄ in
-      record {
-        behind = omega (arith, w₁ .behind, w₂ .behind, w₃ .behind, w₄ .behind, w₅ .behind);
-        holds = piece-more _ 1 p₄ refl (omega (arith, w₁ .behind, w₂ .behind, w₃ .behind, w₄ .behind)) w₅ .is;
-      }
+module _ (out : List ℕ) (at : ℕ) {o₁ o₂ o₃ o₄ o₅ : List ℕ} {a b c d r : ℕ} (start end span rows : ℕ) (h : at + entryBytes ≤ length out)
+  where
+    pub line-pieces : WrittenAt out at dayWidth (printed dayWidth start) a o₁
+        → WrittenAt o₁ a dayWidth (printed dayWidth end) b o₂
+        → WrittenAt o₂ b dayWidth (printed dayWidth span) c o₃
+        → WrittenAt o₃ c rowsWidth (printed rowsWidth rows) d o₄
+        → WrittenAt o₄ d 1 (10 ∷ []) r o₅
+        → WrittenAt out at entryBytes (listingLine start end span rows) r o₅
+    unfolding listingLine
+    line-pieces w₁ w₂ w₃ w₄ w₅ =
+        let p₁ : Pieces (printed dayWidth start) out o₁ at a = piece-first _ dayWidth (printed-length dayWidth start) (omega arith) w₁ in
+        let p₂ : Pieces (printed dayWidth start ++ printed dayWidth end) out o₂ at b =
+        piece-more _ dayWidth p₁ (printed-length dayWidth end) (omega (arith, w₁ .behind)) w₂ in
+        let p₃ : Pieces (printed dayWidth start ++ printed dayWidth end ++ printed dayWidth span) out o₃ at c =
+        piece-more _ dayWidth p₂ (printed-length dayWidth span) (omega (arith, w₁ .behind, w₂ .behind)) w₃ in
+        let p₄ : Pieces (printed dayWidth start ++ printed dayWidth end ++ printed dayWidth span ++ printed rowsWidth rows) out o₄ at d =
+        piece-more _ rowsWidth p₃ (printed-length rowsWidth rows) (omega (arith, w₁ .behind, w₂ .behind, w₃ .behind)) w₄ in
+        record {
+          behind = omega (arith, w₁ .behind, w₂ .behind, w₃ .behind, w₄ .behind, w₅ .behind);
+          holds = piece-more _ 1 p₄ refl (omega (arith, w₁ .behind, w₂ .behind, w₃ .behind, w₄ .behind)) w₅ .is;
+        }
 
 abbrev pub refused : List ℕ
 refused = 114 ∷ 101 ∷ 102 ∷ 117 ∷ 115 ∷ 101 ∷ 100 ∷ []

@@ -25,7 +25,8 @@ use lib.ListN.{length, getD, drop, set, length-map, List·getD-map}
 use lib.Seq.{drop-cons, drop-length}
 use Rattle.text.specs.Layout.{tableLayout, lineBytes}
 use Rattle.text.specs.Line.{linesOf, isWhole, lineAs, stepAs, rowOf, stepAt, passed, stepFrom, Reached}
-use Rattle.text.specs.Table.{dayOf, firstOf, secondOf, daysOf, firstsOf, secondsOf, faultOr, judgedFrom, Columns, columns, RowsFit, RowsWritten}
+use Rattle.text.specs.Table.{dayOf, firstOf, secondOf, daysOf, firstsOf, secondsOf, faultOr, judgedFrom, Columns, columns, RowsFit}
+use Rattle.text.specs.Table.{RowsWritten}
 use Rattle.text.specs.declared.lines.Line.{Line}
 use Rattle.text.specs.declared.lines.Line.the-variants as line
 use Rattle.text.specs.declared.lines.Step.{Step}
@@ -178,7 +179,8 @@ module _ {text : List ℕ} {old : Columns} (fit : RowsFit text old) where
       }
 
   -- the reader has stayed: all rows stand
-  pub writing-all : {now : Columns} {i : ℕ} {s : Step} → Writing text old now i → s ≡ stepFrom text i → s .line ≡ i → RowsWritten text old now
+  pub writing-all : {now : Columns} {i : ℕ} {s : Step} → Writing text old now i → s ≡ stepFrom text i → s .line ≡ i
+      → RowsWritten text old now
   writing-all {i = i} w is stayed =
       let all = no-row-left text _ (fit .rows) i (w .days-hold .within) is stayed in
       record {

@@ -21,7 +21,8 @@ use lib.ListN.{length, drop, length-drop}
 use borrow.Author.Tests.{lt-leb, le-leb}
 use Rattle.text.specs.Layout.{tableLayout, lineBytes}
 use Rattle.text.specs.Line.{linesOf, firstLine, isWhole, stepAs, rowOf, stepAt, passed, stepFrom}
-use Rattle.text.specs.Table.{daysOf, firstsOf, secondsOf, faultOr, judgedFrom, roomFor, tableReadOf, filled, Columns, RowsFit, RowsWritten, TableReads}
+use Rattle.text.specs.Table.{daysOf, firstsOf, secondsOf, faultOr, judgedFrom, roomFor, tableReadOf, filled, Columns, RowsFit}
+use Rattle.text.specs.Table.{RowsWritten, TableReads}
 use Rattle.text.specs.declared.lines.Line.{Line}
 use Rattle.text.specs.declared.lines.Line.the-variants as line
 use Rattle.text.specs.declared.lines.Step.{Step}

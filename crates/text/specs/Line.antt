@@ -1,4 +1,5 @@
--- Lines of a text, and what a line holds. 01, Reader: "a line ends with byte 10 or with the text. Each must be 18 bytes: day in 5 columns, accounts in 6 and 6, then byte 10".
+-- Lines of a text, and what a line holds. 01, Reader: "a line ends with byte 10 or with the text. Each must be 18 bytes: day in 5 columns,
+-- accounts in 6 and 6, then byte 10".
 --
 --   prepend      a byte put in front of the first line, or a line of its own where there is none
 --   linesOf      the lines of a text, each with its byte 10

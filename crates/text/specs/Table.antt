@@ -1,4 +1,6 @@
--- What reading a table's text gives. 01, Reader: "The lowest faulty line refuses, 11: not 18 bytes with its end; 12: a broken field, an all-blank one included; 13: a number above 65,535 (12 before 13). Then 10: fewer places than lines in any column. Unused places keep their contents."
+-- What reading a table's text gives. 01, Reader: "The lowest faulty line refuses, 11: not 18 bytes with its end; 12: a broken field, an
+-- all-blank one included; 13: a number above 65,535 (12 before 13). Then 10: fewer places than lines in any column. Unused places keep their
+-- contents."
 --
 --   dayOf firstOf secondOf        the numbers of a row; 0 where there is none
 --   daysOf firstsOf secondsOf     the columns of a text's rows

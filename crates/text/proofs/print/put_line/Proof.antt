@@ -15,7 +15,8 @@ returns : tie.Need-returns
 returns c =
     let tested = c .before in
     let a = tested .before .before .args in
-    puts-none (a .out .now) (a .at) (listingLine (a .start) (a .end) (a .span) (a .rows)) (line-length _ _ _ _) (tested .has-room .ensures) (c .if1 .taken)
+    let bytes = listingLine (a .start) (a .end) (a .span) (a .rows) in
+    puts-none (a .out .now) (a .at) bytes (line-length _ _ _ _) (tested .has-room .ensures) (c .if1 .taken)
 
 write-line-requires : tie.Need-write-line-requires
 write-line-requires c κs =
@@ -33,7 +34,8 @@ returns-2 c =
     let room = wrote .before .before in
     let tested = room .before in
     let a = tested .before .before .args in
-    puts-all (a .out .now) (a .at) (listingLine (a .start) (a .end) (a .span) (a .rows)) (line-length _ _ _ _) (tested .has-room .ensures) (room .if1 .left)
+    let bytes = listingLine (a .start) (a .end) (a .span) (a .rows) in
+    puts-all (a .out .now) (a .at) bytes (line-length _ _ _ _) (tested .has-room .ensures) (room .if1 .left)
     (wrote .write-line .ensures)
 
 pub put-line-spec : {M : Type 1} → statement M

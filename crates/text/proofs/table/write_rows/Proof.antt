@@ -38,7 +38,9 @@ Moved =
     ) reads.Pre reads.Post Inv-loop μ-loop
 
 -- there is a row
-row : (m : Moved) → m .before .before .before .loop .i < length (linesOf (m .before .before .before .before .before .before .before .before .args .text .now))
+row : (m : Moved)
+    → let at-loop = m .before .before .before in
+    at-loop .loop .i < length (linesOf (at-loop .before .before .before .before .before .args .text .now))
 row m =
     let found = m .before .before in
     let at-loop = found .before in
