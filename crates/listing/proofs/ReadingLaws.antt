@@ -24,7 +24,7 @@ use Rattle.text.specs.Table.{dayOf, firstOf, secondOf, daysOf, firstsOf, second
 use Rattle.text.specs.declared.lines.Line.{Line}
 use Rattle.text.specs.declared.lines.QueryRead.{QueryRead}
 use Rattle.text.specs.declared.table.TableRead.{TableRead}
-use Rattle.text.proofs.Tests.{look}
+use Rattle.text.proofs.Tests.{true-or-false}
 use Rattle.text.proofs.LineLaws.{step-none, step-short, whole-fits}
 use Rattle.text.proofs.RowsLaws.{column-length}
 use Rattle.rings.specs.Table.{tableOf as columns}
@@ -154,7 +154,7 @@ unfolding queryOf
 query-fits [] k lo hi e = no-query k lo hi (sym (ap queryFrom (step-none queryLayout [] refl)) ∙ e)
 query-fits (x ∷ xs) k lo hi e =
     ⊎-elim (λ t. whole-fits (x ∷ xs) queryBytes t) (λ t. no-query k lo hi (sym (ap queryFrom (step-short queryLayout (x ∷ xs) (omega arith) t)) ∙ e))
-    (look (isWhole queryBytes (firstLine (x ∷ xs))))
+    (true-or-false (isWhole queryBytes (firstLine (x ∷ xs))))
 
 module _ (input : List ℕ) (short : length input ≤ mostInput) where
   by-query : {r : QueryRead} → r ≡ queryOf input → outcome input ≡ fromQuery r (drop queryBytes input)

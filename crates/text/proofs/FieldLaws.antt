@@ -35,7 +35,7 @@
 -- Assumes nothing.
 use Prim.Native.Nat.{ℕ, zero, suc, _+_, _-_, _*_, _^_, _≤_, _<_}
 use mathlib.Core.Path.{_≡_, refl, sym, ap, _∙_}
-use mathlib.Core.Bool.{Bool, true, false, cond, _&&_, true≢false}
+use mathlib.Core.Bool.{true, false, cond, _&&_, true≢false}
 use mathlib.Core.Logic.{_≢_}
 use mathlib.Core.List.{List, [], _∷_}
 use native.Mathlib.Nat.{pow-succ', pow-le-pow-right, mul-le-mul-right, le-of-eq, lt-of-lt-of-le, not-suc-le-zero, le-of-suc-le-suc}
@@ -49,7 +49,7 @@ use borrow.Author.Tests.{leb-true, eq-eqb, ne-eqb, le-leb, lt-leb, lt-ltb}
 use Rattle.text.specs.Layout.{mostDigits}
 use Rattle.text.specs.Decimal.{unblank, isDigit, allDigits, leadsWell, isNumeral, value, numeralOf, fieldOf, FewDigits}
 use Rattle.text.specs.declared.decimal.Field.the-variants.{Number, Large, Broken}
-use Rattle.text.proofs.Tests.{and-left, and-right, pick-true, pick-false}
+use Rattle.text.proofs.Tests.{and-left, and-right, and-false, pick-true, pick-false}
 
 -- ---- blanks
 
@@ -96,10 +96,6 @@ digits-next f i h l g = digits-cons f i h ∙ rw (digit-yes (getD f i 0) l g, ad
 pub digits-low : (f : List ℕ) (i : ℕ) → i < length f → getD f i 0 < 48 → allDigits (drop i f) ≡ false
 unfolding isDigit
 digits-low f i h l = digits-cons f i h ∙ rw (lt-leb 48 (getD f i 0) l)
-
-and-false : (a : Bool) → (a && false) ≡ false
-and-false true = refl
-and-false false = refl
 
 pub digits-high : (f : List ℕ) (i : ℕ) → i < length f → 57 < getD f i 0 → allDigits (drop i f) ≡ false
 unfolding isDigit
@@ -166,8 +162,8 @@ value-end f i e = rw (e, drop-length f)
 pub value-few : {f : List ℕ} → FewDigits f → value f < 10 ^ mostDigits
 value-few {f} d = lt-of-lt-of-le (value-below f (d .digits)) (pow-le-pow-right (lit< tt) (d .few))
 
-leads : (ds : List ℕ) → isNumeral ds ≡ true → 1 < length ds → getD ds 0 0 ≡ 48 → ⊥
-leads ds e h z = true≢false (sym e ∙ numeral-zero ds h z)
+first-not-zero : (ds : List ℕ) → isNumeral ds ≡ true → 1 < length ds → getD ds 0 0 ≡ 48 → ⊥
+first-not-zero ds e h z = true≢false (sym e ∙ numeral-zero ds h z)
 
 -- a numeral of more than k digits is at least 10 ^ k
 pub numeral-above : (ds : List ℕ) (k : ℕ) → isNumeral ds ≡ true → 0 < k → k < length ds → 10 ^ k ≤ value ds
@@ -176,7 +172,7 @@ numeral-above [] k e p h = absurd (not-suc-le-zero h)
 numeral-above (b ∷ bs) k e p h =
     let l : 1 < length (b ∷ bs) = omega arith in
     let d : (48 ≤ b) × (b ≤ 57) = digit-at (b ∷ bs) 0 (numeral-digits (b ∷ bs) e) (omega arith) in
-    let n : b ≢ 48 = leads (b ∷ bs) e l in
+    let n : b ≢ 48 = first-not-zero (b ∷ bs) e l in
     let o : 1 ≤ b - 48 = omega arith in
     let m : 10 ^ k ≤ 10 ^ length bs = pow-le-pow-right (lit< tt) (le-of-suc-le-suc h) in
     omega (arith, mul-le-mul-right (10 ^ length bs) o)

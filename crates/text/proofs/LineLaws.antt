@@ -39,7 +39,7 @@ use lib.ListN.{length, getD, take, drop, length-drop}
 use lib.Seq.{take-take, drop-drop, drop-cons, drop-length}
 use Rattle.text.specs.Layout.{bytesOf, tableLayout, lineBytes}
 use Rattle.text.specs.Decimal.{fieldOf, refuses, fieldValue}
-use Rattle.text.specs.Line.{linesOf, firstLine, isWhole, oneRefuses, judged, fieldAt, lineAs, stepAs, stepAt, passed, stepFrom}
+use Rattle.text.specs.Line.{linesOf, firstLine, isWhole, anyRefuses, judged, fieldAt, lineAs, stepAs, stepAt, passed, stepFrom}
 use Rattle.text.specs.Line.{lineAt, Reached, lineNumber, rowOf}
 use Rattle.text.specs.declared.layout.Format.{Format}
 use Rattle.text.specs.declared.layout.Layout.{Layout}
@@ -48,7 +48,7 @@ use Rattle.text.specs.declared.lines.Line.the-variants.{Row, End, BadLen
 use Rattle.text.specs.declared.lines.Step.{Step}
 use Rattle.text.specs.declared.decimal.Field.{Field}
 use Rattle.text.proofs.FieldLaws.{tail, tail-is}
-use Rattle.text.proofs.Tests.{look, lt-or-le, pick-true, pick-false}
+use Rattle.text.proofs.Tests.{true-or-false, lt-or-le, pick-true, pick-false}
 use Rattle.text.proofs.SplitLaws.{first-length, lines-first, whole-size, whole-first}
 
 -- ---- fields of the first line
@@ -62,13 +62,13 @@ part-of (suc a) b (suc n) (x ∷ s) h = part-of a b n s (omega arith)
 -- ---- one of three fields is refused, by the first that is
 
 module _ (number : ℕ) (x y z : Field) where
-  pub first-refuses : refuses number x ≡ true → true ≡ oneRefuses number x y z
+  pub first-refuses : refuses number x ≡ true → true ≡ anyRefuses number x y z
   first-refuses p = rw p
 
-  pub second-refuses : refuses number x ≡ false → refuses number y ≡ true → true ≡ oneRefuses number x y z
+  pub second-refuses : refuses number x ≡ false → refuses number y ≡ true → true ≡ anyRefuses number x y z
   second-refuses p q = rw (p, q)
 
-  pub third-decides : refuses number x ≡ false → refuses number y ≡ false → refuses number z ≡ oneRefuses number x y z
+  pub third-decides : refuses number x ≡ false → refuses number y ≡ false → refuses number z ≡ anyRefuses number x y z
   third-decides p q = rw (p, q)
 
 -- ---- what the first line holds
@@ -207,7 +207,7 @@ passed-most LargeNumber = omega arith
 passed-whole : (l : List ℕ) → 0 < passed (lineAs tableLayout l) → isWhole lineBytes l ≡ true
 unfolding lineAs
 passed-whole l h =
-    ⊎-elim (λ t. t) (λ t. absurd (none (pick-false _ _ _ t))) (look (isWhole lineBytes l))
+    ⊎-elim (λ t. t) (λ t. absurd (none (pick-false _ _ _ t))) (true-or-false (isWhole lineBytes l))
   where
     none : lineAs tableLayout l ≡ BadLength → ⊥
     none e = omega (arith, ap passed e)
@@ -234,7 +234,7 @@ pub passed-fits : (s : List ℕ) → lineBytes * passed (stepAs tableLayout (lin
 passed-fits [] = omega (arith, ap passed (step-none tableLayout [] refl))
 passed-fits (x ∷ xs) =
     ⊎-elim (λ t. omega (arith, whole-fits (x ∷ xs) lineBytes t, passed-most (stepAs tableLayout (linesOf (x ∷ xs)))))
-    (λ t. omega (arith, ap passed (step-short tableLayout (x ∷ xs) (omega arith) t))) (look (isWhole lineBytes (firstLine (x ∷ xs))))
+    (λ t. omega (arith, ap passed (step-short tableLayout (x ∷ xs) (omega arith) t))) (true-or-false (isWhole lineBytes (firstLine (x ∷ xs))))
 
 pub step-fits : (text : List ℕ) (n m : ℕ) → n < m → length text < m → n + passed (stepAt text n) < m
 unfolding stepAt
@@ -276,8 +276,8 @@ line-is false r e = refl
 fields-are : (x y z : Field) → is-end (judged x y z) ≡ 0
 unfolding judged
 fields-are x y z =
-    let broken = oneRefuses (lineNumber BadField) x y z in
-    let large = oneRefuses (lineNumber LargeNumber) x y z in
+    let broken = anyRefuses (lineNumber BadField) x y z in
+    let large = anyRefuses (lineNumber LargeNumber) x y z in
     judged-is broken large (fieldValue x) (fieldValue y) (fieldValue z)
 
 pub never-end : (l : List ℕ) → is-end (rowOf l) ≡ 0

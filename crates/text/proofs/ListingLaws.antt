@@ -1,9 +1,9 @@
 -- A listing's text, line by line: what a caller's loop over `put_line` carries.
 --
---   lineOf            an entry's line
---   listing-more      one entry more is one line more
---   listing-length    22 bytes for the header and for each entry
---   listing-paste     the next line, written behind the text so far, makes the longer text
+--   lineOf           an entry's line
+--   listing-more     one entry more is one line more
+--   listing-length   22 bytes for the header and for each entry
+--   listing-paste    the next line, written behind the text so far, makes the longer text
 -- Assumes nothing.
 use Prim.Native.Nat.{ℕ, _+_, _*_, _≤_}
 use mathlib.Core.Path.{_≡_, refl, sym, ap, _∙_}

@@ -3,7 +3,7 @@
 --   column-unit      a column, by the code's cases: the units
 --   column-blank     a blank
 --   column-digit     a digit
---   above            a number of 16 bits is below 10 ^ 5
+--   below-power      a number of 16 bits is below 10 ^ 5
 --   printed-length   a printed field has its width
 --   printed-at       and these columns
 --   fits-none        whether a number fits, by the code's cases: no column
@@ -24,7 +24,7 @@
 -- Assumes nothing.
 use Prim.Native.Nat.{ℕ, zero, suc, _+_, _-_, _/_, _%_, _^_, _≤_, _<_}
 use mathlib.Core.Path.{_≡_, refl, sym, ap, _∙_}
-use mathlib.Core.Bool.{Bool, true, false, not, _&&_}
+use mathlib.Core.Bool.{Bool, true, false, not}
 use mathlib.Core.Logic.{⊎-elim}
 use mathlib.Core.List.{List, [], _∷_, _++_}
 use native.Mathlib.Nat.{div-one, pow-le-pow-right, not-suc-le-zero, le-of-suc-le-suc}
@@ -36,7 +36,7 @@ use Rattle.text.specs.Layout.{mostDigits, dayWidth, rowsWidth, numberWid
 use Rattle.text.specs.Print.{columnOf, printed, fits, putOf, fieldPut, listingLine, refusedLine, WrittenAt, Puts, PutsField}
 use Rattle.text.specs.declared.print.Put.{Put}
 use Rattle.text.specs.declared.print.Put.the-variants.{Wrote, NoRoom}
-use Rattle.text.proofs.Tests.{look, pick-true, pick-false, negated-true, negated-false}
+use Rattle.text.proofs.Tests.{true-or-false, and-false, pick-true, pick-false, negated-true, negated-false}
 use Rattle.text.proofs.PasteLaws.{Pieces, piece-first, piece-more}
 
 -- ---- columns
@@ -49,17 +49,13 @@ pub column-blank : (k n : ℕ) → 0 < k → n < 10 ^ k → columnOf k n ≡ 32
 unfolding columnOf
 column-blank k n p h = rw (lt-ltb 0 k p, lt-ltb n (10 ^ k) h)
 
-and-false : (a : Bool) → (a && false) ≡ false
-and-false true = refl
-and-false false = refl
-
 pub column-digit : (k n : ℕ) → 10 ^ k ≤ n → columnOf k n ≡ 48 + n / 10 ^ k % 10
 unfolding columnOf
 column-digit k n h = rw (le-ltb n (10 ^ k) h, and-false (ltb 0 k))
 
 -- a number of 16 bits has no digit at place 5 or above
-pub above : (k n : ℕ) → mostDigits ≤ k → n < 2 ^ 16 → n < 10 ^ k
-above k n h l = let m : 10 ^ mostDigits ≤ 10 ^ k = pow-le-pow-right (lit< tt) h in omega arith
+pub below-power : (k n : ℕ) → mostDigits ≤ k → n < 2 ^ 16 → n < 10 ^ k
+below-power k n h l = let m : 10 ^ mostDigits ≤ 10 ^ k = pow-le-pow-right (lit< tt) h in omega arith
 
 -- ---- printed fields
 
@@ -85,7 +81,7 @@ unfolding fits
 fits-place width n h = rw (lt-ltb 0 width h)
 
 pub fits-wide : (width n : ℕ) → mostDigits ≤ width → n < 2 ^ 16 → fits width n ≡ true
-fits-wide width n h l = fits-place width n (omega arith) ∙ lt-ltb n (10 ^ width) (above width n h l)
+fits-wide width n h l = fits-place width n (omega arith) ∙ lt-ltb n (10 ^ width) (below-power width n h l)
 
 pub room-short : (len at size : ℕ) → len < size → leb (at + size) len ≡ false
 room-short len at size h = lt-leb (at + size) len (omega arith)
@@ -93,7 +89,7 @@ room-short len at size h = lt-leb (at + size) len (omega arith)
 pub room-left : (len at size : ℕ) → size ≤ len → leb (at + size) len ≡ leb at (len - size)
 room-left len at size h =
     ⊎-elim (λ t. le-leb (at + size) len (omega (arith, leb-true at (len - size) t)) ∙ sym t)
-    (λ t. lt-leb (at + size) len (omega (arith, leb-false at (len - size) t)) ∙ sym t) (look (leb at (len - size)))
+    (λ t. lt-leb (at + size) len (omega (arith, leb-false at (len - size) t)) ∙ sym t) (true-or-false (leb at (len - size)))
 
 -- ---- the answer of a call that writes
 

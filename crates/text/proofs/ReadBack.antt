@@ -36,7 +36,7 @@ use Rattle.text.specs.declared.table.TableRead.the-variants.{Rows}
 use Rattle.text.proofs.Tests.{lt-or-le, both-true, pick-true}
 use Rattle.text.proofs.FieldLaws.{unblank-at, unblank-past, digit-yes, numeral-one, numeral-more, number-field, large-field}
 use Rattle.text.proofs.SplitLaws.{lines-end, lines-more, prepend-cons}
-use Rattle.text.proofs.PrintLaws.{column-unit, column-blank, column-digit, above, printed-length}
+use Rattle.text.proofs.PrintLaws.{column-unit, column-blank, column-digit, below-power, printed-length}
 
 -- the columns of places k - 1 down to 0 are digits, with the value n % 10 ^ k
 record Digits (k n : ℕ) : Type 0 where
@@ -128,7 +128,7 @@ module _ (limit w n : ℕ) (p : 0 < w) (h : n < 10 ^ w) where
 
 -- a number of 16 bits fits 5 columns and more
 pub wide-back : (w n : ℕ) → mostDigits ≤ w → n < 2 ^ 16 → fieldOf largest (printed w n) ≡ Number n
-wide-back w n p h = field-back largest w n (omega arith) (above w n p h) (omega arith)
+wide-back w n p h = field-back largest w n (omega arith) (below-power w n p h) (omega arith)
 
 -- ---- a line of a table
 
@@ -175,25 +175,25 @@ row-back day first second p q r =
 -- ---- a whole table
 
 -- no byte ends a line
-abbrev Inner : List ℕ → Type 0
-Inner [] = Unit {0}
-Inner (b ∷ bs) = (b ≡ 10 → ⊥) × Inner bs
+abbrev NoLineEnd : List ℕ → Type 0
+NoLineEnd [] = Unit {0}
+NoLineEnd (b ∷ bs) = (b ≡ 10 → ⊥) × NoLineEnd bs
 
-inner-append : (p q : List ℕ) → Inner p → Inner q → Inner (p ++ q)
-inner-append [] q i j = j
-inner-append (b ∷ p) q i j = (i .0, inner-append p q (i .1) j)
+no-end-append : (p q : List ℕ) → NoLineEnd p → NoLineEnd q → NoLineEnd (p ++ q)
+no-end-append [] q i j = j
+no-end-append (b ∷ p) q i j = (i .0, no-end-append p q (i .1) j)
 
-column-inner : (blank : Bool) (d : ℕ) → cond blank 32 (48 + d) ≡ 10 → ⊥
-column-inner true d e = omega arith
-column-inner false d e = omega arith
+column-no-end : (blank : Bool) (d : ℕ) → cond blank 32 (48 + d) ≡ 10 → ⊥
+column-no-end true d e = omega arith
+column-no-end false d e = omega arith
 
-printed-inner : (k n : ℕ) → Inner (printed k n)
+printed-no-end : (k n : ℕ) → NoLineEnd (printed k n)
 unfolding printed columnOf
-printed-inner zero n = tt
-printed-inner (suc k) n = (column-inner (ltb 0 k && ltb n (10 ^ k)) (n / 10 ^ k % 10), printed-inner k n)
+printed-no-end zero n = tt
+printed-no-end (suc k) n = (column-no-end (ltb 0 k && ltb n (10 ^ k)) (n / 10 ^ k % 10), printed-no-end k n)
 
 -- a line with its end, in front of more text
-lines-behind : (p rest : List ℕ) → Inner p → linesOf (p ++ 10 ∷ rest) ≡ (p ++ 10 ∷ []) ∷ linesOf rest
+lines-behind : (p rest : List ℕ) → NoLineEnd p → linesOf (p ++ 10 ∷ rest) ≡ (p ++ 10 ∷ []) ∷ linesOf rest
 lines-behind [] rest i = lines-end 10 rest refl
 lines-behind (b ∷ p) rest i =
     lines-more b (p ++ 10 ∷ rest) (i .0) ∙ ap (prepend b) (lines-behind p rest (i .1)) ∙ prepend-cons b (p ++ 10 ∷ []) (linesOf rest)
@@ -205,8 +205,8 @@ row-lines day first second rest =
     let d : List ℕ = printed dayWidth day in
     let f : List ℕ = printed accountWidth first in
     let s : List ℕ = printed accountWidth second in
-    let i : Inner (d ++ f) = inner-append d f (printed-inner dayWidth day) (printed-inner accountWidth first) in
-    let j : Inner (d ++ f ++ s) = inner-append (d ++ f) s i (printed-inner accountWidth second) in
+    let i : NoLineEnd (d ++ f) = no-end-append d f (printed-no-end dayWidth day) (printed-no-end accountWidth first) in
+    let j : NoLineEnd (d ++ f ++ s) = no-end-append (d ++ f) s i (printed-no-end accountWidth second) in
     ap linesOf (append-assoc (d ++ f ++ s) (10 ∷ []) rest) ∙ lines-behind (d ++ f ++ s) rest j
 
 -- each number is one of 16 bits

@@ -32,31 +32,31 @@ use Rattle.text.specs.declared.lines.Line.the-variants as line
 use Rattle.text.specs.declared.lines.Step.{Step}
 use Rattle.text.specs.declared.table.TableRead.{TableRead}
 use Rattle.text.specs.declared.table.TableRead.the-variants.{Rows, LineLength}
-use Rattle.text.proofs.Tests.{look, pick-false, zero-one, lt-or-le}
+use Rattle.text.proofs.Tests.{true-or-false, pick-false, zero-not-one, lt-or-le}
 use Rattle.text.proofs.LineLaws.{step-from, step-found, step-line, is-end, never-end}
 use Rattle.text.proofs.PasteLaws.{Pasting, pasting-none, pasting-on, pasting-all, pasted-start}
 
 -- ---- a text of rows alone
 
 no-rows : {A : Type 0} (n c : ℕ) → LineLength n ≡ Rows c → A
-no-rows n c e = zero-one (cc)
+no-rows n c e = zero-not-one (cc)
 
-passes : (n c : ℕ) (r : Line) (later : TableRead) → faultOr n r later ≡ Rows c → later ≡ Rows c
-passes n c (line.Row d a b) later e = e
-passes n c line.End later e = e
-passes n c line.BadLength later e = no-rows n c e
-passes n c line.BadField later e = zero-one (cc)
-passes n c line.LargeNumber later e = zero-one (cc)
+rest-rows : (n c : ℕ) (r : Line) (later : TableRead) → faultOr n r later ≡ Rows c → later ≡ Rows c
+rest-rows n c (line.Row d a b) later e = e
+rest-rows n c line.End later e = e
+rest-rows n c line.BadLength later e = no-rows n c e
+rest-rows n c line.BadField later e = zero-not-one (cc)
+rest-rows n c line.LargeNumber later e = zero-not-one (cc)
 
 row-whole : (n c : ℕ) (l : List ℕ) (later : TableRead) → faultOr n (rowOf l) later ≡ Rows c → isWhole lineBytes l ≡ true
 unfolding rowOf lineAs
 row-whole n c l later e =
-    ⊎-elim (λ t. t) (λ t. no-rows n c (ap (λ (x : Line). faultOr n x later) (sym (pick-false _ _ _ t)) ∙ e)) (look (isWhole lineBytes l))
+    ⊎-elim (λ t. t) (λ t. no-rows n c (ap (λ (x : Line). faultOr n x later) (sym (pick-false _ _ _ t)) ∙ e)) (true-or-false (isWhole lineBytes l))
 
 pub rows-count : (n c : ℕ) (ls : List (List ℕ)) → judgedFrom n ls ≡ Rows c → c ≡ n + length ls
 unfolding judgedFrom
 rows-count n c [] e = let q : n ≡ c = cc in omega arith
-rows-count n c (l ∷ ls) e = omega (arith, rows-count (n + 1) c ls (passes (n + 1) c (rowOf l) (judgedFrom (n + 1) ls) e))
+rows-count n c (l ∷ ls) e = omega (arith, rows-count (n + 1) c ls (rest-rows (n + 1) c (rowOf l) (judgedFrom (n + 1) ls) e))
 
 pub all-rows : (c : ℕ) (ls : List (List ℕ)) → judgedFrom 0 ls ≡ Rows c → c ≡ length ls
 all-rows c ls e = omega (arith, rows-count 0 c ls e)
@@ -67,21 +67,21 @@ unfolding judgedFrom
 rows-whole n c [] e i h = absurd (not-suc-le-zero h)
 rows-whole n c (l ∷ ls) e zero h = row-whole (n + 1) c l (judgedFrom (n + 1) ls) e
 rows-whole n c (l ∷ ls) e (suc i) h =
-    rows-whole (n + 1) c ls (passes (n + 1) c (rowOf l) (judgedFrom (n + 1) ls) e) i (le-of-suc-le-suc h)
+    rows-whole (n + 1) c ls (rest-rows (n + 1) c (rowOf l) (judgedFrom (n + 1) ls) e) i (le-of-suc-le-suc h)
 
 row-passed : (n c : ℕ) (r : Line) (later : TableRead) → is-end r ≡ 0 → faultOr n r later ≡ Rows c → passed r ≡ 1
 row-passed n c (line.Row d a b) later z e = refl
 row-passed n c line.End later z e = sym z
 row-passed n c line.BadLength later z e = no-rows n c e
-row-passed n c line.BadField later z e = zero-one (cc)
-row-passed n c line.LargeNumber later z e = zero-one (cc)
+row-passed n c line.BadField later z e = zero-not-one (cc)
+row-passed n c line.LargeNumber later z e = zero-not-one (cc)
 
 rows-passed : (n c : ℕ) (ls : List (List ℕ)) → judgedFrom n ls ≡ Rows c → (i : ℕ) → i < length ls → passed (rowOf (getD ls i [])) ≡ 1
 unfolding judgedFrom
 rows-passed n c [] e i h = absurd (not-suc-le-zero h)
 rows-passed n c (l ∷ ls) e zero h = row-passed (n + 1) c (rowOf l) (judgedFrom (n + 1) ls) (never-end l) e
 rows-passed n c (l ∷ ls) e (suc i) h =
-    rows-passed (n + 1) c ls (passes (n + 1) c (rowOf l) (judgedFrom (n + 1) ls) e) i (le-of-suc-le-suc h)
+    rows-passed (n + 1) c ls (rest-rows (n + 1) c (rowOf l) (judgedFrom (n + 1) ls) e) i (le-of-suc-le-suc h)
 
 no-bytes : rowOf [] ≡ line.BadLength
 unfolding rowOf lineAs isWhole

@@ -12,7 +12,7 @@
 --   lines-first    a text is its first line and the lines behind it
 --   short-line     the test for a whole line, by the code's cases: too few bytes
 --   early-end      a byte 10 before the end
---   open-line      no byte 10 at the end
+--   unended-line   no byte 10 at the end
 --   whole-line     byte 10 at the end alone
 --   line-ends      the byte at the end decides
 --   whole-size     a whole line has its size
@@ -30,7 +30,7 @@ use lib.ListN.{length, getD, take, drop}
 use lib.Seq.{length-take-le, getD-take}
 use borrow.Author.Tests.{eq-eqb, ne-eqb, eqb-true, eqb-false}
 use Rattle.text.specs.Line.{prepend, linesOf, firstLine, isWhole}
-use Rattle.text.proofs.Tests.{look, and-left, both-true, pick-true, pick-false}
+use Rattle.text.proofs.Tests.{true-or-false, and-left, both-true, pick-true, pick-false}
 
 -- ---- the first line
 
@@ -58,29 +58,29 @@ unfolding firstLine
 first-more b bs e = rw (lines-more b bs e) (prepend-first b (linesOf bs))
 
 -- a byte is the line's end or it is not
-ends : (b : ℕ) → (b ≡ 10) ⊎ (b ≡ 10 → ⊥)
-ends b = ⊎-elim (λ t. inl (eqb-true b 10 t)) (λ t. inr (eqb-false b 10 t)) (look (eqb b 10))
+line-end-or-not : (b : ℕ) → (b ≡ 10) ⊎ (b ≡ 10 → ⊥)
+line-end-or-not b = ⊎-elim (λ t. inl (eqb-true b 10 t)) (λ t. inr (eqb-false b 10 t)) (true-or-false (eqb b 10))
 
 pub first-length : (s : List ℕ) → length (firstLine s) ≤ length s
 unfolding firstLine linesOf
 first-length [] = le-refl 0
 first-length (b ∷ bs) =
     ⊎-elim (λ e. rw (first-end b bs e) (omega arith))
-    (λ e. rw (first-more b bs e) (suc-le-suc (first-length bs))) (ends b)
+    (λ e. rw (first-more b bs e) (suc-le-suc (first-length bs))) (line-end-or-not b)
 
 pub first-ends : (s : List ℕ) (i : ℕ) → i < length s → getD s i 0 ≡ 10 → length (firstLine s) ≤ suc i
 first-ends [] i h e = absurd (not-suc-le-zero h)
 first-ends (b ∷ bs) zero h e = rw (first-end b bs e) (le-refl 1)
 first-ends (b ∷ bs) (suc i) h e =
     ⊎-elim (λ t. rw (first-end b bs t) (omega arith))
-    (λ t. rw (first-more b bs t) (suc-le-suc (first-ends bs i (le-of-suc-le-suc h) e))) (ends b)
+    (λ t. rw (first-more b bs t) (suc-le-suc (first-ends bs i (le-of-suc-le-suc h) e))) (line-end-or-not b)
 
 -- the first line is the text's first bytes
 pub first-part : (s : List ℕ) → firstLine s ≡ take (length (firstLine s)) s
 unfolding firstLine linesOf
 first-part [] = refl
 first-part (b ∷ bs) =
-    ⊎-elim (λ e. rw (first-end b bs e)) (λ e. rw (first-more b bs e) (ap (λ (l : List ℕ). b ∷ l) (first-part bs))) (ends b)
+    ⊎-elim (λ e. rw (first-end b bs e)) (λ e. rw (first-more b bs e) (ap (λ (l : List ℕ). b ∷ l) (first-part bs))) (line-end-or-not b)
 
 pub first-take : (s : List ℕ) (k : ℕ) → k < length s → ((i : ℕ) → i < k → getD s i 0 ≡ 10 → ⊥) → getD s k 0 ≡ 10
     → firstLine s ≡ take (suc k) s
@@ -96,7 +96,7 @@ prepend-cons b l ls = refl
 
 lines-one : (b : ℕ) → linesOf (b ∷ []) ≡ (b ∷ []) ∷ []
 unfolding linesOf prepend
-lines-one b = ⊎-elim (λ e. lines-end b [] e) (λ e. lines-more b [] e) (ends b)
+lines-one b = ⊎-elim (λ e. lines-end b [] e) (λ e. lines-more b [] e) (line-end-or-not b)
 
 -- a text is its first line and the lines behind it
 abbrev Split : List ℕ → Type 0
@@ -111,7 +111,7 @@ lines-first (b ∷ d ∷ bs) h = go (lines-first (d ∷ bs) (omega arith))
     go : Split (d ∷ bs) → Split (b ∷ d ∷ bs)
     go ih =
         ⊎-elim (λ e. rw (first-end b (d ∷ bs) e) (lines-end b (d ∷ bs) e))
-        (λ e. rw (first-more b (d ∷ bs) e) (lines-more b (d ∷ bs) e ∙ ap (prepend b) ih ∙ prepend-cons b _ _)) (ends b)
+        (λ e. rw (first-more b (d ∷ bs) e) (lines-more b (d ∷ bs) e ∙ ap (prepend b) ih ∙ prepend-cons b _ _)) (line-end-or-not b)
 
 -- ---- the test for a whole line
 
@@ -125,14 +125,14 @@ short-line s n h = whole-no-size n (firstLine s) (λ e. omega (arith, first-leng
 pub early-end : (s : List ℕ) (n i : ℕ) → i < n - 1 → n ≤ length s → getD s i 0 ≡ 10 → isWhole n (firstLine s) ≡ false
 early-end s n i h l e = whole-no-size n (firstLine s) (λ q. omega (arith, first-ends s i (omega arith) e))
 
-and-false : (a b : Bool) → (a ≡ true → b ≡ false) → (a && b) ≡ false
-and-false true b h = h refl
-and-false false b h = refl
+and-not : (a b : Bool) → (a ≡ true → b ≡ false) → (a && b) ≡ false
+and-not true b h = h refl
+and-not false b h = refl
 
-pub open-line : (s : List ℕ) (n : ℕ) → 0 < n → n ≤ length s → (getD s (n - 1) 0 ≡ 10 → ⊥) → isWhole n (firstLine s) ≡ false
+pub unended-line : (s : List ℕ) (n : ℕ) → 0 < n → n ≤ length s → (getD s (n - 1) 0 ≡ 10 → ⊥) → isWhole n (firstLine s) ≡ false
 unfolding isWhole
-open-line s n p l h =
-    and-false (eqb (length (firstLine s)) n) (eqb (getD (firstLine s) (n - 1) 0) 10)
+unended-line s n p l h =
+    and-not (eqb (length (firstLine s)) n) (eqb (getD (firstLine s) (n - 1) 0) 10)
     (λ t. ne-eqb _ _ (λ e. h (sym (same (eqb-true _ _ t)) ∙ e)))
   where
     same : length (firstLine s) ≡ n → getD (firstLine s) (n - 1) 0 ≡ getD s (n - 1) 0
@@ -153,7 +153,7 @@ pub line-ends : (s : List ℕ) (n i : ℕ) → 0 < n → n ≤ length s → n - 
     → isWhole n (firstLine s) ≡ eqb (getD s (n - 1) 0) 10
 line-ends s n i p l m h =
     ⊎-elim (λ e. whole-line s n p l (λ k q. h k (omega arith)) e ∙ sym (eq-eqb _ _ e))
-    (λ e. open-line s n p l e ∙ sym (ne-eqb _ _ e)) (ends (getD s (n - 1) 0))
+    (λ e. unended-line s n p l e ∙ sym (ne-eqb _ _ e)) (line-end-or-not (getD s (n - 1) 0))
 
 pub whole-size : (n : ℕ) (l : List ℕ) → isWhole n l ≡ true → length l ≡ n
 unfolding isWhole

@@ -28,7 +28,7 @@ use Rattle.text.specs.declared.lines.Line.the-variants as line
 use Rattle.text.specs.declared.lines.Step.{Step}
 use Rattle.text.specs.declared.table.TableRead.{TableRead}
 use Rattle.text.specs.declared.table.TableRead.the-variants.{Rows, Room}
-use Rattle.text.proofs.Tests.{look, pick-true, pick-false, zero-one}
+use Rattle.text.proofs.Tests.{true-or-false, pick-true, pick-false, zero-not-one}
 use Rattle.text.proofs.LineLaws.{next-start, step-none, step-short, whole-fits, step-found, step-line, is-end, never-end}
 use Rattle.text.proofs.SplitLaws.{lines-first, whole-size}
 use Rattle.text.proofs.RowsLaws.{all-rows}
@@ -38,13 +38,13 @@ use Rattle.text.proofs.RowsLaws.{all-rows}
 fault-at : (n : ℕ) (ls : List (List ℕ)) (r : Line) → stepAs tableLayout ls ≡ r → is-end r ≡ 0
     → judgedFrom n ls ≡ faultOr (n + 1) r (judgedFrom (n + 1) (drop 1 ls))
 unfolding stepAs judgedFrom rowOf
-fault-at n [] r e z = zero-one (sym (ap is-end e ∙ z))
+fault-at n [] r e z = zero-not-one (sym (ap is-end e ∙ z))
 fault-at n (l ∷ ls) r e z = ap (λ (x : Line). faultOr (n + 1) x (judgedFrom (n + 1) ls)) e
 
 fault-none : (n : ℕ) (ls : List (List ℕ)) → stepAs tableLayout ls ≡ line.End → judgedFrom n ls ≡ Rows n
 unfolding stepAs judgedFrom rowOf
 fault-none n [] e = refl
-fault-none n (l ∷ ls) e = zero-one (sym (never-end l) ∙ ap is-end e)
+fault-none n (l ∷ ls) e = zero-not-one (sym (never-end l) ∙ ap is-end e)
 
 -- the first line is 18 bytes, and the other lines start behind it
 pub record FirstWhole (s : List ℕ) : Type 0 where
@@ -60,16 +60,16 @@ whole-step s e =
     }
 
 no-row : {A : Type 0} (d a b : ℕ) → line.BadLength ≡ line.Row d a b → A
-no-row d a b e = zero-one (cc)
+no-row d a b e = zero-not-one (cc)
 
 no-end-row : {A : Type 0} (d a b : ℕ) → line.End ≡ line.Row d a b → A
-no-end-row d a b e = zero-one (cc)
+no-end-row d a b e = zero-not-one (cc)
 
 row-step : (s : List ℕ) (d a b : ℕ) → stepAs tableLayout (linesOf s) ≡ line.Row d a b → FirstWhole s
 row-step [] d a b e = no-end-row d a b (sym (step-none tableLayout [] refl) ∙ e)
 row-step (x ∷ xs) d a b e =
     ⊎-elim (λ t. whole-step (x ∷ xs) t) (λ t. no-row d a b (sym (step-short tableLayout (x ∷ xs) (omega arith) t) ∙ e))
-    (look (isWhole lineBytes (firstLine (x ∷ xs))))
+    (true-or-false (isWhole lineBytes (firstLine (x ∷ xs))))
 
 -- line n starts within the text, and the lowest fault from there on is that of the whole
 pub record Judging (text : List ℕ) (found : TableRead) (n : ℕ) : Type 0 where
@@ -108,7 +108,7 @@ module _ {text : List ℕ} {found : TableRead} {n : ℕ} {s : Step} (so : Judgin
       }
 
   by-stay : (l : Line) → s .found ≡ l → passed l ≡ 0 → faultOr (n + 1) l (Rows n) ≡ found
-  by-stay (line.Row d a b) e z = zero-one (sym z)
+  by-stay (line.Row d a b) e z = zero-not-one (sym z)
   by-stay line.End e z = at-end e
   by-stay line.BadLength e z = at-fault line.BadLength e refl
   by-stay line.BadField e z = at-fault line.BadField e refl

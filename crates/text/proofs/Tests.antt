@@ -1,15 +1,16 @@
 -- Cases of a test, and of two tests joined.
 --
---   look            a test is true or false
+--   true-or-false   a test is true or false
 --   lt-or-le        one number is below another, or not
 --   and-left        of a conjunction that is true, the first test
 --   and-right       the second
+--   and-false       a conjunction whose second test is false
 --   both-true       two tests that are true, joined
 --   pick-true       a choice whose test is true
 --   pick-false      a choice whose test is false
 --   negated-true    a test whose negation is true
 --   negated-false   a test whose negation is false
---   zero-one        0 is not 1, so anything follows
+--   zero-not-one    0 is not 1, so anything follows
 -- Assumes nothing.
 use Prim.Native.Nat.{ℕ, _<_, _≤_}
 use mathlib.Core.Path.{_≡_, refl, sym, _∙_}
@@ -19,12 +20,12 @@ use native.Mathlib.Omega.{arith}
 use lib.Dec.{ltb}
 use borrow.Author.Tests.{ltb-true, ltb-false, not-true, not-false}
 
-pub look : (b : Bool) → (b ≡ true) ⊎ (b ≡ false)
-look true = inl refl
-look false = inr refl
+pub true-or-false : (b : Bool) → (b ≡ true) ⊎ (b ≡ false)
+true-or-false true = inl refl
+true-or-false false = inr refl
 
 pub lt-or-le : (a b : ℕ) → (a < b) ⊎ (b ≤ a)
-lt-or-le a b = ⊎-elim (λ t. inl (ltb-true a b t)) (λ t. inr (ltb-false a b t)) (look (ltb a b))
+lt-or-le a b = ⊎-elim (λ t. inl (ltb-true a b t)) (λ t. inr (ltb-false a b t)) (true-or-false (ltb a b))
 
 pub and-left : (a b : Bool) → (a && b) ≡ true → a ≡ true
 and-left true b e = refl
@@ -34,6 +35,10 @@ pub and-right : (a b : Bool) → (a && b) ≡ true → b ≡ true
 and-right true b e = e
 and-right false true e = refl
 and-right false false e = e
+
+pub and-false : (a : Bool) → (a && false) ≡ false
+and-false true = refl
+and-false false = refl
 
 pub both-true : (a b : Bool) → a ≡ true → b ≡ true → (a && b) ≡ true
 both-true a b p q = rw (p, q)
@@ -56,5 +61,5 @@ module _ {b t : Bool} (e : b ≡ t) where
   negated-false n = sym e ∙ not-false b n
 
 -- what two different constructors made equal give
-pub zero-one {ℓ} : {A : Type ℓ} → _≡_ {A = ℕ} 0 1 → A
-zero-one e = let f : ⊥ = omega arith in absurd f
+pub zero-not-one {ℓ} : {A : Type ℓ} → _≡_ {A = ℕ} 0 1 → A
+zero-not-one e = let f : ⊥ = omega arith in absurd f

@@ -6,7 +6,7 @@
 --   firstLine    the first line of a text; empty where the text is
 --   isWhole      a line is so many bytes, the last of them byte 10
 --   lineNumber   01's refusal number of what a line holds
---   oneRefuses   one of three fields has this refusal number
+--   anyRefuses   one of three fields has this refusal number
 --   judged       a line's answer from its three fields
 --   fieldAt      what the field from a byte on holds
 --   lineAs       what a line holds, with three fields as a layout has them
@@ -66,14 +66,14 @@ lineNumber BadLength = 11
 lineNumber BadField = fieldNumber Broken
 lineNumber LargeNumber = fieldNumber Large
 
-abbrev pub oneRefuses : ℕ → Field → Field → Field → Bool
-oneRefuses number x y z = refuses number x || refuses number y || refuses number z
+abbrev pub anyRefuses : ℕ → Field → Field → Field → Bool
+anyRefuses number x y z = refuses number x || refuses number y || refuses number z
 
 -- "12: a broken field, an all-blank one included; 13: a number above 65,535 (12 before 13)", over the fields of one line
 unfoldable pub judged : Field → Field → Field → Line
 judged x y z =
-    cond (oneRefuses (lineNumber BadField) x y z) BadField
-    (cond (oneRefuses (lineNumber LargeNumber) x y z) LargeNumber
+    cond (anyRefuses (lineNumber BadField) x y z) BadField
+    (cond (anyRefuses (lineNumber LargeNumber) x y z) LargeNumber
     (Row (fieldValue x) (fieldValue y) (fieldValue z)))
 
 unfoldable pub fieldAt : Format → ℕ → List ℕ → Field

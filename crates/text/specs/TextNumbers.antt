@@ -3,7 +3,7 @@
 --   five six     a number below 10 in a field of 5 columns, of 6 columns
 --   row          a line of a table, of numbers below 10
 --   short broken large mixed     texts whose line 2 is too short; has a blank field; a large number; a large number, then a broken field
---   readTold queryTold putTold   an answer in numbers: number, place, rows read; number, place; number, length
+--   readNumbers queryNumbers putNumbers   an answer in numbers: number, place, rows read; number, place; number, length
 --   TextNumbers  the table: a field for each row
 --   text-numbers-hold     the theorem
 -- Assumes nothing.
@@ -44,34 +44,34 @@ large = row 1 1 2 ++ five 2 ++ six 1 ++ (32 ∷ 54 ∷ 53 ∷ 53 ∷ 51 ∷ 54 �
 abbrev pub mixed : List ℕ
 mixed = row 1 1 2 ++ five 2 ++ (32 ∷ 54 ∷ 53 ∷ 53 ∷ 51 ∷ 54 ∷ []) ++ (32 ∷ 32 ∷ 32 ∷ 32 ∷ 32 ∷ 120 ∷ []) ++ 10 ∷ []
 
-abbrev pub readTold : TableRead → List ℕ
-readTold a = number a ∷ place a ∷ count a ∷ []
+abbrev pub readNumbers : TableRead → List ℕ
+readNumbers a = number a ∷ place a ∷ count a ∷ []
 
-abbrev pub queryTold : QueryRead → List ℕ
-queryTold a = queryNumber a ∷ queryPlace a ∷ []
+abbrev pub queryNumbers : QueryRead → List ℕ
+queryNumbers a = queryNumber a ∷ queryPlace a ∷ []
 
-abbrev pub putTold : Put → List ℕ
-putTold a = putNumber a ∷ putLength a ∷ []
+abbrev pub putNumbers : Put → List ℕ
+putNumbers a = putNumber a ∷ putLength a ∷ []
 
 pub record TextNumbers : Type 0 where
   -- "a line counted from 1 for 11, 12, 13; else 0"
-  pub read-0 : readTold (tableReadOf (row 1 1 2 ++ row 2 2 3) 2 3 4) ≡ 0 ∷ 0 ∷ 2 ∷ []
-  pub read-10 : readTold (tableReadOf (row 1 1 2 ++ row 2 2 3) 2 1 4) ≡ 10 ∷ 0 ∷ 0 ∷ []
-  pub read-11 : readTold (tableReadOf short 9 9 9) ≡ 11 ∷ 2 ∷ 0 ∷ []
-  pub read-12 : readTold (tableReadOf broken 9 9 9) ≡ 12 ∷ 2 ∷ 0 ∷ []
-  pub read-13 : readTold (tableReadOf large 9 9 9) ≡ 13 ∷ 2 ∷ 0 ∷ []
+  pub read-0 : readNumbers (tableReadOf (row 1 1 2 ++ row 2 2 3) 2 3 4) ≡ 0 ∷ 0 ∷ 2 ∷ []
+  pub read-10 : readNumbers (tableReadOf (row 1 1 2 ++ row 2 2 3) 2 1 4) ≡ 10 ∷ 0 ∷ 0 ∷ []
+  pub read-11 : readNumbers (tableReadOf short 9 9 9) ≡ 11 ∷ 2 ∷ 0 ∷ []
+  pub read-12 : readNumbers (tableReadOf broken 9 9 9) ≡ 12 ∷ 2 ∷ 0 ∷ []
+  pub read-13 : readNumbers (tableReadOf large 9 9 9) ≡ 13 ∷ 2 ∷ 0 ∷ []
   -- "12 before 13", in one line; both before 10
-  pub read-12-first : readTold (tableReadOf mixed 9 9 9) ≡ 12 ∷ 2 ∷ 0 ∷ []
-  pub read-13-first : readTold (tableReadOf large 0 0 0) ≡ 13 ∷ 2 ∷ 0 ∷ []
+  pub read-12-first : readNumbers (tableReadOf mixed 9 9 9) ≡ 12 ∷ 2 ∷ 0 ∷ []
+  pub read-13-first : readNumbers (tableReadOf large 0 0 0) ≡ 13 ∷ 2 ∷ 0 ∷ []
   -- "It reads the query line first (11, 12, 13 at line 1; 11 when input is empty)"
-  pub query-0 : queryTold (queryOf (five 2 ++ five 1 ++ five 6 ++ 10 ∷ [])) ≡ 0 ∷ 0 ∷ []
-  pub query-11 : queryTold (queryOf (five 2 ++ five 1 ++ five 6)) ≡ 11 ∷ 1 ∷ []
-  pub query-11-empty : queryTold (queryOf []) ≡ 11 ∷ 1 ∷ []
-  pub query-12 : queryTold (queryOf (replicate 5 32 ++ five 1 ++ five 6 ++ 10 ∷ [])) ≡ 12 ∷ 1 ∷ []
-  pub query-13 : queryTold (queryOf ((54 ∷ 53 ∷ 53 ∷ 51 ∷ 54 ∷ []) ++ five 1 ++ five 6 ++ 10 ∷ row 0 9 9)) ≡ 13 ∷ 1 ∷ []
+  pub query-0 : queryNumbers (queryOf (five 2 ++ five 1 ++ five 6 ++ 10 ∷ [])) ≡ 0 ∷ 0 ∷ []
+  pub query-11 : queryNumbers (queryOf (five 2 ++ five 1 ++ five 6)) ≡ 11 ∷ 1 ∷ []
+  pub query-11-empty : queryNumbers (queryOf []) ≡ 11 ∷ 1 ∷ []
+  pub query-12 : queryNumbers (queryOf (replicate 5 32 ++ five 1 ++ five 6 ++ 10 ∷ [])) ≡ 12 ∷ 1 ∷ []
+  pub query-13 : queryNumbers (queryOf ((54 ∷ 53 ∷ 53 ∷ 51 ∷ 54 ∷ []) ++ five 1 ++ five 6 ++ 10 ∷ row 0 9 9)) ≡ 13 ∷ 1 ∷ []
   -- "output too short is 10"; "the text's length (0 on a refusal)"
-  pub put-0 : putTold (putOf (replicate 24 9) 0 header) ≡ 0 ∷ 22 ∷ []
-  pub put-10 : putTold (putOf (replicate 21 9) 0 header) ≡ 10 ∷ 0 ∷ []
+  pub put-0 : putNumbers (putOf (replicate 24 9) 0 header) ≡ 0 ∷ 22 ∷ []
+  pub put-10 : putNumbers (putOf (replicate 21 9) 0 header) ≡ 10 ∷ 0 ∷ []
 
 pub text-numbers-hold : TextNumbers
 unfolding

@@ -4,7 +4,7 @@ ghost use Prim.Native.Nat.{_+_, _≤_, _<_, _^_};
 ghost use lib.ListN.{length};
 ghost use Rattle.text.specs.Layout.{bytesOf};
 ghost use Rattle.text.specs.Decimal.{fieldNumber, refuses, fieldValue};
-ghost use Rattle.text.specs.Line.{linesOf, firstLine, isWhole, oneRefuses, judged, fieldAt, stepAs, stepAt, passed, stepFrom, queryOf};
+ghost use Rattle.text.specs.Line.{linesOf, firstLine, isWhole, anyRefuses, judged, fieldAt, stepAs, stepAt, passed, stepFrom, queryOf};
 use crate::decimal::Field;
 use crate::decimal::read_field;
 use crate::layout::Format;
@@ -66,8 +66,8 @@ fn number_of(f: Field) -> u16
     }
 }
 
-fn one_broken(x: Field, y: Field, z: Field) -> bool
-    ensures { λ r. ⌜ r ≡ oneRefuses (fieldNumber Field.Broken) x y z ⌝ }
+fn any_broken(x: Field, y: Field, z: Field) -> bool
+    ensures { λ r. ⌜ r ≡ anyRefuses (fieldNumber Field.Broken) x y z ⌝ }
 {
     if is_broken(x) {
         return true;
@@ -78,8 +78,8 @@ fn one_broken(x: Field, y: Field, z: Field) -> bool
     is_broken(z)
 }
 
-fn one_large(x: Field, y: Field, z: Field) -> bool
-    ensures { λ r. ⌜ r ≡ oneRefuses (fieldNumber Field.Large) x y z ⌝ }
+fn any_large(x: Field, y: Field, z: Field) -> bool
+    ensures { λ r. ⌜ r ≡ anyRefuses (fieldNumber Field.Large) x y z ⌝ }
 {
     if is_large(x) {
         return true;
@@ -94,10 +94,10 @@ fn one_large(x: Field, y: Field, z: Field) -> bool
 fn judge(x: Field, y: Field, z: Field) -> Line
     ensures { λ r. ⌜ r ≡ judged x y z ⌝ }
 {
-    if one_broken(x, y, z) {
+    if any_broken(x, y, z) {
         return Line::BadField;
     }
-    if one_large(x, y, z) {
+    if any_large(x, y, z) {
         return Line::LargeNumber;
     }
     Line::Row(number_of(x), number_of(y), number_of(z))

@@ -5,15 +5,15 @@ use Rattle.text.specs.Line.{judged}
 use Rattle.text.proofs.lines.judge.Statement.{statement}
 use Rattle.text.proofs.lines.judge.Tie as tie
 
-one-broken-requires : tie.Need-one-broken-requires
-one-broken-requires c κs = tt
+any-broken-requires : tie.Need-any-broken-requires
+any-broken-requires c κs = tt
 
 returns : tie.Need-returns
 unfolding judged
-returns c = rw (sym (c .before .one-broken .ensures) ∙ c .if1 .taken)
+returns c = rw (sym (c .before .any-broken .ensures) ∙ c .if1 .taken)
 
-one-large-requires : tie.Need-one-large-requires
-one-large-requires c κs = tt
+any-large-requires : tie.Need-any-large-requires
+any-large-requires c κs = tt
 
 returns-2 : tie.Need-returns-2
 unfolding judged
@@ -21,7 +21,7 @@ returns-2 c =
     let large = c .before in
     let sound = large .before in
     let broken = sound .before in
-    rw (sym (broken .one-broken .ensures) ∙ sound .if1 .left, sym (large .one-large .ensures) ∙ c .if2 .taken)
+    rw (sym (broken .any-broken .ensures) ∙ sound .if1 .left, sym (large .any-large .ensures) ∙ c .if2 .taken)
 
 number-of-requires : tie.Need-number-of-requires
 number-of-requires c κs = tt
@@ -42,8 +42,8 @@ returns-3 c =
     let sound = large .before in
     let broken = sound .before in
     rw (
-      sym (broken .one-broken .ensures) ∙ sound .if1 .left,
-      sym (large .one-large .ensures) ∙ within .if2 .left,
+      sym (broken .any-broken .ensures) ∙ sound .if1 .left,
+      sym (large .any-large .ensures) ∙ within .if2 .left,
       first .number-of .ensures,
       second .number-of2 .ensures,
       c .number-of3 .ensures,
@@ -53,6 +53,6 @@ pub judge-spec : {M : Type 1} → statement M
 judge-spec =
     tie.close
     (
-    tie.spec one-broken-requires returns one-large-requires returns-2 number-of-requires number-of-requires-2
+    tie.spec any-broken-requires returns any-large-requires returns-2 number-of-requires number-of-requires-2
     number-of-requires-3 returns-3
     )

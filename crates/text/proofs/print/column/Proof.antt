@@ -6,7 +6,7 @@ use native.Mathlib.Nat.{one-le-pow}
 use native.Mathlib.Omega.{arith}
 use lib.Dec.{lit<}
 use Rattle.text.specs.Print.{columnOf}
-use Rattle.text.proofs.PrintLaws.{column-unit, column-blank, column-digit, above}
+use Rattle.text.proofs.PrintLaws.{column-unit, column-blank, column-digit, below-power}
 use Rattle.text.proofs.print.column.Statement.{statement}
 use Rattle.text.proofs.print.column.Tie as tie
 
@@ -24,7 +24,7 @@ returns c =
 returns-2 : tie.Need-returns-2
 returns-2 c =
     let a = c .before .before .args in
-    sym (column-blank (a .k) (a .n) (omega arith) (above (a .k) (a .n) (c .if2 .taken) (omega arith)))
+    sym (column-blank (a .k) (a .n) (omega arith) (below-power (a .k) (a .n) (c .if2 .taken) (omega arith)))
 
 place-requires : tie.Need-place-requires
 place-requires c κs = omega arith

@@ -1,11 +1,11 @@
--- `text::lines::one_broken` meets its contract: one law for each way out.
+-- `text::lines::any_broken` meets its contract: one law for each way out.
 -- Assumes nothing.
 use mathlib.Core.Path.{sym, _∙_}
 use Rattle.text.specs.Decimal.{fieldNumber}
 use Rattle.text.specs.declared.decimal.Field.the-variants.{Broken}
 use Rattle.text.proofs.LineLaws.{first-refuses, second-refuses, third-decides}
-use Rattle.text.proofs.lines.one_broken.Statement.{statement}
-use Rattle.text.proofs.lines.one_broken.Tie as tie
+use Rattle.text.proofs.lines.any_broken.Statement.{statement}
+use Rattle.text.proofs.lines.any_broken.Tie as tie
 
 is-broken-requires : tie.Need-is-broken-requires
 is-broken-requires c κs = tt
@@ -42,7 +42,7 @@ returns-3 c =
     ∙ third-decides (fieldNumber Broken) (a .x) (a .y) (a .z) (sym (first .is-broken .ensures) ∙ not-first .if1 .left)
     (sym (second .is-broken2 .ensures) ∙ not-second .if2 .left)
 
-pub one-broken-spec : {M : Type 1} → statement M
-one-broken-spec =
+pub any-broken-spec : {M : Type 1} → statement M
+any-broken-spec =
     tie.close
     (tie.spec is-broken-requires returns is-broken-requires-2 returns-2 is-broken-requires-3 returns-3)

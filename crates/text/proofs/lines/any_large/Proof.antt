@@ -1,11 +1,11 @@
--- `text::lines::one_large` meets its contract: one law for each way out.
+-- `text::lines::any_large` meets its contract: one law for each way out.
 -- Assumes nothing.
 use mathlib.Core.Path.{sym, _∙_}
 use Rattle.text.specs.Decimal.{fieldNumber}
 use Rattle.text.specs.declared.decimal.Field.the-variants.{Large}
 use Rattle.text.proofs.LineLaws.{first-refuses, second-refuses, third-decides}
-use Rattle.text.proofs.lines.one_large.Statement.{statement}
-use Rattle.text.proofs.lines.one_large.Tie as tie
+use Rattle.text.proofs.lines.any_large.Statement.{statement}
+use Rattle.text.proofs.lines.any_large.Tie as tie
 
 is-large-requires : tie.Need-is-large-requires
 is-large-requires c κs = tt
@@ -42,7 +42,7 @@ returns-3 c =
     ∙ third-decides (fieldNumber Large) (a .x) (a .y) (a .z) (sym (first .is-large .ensures) ∙ not-first .if1 .left)
     (sym (second .is-large2 .ensures) ∙ not-second .if2 .left)
 
-pub one-large-spec : {M : Type 1} → statement M
-one-large-spec =
+pub any-large-spec : {M : Type 1} → statement M
+any-large-spec =
     tie.close
     (tie.spec is-large-requires returns is-large-requires-2 returns-2 is-large-requires-3 returns-3)
