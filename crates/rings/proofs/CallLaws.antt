@@ -10,17 +10,18 @@ use mathlib.Core.List.{List, map}
 use lib.ListN.{length, replicate}
 use lib.Dec.{leb, ltb, eqb}
 use borrow.Author.Tests.{lt-ltb, le-ltb}
-use Rattle.rings.specs.Words.{_and_, run}
+use Rattle.rings.specs.Words.{_and_}
 use Rattle.rings.specs.Table.{Table}
 use Rattle.rings.specs.Ring.{ring, members}
 use Rattle.rings.specs.Checks.{_when_, _then_, counted, rangeCheck}
 use Rattle.rings.specs.Refusals.{behindScratch}
-use Rattle.rings.specs.Buffers.{marks, over, cleared, clearedIf, scratchOn, countedScratch, verdictScratch}
-use Rattle.rings.specs.CoreTimes.{never, accountTime, rowTime}
+use Rattle.rings.specs.Buffers.{over, cleared, clearedIf, scratchOn, countedScratch, verdictScratch}
+use Rattle.rings.specs.CoreTimes.{never}
 use Rattle.rings.specs.CoreTimesCall.{timesAnswer, accountColumn, rowColumn}
 use Rattle.rings.specs.Windows.{Entry, minimalWindows}
 use Rattle.rings.specs.MinimalWindowsCall.{minimalChecks, minimalAnswer, entryColumn, minimalRows, minimalStarts, minimalEnds}
 use Rattle.rings.specs.Inner.Closing.{place}
+use Rattle.rings.specs.Inner.Answers.{RingFound, TimesFound}
 use Rattle.rings.specs.WindowRingCall.{ringChecks, ringAnswer, ringMarks}
 use Rattle.rings.specs.declared.Query.{Query}
 use Rattle.rings.specs.declared.refusal.Refusal.{Refusal}
@@ -44,10 +45,10 @@ module _ (t : Table) (q : Query) (s e : ℕ) (m sc : List ℕ) {window : Bool} (
   unfolding ringAnswer ringMarks countedScratch
   ring-refused {r} h = (sym (counted-no (members (ring t q s e)) (ring-checks ∙ h)), (refl, scratch-kept t q window (eqb (length m) (length (t .days))) (length sc) sc h))
 
-  pub ring-done : {n : ℕ} {m′ sc′ : List ℕ} → shared t q window (eqb (length m) (length (t .days))) (length sc) ≡ Accepted → n ≡ members (ring t q s e) → m′ ≡ marks (ring t q s e) → sc′ ≡ replicate (length sc) 0
+  pub ring-done : {n : ℕ} {m′ sc′ : List ℕ} → shared t q window (eqb (length m) (length (t .days))) (length sc) ≡ Accepted → RingFound t q s e n m′ sc sc′
       → (Counted.Count n ≡ ringAnswer t q s e (length m) (length sc)) × ((m′ ≡ ringMarks (Counted.Count n) t q s e m) × (sc′ ≡ countedScratch (Counted.Count n) sc))
   unfolding ringAnswer ringMarks countedScratch cleared
-  ring-done {n} h en em es = (ap Counted.Count en ∙ sym (counted-yes (members (ring t q s e)) (ring-checks ∙ h)), (em, es))
+  ring-done {n} h F = (ap Counted.Count (F .marked .number) ∙ sym (counted-yes (members (ring t q s e)) (ring-checks ∙ h)), (F .marked .marks, F .cleared))
 
 -- ---- Core times
 
@@ -61,10 +62,10 @@ module _ (t : Table) (q : Query) (lo hi s : ℕ) (a r sc : List ℕ) {window len
   unfolding accountColumn rowColumn verdictScratch
   times-refused {f} h = (sym (times-checks ∙ h), (refl, (refl, scratch-kept t q window lengths (length sc) sc h)))
 
-  pub times-done : {a′ r′ sc′ : List ℕ} → shared t q window lengths (length sc) ≡ Accepted → a′ ≡ run (accountTime t q hi s) 0 4096 → r′ ≡ run (rowTime t q hi s) 0 (length (t .days)) → sc′ ≡ replicate (length sc) 0
+  pub times-done : {a′ r′ sc′ : List ℕ} → shared t q window lengths (length sc) ≡ Accepted → TimesFound t q s hi a′ r′ sc sc′
       → (Accepted ≡ timesAnswer t q lo hi s (length a) (length r) (length sc)) × ((a′ ≡ accountColumn Accepted t q hi s a) × ((r′ ≡ rowColumn Accepted t q hi s r) × (sc′ ≡ verdictScratch Accepted sc)))
   unfolding accountColumn rowColumn verdictScratch cleared
-  times-done h ea er es = (sym (times-checks ∙ h), (ea, (er, es)))
+  times-done h F = (sym (times-checks ∙ h), (F .accounts, (F .rows, F .cleared)))
 
 -- ---- Minimal windows
 

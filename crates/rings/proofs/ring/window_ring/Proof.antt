@@ -75,8 +75,7 @@ returns-2 c =
     c .before .before .before .before .before .before .before .before .before .before .before .before .before
     .before .before .before .args in
     ring-done _ _ _ _ (args .marks .now) (args .scratch .now) (is-window .ensures)
-    (sym (check-call .ensures) ∙ enum-told .given .1) (mark-ring .ensures .marked .number)
-    (mark-ring .ensures .marked .marks) (mark-ring .ensures .cleared)
+    (sym (check-call .ensures) ∙ enum-told .given .1) (mark-ring .ensures)
 
 pub window-ring-spec : {M : Type 1} → statement M
 window-ring-spec =

@@ -95,8 +95,7 @@ returns-2 c =
     c .before .before .before .before .before .before .before .before .before .before .before .before .before
     .before .before .before .before .before .before .before .before .args in
     times-done _ _ _ _ _ (args .accounts .now) (args .rows .now) (args .scratch .now) (is-start .ensures)
-    (are-equal .ensures) (sym (check-call .ensures) ∙ enum-told .given .1) (find-times .ensures .accounts)
-    (find-times .ensures .rows) (find-times .ensures .cleared)
+    (are-equal .ensures) (sym (check-call .ensures) ∙ enum-told .given .1) (find-times .ensures)
 
 pub core-times-spec : {M : Type 1} → statement M
 core-times-spec =
