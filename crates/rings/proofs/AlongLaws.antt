@@ -12,6 +12,7 @@
 --     along-fresh, along-fresh-place, along-ends, along-other    what the code reads of that row
 --     along-stands   what `row_at` asks of that place
 --     stands-ends, row-read     what `row_at` reads and answers
+--     row-leads      whether a row leads its pair, for a walk that begins before lo
 -- Assumes nothing.
 use Prim.Native.Nat.{ℕ, suc, _+_, _-_, _*_, _≤_, _<_}
 use native.Mathlib.Nat.{le-refl}
@@ -19,7 +20,7 @@ use native.Mathlib.Numerals.{add-one}
 use native.Mathlib.Omega.{arith}
 use mathlib.Core.Path.{_≡_, refl, sym, _∙_, ap, subst}
 use mathlib.Core.Logic.{_⊎_, ⊎-elim}
-use mathlib.Core.Bool.{Bool, true, false}
+use mathlib.Core.Bool.{Bool, true, false, _&&_}
 use mathlib.Core.List.{List}
 use lib.ListN.{length, getD}
 use lib.Dec.{leb, eqb}
@@ -31,9 +32,10 @@ use Rattle.rings.specs.Sound.{Sound}
 use Rattle.rings.specs.Inner.Links.{pickOther, otherOf, rank, placeOf, fresh, Pairs, Linked, Ahead}
 use Rattle.rings.specs.Inner.Peeling.{EarlierStands}
 use Rattle.rings.specs.Inner.Incident.{RowStands, RowRead}
+use Rattle.rings.specs.declared.incident.Incident.{Incident}
 use Rattle.rings.proofs.WordLaws.{look}
 use Rattle.rings.proofs.RingLaws.{touch-cases}
-use Rattle.rings.proofs.LeadLaws.{fresh-test, fresh-alone}
+use Rattle.rings.proofs.LeadLaws.{fresh-from, fresh-test, fresh-alone}
 use Rattle.rings.proofs.LinkLaws.{rank-yes, rank-mono, rank-less, none-between, NthRow, nth-row, places-most, place-step, entry-below}
 
 -- row j, as the code reads it
@@ -92,6 +94,15 @@ module _ {d f s links : List ℕ} {u p : ℕ} (R : RowStands d f s links u p) {j
           small = row-small d f s (R .sound) at-below u at-touch ea ec ev;
           leads = λ h. fresh-alone (tableOf d f s) lo j h (ee ∙ R .pairs j at-below);
         }
+
+-- a walk that begins before lo asks for that too
+pub row-leads : {t : Table} {links : List ℕ} {lo u p : ℕ} {r : Incident} → RowRead t links lo u p r → (leb lo (r .row) && r .leads) ≡ fresh t lo (r .row)
+row-leads {t} {lo = lo} {r = r} R =
+    ⊎-elim (λ y. ap (λ (b : Bool). b && r .leads) y ∙ R .leads (leb-true lo (r .row) y))
+    (λ y. ap (λ (b : Bool). b && r .leads) y ∙ sym (not-before y)) (look (leb lo (r .row)))
+  where
+    not-before : leb lo (r .row) ≡ false → fresh t lo (r .row) ≡ false
+    not-before y = ⊎-elim (λ h. let a = fresh-from t lo (r .row) h in let b = leb-false lo (r .row) y in absurd (omega arith)) (λ h. h) (look (fresh t lo (r .row)))
 
 pub record Along (t : Table) (u b p : ℕ) : Type 0 where
   pub place : p ≡ placeOf t u + rank t u b

@@ -1,5 +1,6 @@
 -- A walk over a book that may lack rows (specs/Inner/Links.antt, Shelf, Reading).
 --     Seeking, seeking-start, seeking-next, seeking-found, seeking-out     where the rows from lo on begin
+--     reading-start                  a walk begins at the head
 --     reading-place, reading-few     a place before the end lies in the book
 --     reading-row, reading-touch, reading-from    the row there is one of u's, from b on
 --     reading-gap, reading-out   a row of u that is passed over is below lo, or its other account has no time
@@ -7,7 +8,7 @@
 --     reading-fresh, reading-fresh-place, reading-ends, reading-other    what the code reads of that row
 --     shelf-stands, reading-stands    what `row_at` asks of a place
 --     every-rise, covered-rise   times only rise, and rows only leave
---     linked-shelves, linked-covered     the whole book is such a book, and lacks nothing
+--     linked-shelves, linked-covered, linked-every, none-missing     the whole book is such a book, and lacks nothing
 -- Assumes nothing.
 use Prim.Native.Nat.{ℕ, suc, _+_, _-_, _*_, _≤_, _<_}
 use native.Mathlib.Nat.{eq-or-lt-of-le}
@@ -67,6 +68,16 @@ pub seeking-out : {sc : List ℕ} {u lo p : ℕ} → Seeking sc u lo p → getD 
 seeking-out G past = record { from = G .from; to = G .to; before = G .before; after = λ r a k. absurd (omega arith) }
 
 -- ---- from there on
+
+-- a walk may begin at the head, with every row before it
+pub reading-start : {t : Table} {sc : List ℕ} {u p : ℕ} → Shelf t u sc → p ≡ getD sc (4096 + u) 0 → Reading sc u 0 p
+reading-start K e =
+    record {
+      from = omega arith;
+      to = let a = K .from in omega arith;
+      before = λ r h k. absurd (omega arith);
+      after = λ r h k. omega arith;
+    }
 
 module _ (d f s links : List ℕ) (S : Sound d f s) (L : Shelves (tableOf d f s) links) {u : ℕ} (small : u < 4096) where
   abbrev t : Table
@@ -232,3 +243,12 @@ module _ {t : Table} {day : ℕ} {sc : List ℕ} (L : Linked t day sc) where
                   });
             };
       }
+
+  -- it lacks no row of u from lo on, whatever the times of the other accounts
+  pub linked-every : {lo u : ℕ} → ((j : ℕ) → j < size t → lo ≤ j → day ≤ dayOf t j) → u < 4096 → Every t (λ v. 0) lo u sc
+  linked-every {u = u} late l = linked-covered (λ v. 0) late .rows u l (λ e. omega arith)
+
+-- so a row of u that a walk passes over there is below lo
+pub none-missing : {i lo : ℕ} → (i < lo) ⊎ (0 ≡ never) → i < lo
+none-missing (_⊎_.inl h) = h
+none-missing (_⊎_.inr e) = absurd (omega arith)
