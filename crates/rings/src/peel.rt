@@ -7,12 +7,12 @@ ghost use Rattle.rings.specs.Table.{tableOf};
 ghost use Rattle.rings.specs.Inner.Peeling.{EarlierStands, freshBy, PeelBuffers, Losable, Lost, Ready, Span, Counted, CoreTimesAre};
 ghost use Rattle.rings.specs.Inner.Peeling.{allRows, Falling, Continues, HeadWaits, HeadWalked, QueueEmpty, Fade, RowLeaves, RowLeft};
 use crate::frame::Frame;
+use crate::incident::row_at;
 use crate::limits::ACCOUNTS;
 use crate::limits::ADJACENCY;
 use crate::limits::NEVER;
 use crate::links::clear;
 use crate::links::entry;
-use crate::links::other;
 use crate::links::put;
 
 // How far the removal has come: the day that is the core time of who falls now, the end of the rows that have not left,
@@ -85,13 +85,13 @@ fn walk(
     ensures { λ r. ⌜ HeadWalked (now (days .entry)) (now (first .entry)) (now (second .entry)) frame removal r
         (now (times .exit)) (now (left .exit)) (now (queue .exit)) ⌝ }
 {
-    let n = days.len();
     let u = entry(queue, removal.head);
     let end = entry(links, u);
     let mut p = entry(links, ACCOUNTS + u);
     let mut tail = removal.tail;
     while p < end {
-        let j = entry(links, ADJACENCY + p);
+        let here = row_at(days, first, second, links, frame.lo, u, p);
+        let j = here.row;
         if removal.end <= j {
             return Removal {
                 day: removal.day,
@@ -101,10 +101,8 @@ fn walk(
             };
         }
         p += 1;
-        if is_fresh(links, n, frame.lo, j) {
-            let a = entry(first, j);
-            let b = entry(second, j);
-            let v = other(a, b, u);
+        if (frame.lo <= j) & here.leads {
+            let v = here.other;
             tail = lose(frame.query.k, removal.day, tail, v, times, left, queue);
             continue;
         }
