@@ -26,7 +26,7 @@ use Rattle.rings.specs.CoreTimes.{never, accountTime, rowTime}
 use Rattle.rings.specs.Ring.{query}
 use Rattle.rings.specs.Inner.Links.{openDay, opensBy}
 use Rattle.rings.specs.Inner.Peeling.{Setting, season, guess, CoreTimesAre}
-use Rattle.rings.specs.Inner.Counting.{timeBy, IsTime, Histogram, WhereCounted, owed, Owing, Adding, Removing, Taking, Moving}
+use Rattle.rings.specs.Inner.Counting.{timeBy, IsTime, Histogram, WhereCounted, owed, Owing, Adding, Removing, Taking, Moving, RoomOn, HasOne, AddAsks, RemoveAsks, MoveAsks}
 use Rattle.rings.proofs.WordLaws.{look, tally-yes, tally-no, count-le, count-mono, count-same, count-none, count-pos, same-or}
 use Rattle.rings.specs.declared.Query.{Query}
 use Rattle.rings.proofs.PairLaws.{count-drop}
@@ -110,8 +110,12 @@ module _ (g : ℕ → ℕ) where
       }
 
   module _ {n : ℕ} {xs : List ℕ} (T : Histogram g n xs) where
-    pub hist-few : {v : ℕ} → n < 16384 → IsTime v → (length xs ≡ 1025) × ((v ≡ never → ⊥) → (v < 1025) × (getD xs v 0 + 1 < 65536))
-    hist-few {v} l i = (T .long, λ h. let k : v < 1025 = ⊎-elim (λ y. y) (λ y. absurd (h y)) i in (k, let a = T .each v k in let b = count-le (has v) n in omega arith))
+    pub hist-few : {v : ℕ} → n < 16384 → IsTime v → AddAsks 1 v xs
+    hist-few {v} l i =
+        record {
+          long = T .long;
+          room = λ h. let k : v < 1025 = ⊎-elim (λ y. y) (λ y. absurd (h y)) i in record { in-days = k; few = let a = T .each v k in let b = count-le (has v) n in omega arith };
+        }
 
     pub hist-next : {v : ℕ} {xs′ : List ℕ} → v ≡ g n → Adding 1 v xs xs′ → Histogram g (n + 1) xs′
     hist-next {v} {xs′} e A =
@@ -172,8 +176,13 @@ module _ {g : ℕ → ℕ} {n new m : ℕ} {xs : List ℕ} (O : Owing g n new m 
   pub owing-has : {j time : ℕ} → j < n → g j ≡ time → time < 1025 → (new ≡ time → ⊥) → 1 ≤ getD xs time 0
   owing-has {j} {time} l e h o = let a = O .each time h in let b = owed-else new m time o in let c : 0 < count (λ i. eqb (g i) time) n = count-pos (λ i. eqb (g i) time) n j l (eq-eqb (g j) time e) in omega arith
 
-  pub owing-room : n ≤ 16384 → (new < 1025) ⊎ (new ≡ never) → (length xs ≡ 1025) × ((new ≡ never → ⊥) → (new < 1025) × (getD xs new 0 + m < 65536))
-  owing-room most i = (O .long, λ h. let k : new < 1025 = ⊎-elim (λ y. y) (λ y. absurd (h y)) i in (k, let a = O .each new k in let b = owed-here new m new refl in let c = count-le (λ j. eqb (g j) new) n in omega arith))
+  pub owing-room : n ≤ 16384 → (new < 1025) ⊎ (new ≡ never) → AddAsks m new xs
+  owing-room most i =
+      record {
+        long = O .long;
+        room = λ h. let k : new < 1025 = ⊎-elim (λ y. y) (λ y. absurd (h y)) i in
+            record { in-days = k; few = let a = O .each new k in let b = owed-here new m new refl in let c = count-le (λ j. eqb (g j) new) n in omega arith };
+      }
 
   pub owing-end : {xs′ : List ℕ} → Adding m new xs xs′ → Histogram g n xs′
   owing-end {xs′} (Adding.pass h e) = record { long = ap length e ∙ O .long; each = λ a l. let x = O .each a l in let y = owed-else new m a (λ z. omega arith) in ap (λ (ys : List ℕ). getD ys a 0) e ∙ omega arith }
@@ -221,8 +230,12 @@ module _ {g : ℕ → ℕ} {n : ℕ} {xs : List ℕ} (T : Histogram g n xs) {j v
   day : (v ≡ never → ⊥) → v < 1025
   day h = ⊎-elim (λ y. y) (λ y. absurd (h y)) i
 
-  pub hist-has : (length xs ≡ 1025) × ((v ≡ never → ⊥) → (v < 1025) × (1 ≤ getD xs v 0))
-  hist-has = (T .long, λ h. (day h, owing-has (owing-start {new = never} T) l (sym e) (day h) (λ y. h (sym y))))
+  pub hist-has : RemoveAsks v xs
+  hist-has =
+      record {
+        long = T .long;
+        has = λ h. record { in-days = day h; one = owing-has (owing-start {new = never} T) l (sym e) (day h) (λ y. h (sym y)) };
+      }
 
   -- the row has no time any more
   pub hist-drop : {g′ : ℕ → ℕ} → g′ j ≡ never → ((a : ℕ) → (a ≡ j → ⊥) → g′ a ≡ g a) → {xs′ : List ℕ} → Removing v xs xs′ → Histogram g′ n xs′
@@ -231,12 +244,12 @@ module _ {g : ℕ → ℕ} {n : ℕ} {xs : List ℕ} (T : Histogram g n xs) {j v
 
 -- ---- what `take_count` does
 
-module _ (xs : List ℕ) {test : Bool} {time e more : ℕ} (w : (test ≡ true → e ≡ time) × (test ≡ false → e ≡ 0)) (o : (test ≡ true → more ≡ 1) × (test ≡ false → more ≡ 0)) (ask : test ≡ true → (time < 1025) × (1 ≤ getD xs time 0)) where
+module _ (xs : List ℕ) {test : Bool} {time e more : ℕ} (w : (test ≡ true → e ≡ time) × (test ≡ false → e ≡ 0)) (o : (test ≡ true → more ≡ 1) × (test ≡ false → more ≡ 0)) (ask : test ≡ true → HasOne time xs) where
   pub take-place : length xs ≡ 1025 → e < length xs
-  take-place l = ⊎-elim (λ y. let a = w .0 y in let b = ask y .0 in omega arith) (λ y. let a = w .1 y in omega arith) (look test)
+  take-place l = ⊎-elim (λ y. let a = w .0 y in let b = ask y .in-days in omega arith) (λ y. let a = w .1 y in omega arith) (look test)
 
   pub take-less : more ≤ getD xs e 0
-  take-less = ⊎-elim (λ y. let a : getD xs e 0 ≡ getD xs time 0 = ap (λ (c : ℕ). getD xs c 0) (w .0 y) in let b = ask y .1 in let c = o .0 y in omega arith) (λ y. let c = o .1 y in omega arith) (look test)
+  take-less = ⊎-elim (λ y. let a : getD xs e 0 ≡ getD xs time 0 = ap (λ (c : ℕ). getD xs c 0) (w .0 y) in let b = ask y .one in let c = o .0 y in omega arith) (λ y. let c = o .1 y in omega arith) (look test)
 
   pub take-few : more ≤ 1
   take-few = ⊎-elim (λ y. let c = o .0 y in omega arith) (λ y. let c = o .1 y in omega arith) (look test)
@@ -284,13 +297,15 @@ module _ (mv : ℕ → Bool) where
         (λ y. let a = count-stays g g′ e n (w .1 y) in let b : owed old (count mv (suc n)) e ≡ owed old (count mv n) e = ap (λ (m : ℕ). owed old m e) (one-no n y) in let c : owed new (count mv (suc n)) e ≡ owed new (count mv n) e = ap (λ (m : ℕ). owed new m e) (one-no n y) in omega arith) (look (mv n))
 
     module _ {n : ℕ} (h : Moves g g′ mv old new n) {xs : List ℕ} (T : Histogram g n xs) where
-      pub moving-asks : {m : ℕ} → m ≡ count mv n → n ≤ 16384 → old < 1025 → IsTime new → (length xs ≡ 1025) × (old < 1025) × (m ≤ getD xs old 0) × ((new ≡ never → ⊥) → (new < 1025) × (getD xs new 0 + m < 65536))
-      moving-asks em most small i = (
-        T .long,
-        small,
-        let a = T .each old small in let b = count-mono mv (λ j. eqb (g j) old) n (λ j l y. eq-eqb (g j) old (h j l .0 y .0)) in omega arith,
-        λ k. let o : new < 1025 = ⊎-elim (λ y. y) (λ y. absurd (k y)) i in (o, let a = T .each new o in let b = count-le (λ j. eqb (g j) new) n in let c = count-le mv n in omega arith),
-      )
+      pub moving-asks : {m : ℕ} → m ≡ count mv n → n ≤ 16384 → old < 1025 → IsTime new → MoveAsks m old new xs
+      moving-asks em most small i =
+          record {
+            long = T .long;
+            from-day = small;
+            enough = let a = T .each old small in let b = count-mono mv (λ j. eqb (g j) old) n (λ j l y. eq-eqb (g j) old (h j l .0 y .0)) in omega arith;
+            room = λ k. let o : new < 1025 = ⊎-elim (λ y. y) (λ y. absurd (k y)) i in
+                record { in-days = o; few = let a = T .each new o in let b = count-le (λ j. eqb (g j) new) n in let c = count-le mv n in omega arith };
+          }
 
       pub moving-hist : {m : ℕ} {xs′ : List ℕ} → m ≡ count mv n → Moving m old new xs xs′ → Histogram g′ n xs′
       moving-hist {m} {xs′} em M =
@@ -308,8 +323,12 @@ module _ (m old new : ℕ) (xs xs₁ : List ℕ) (long : length xs ≡ 1025) (sm
       ⊎-elim (λ y. let a = owed-here old m e y in let b : getD xs₁ e 0 ≡ getD xs old 0 - m = ap (λ (ys : List ℕ). getD ys e 0) e₁ ∙ (ap (λ (c : ℕ). getD (set xs old (getD xs old 0 - m)) c 0) (sym y) ∙ getD-set-same xs old (getD xs old 0 - m) 0 (omega arith)) in let c : getD xs old 0 ≡ getD xs e 0 = ap (λ (i : ℕ). getD xs i 0) y in omega arith)
       (λ y. let a = owed-else old m e y in let b : getD xs₁ e 0 ≡ getD xs e 0 = ap (λ (ys : List ℕ). getD ys e 0) e₁ ∙ getD-set-other xs old e (getD xs old 0 - m) 0 (λ z. y (sym z)) in omega arith) (same-or old e)
 
-  pub moving-room : ((new ≡ never → ⊥) → (new < 1025) × (getD xs new 0 + m < 65536)) → (length xs₁ ≡ 1025) × ((new ≡ never → ⊥) → (new < 1025) × (getD xs₁ new 0 + m < 65536))
-  moving-room ask = (ap length e₁ ∙ (length-set xs old (getD xs old 0 - m) ∙ long), λ k. let a = ask k in let b = taken-off new in let c = a .1 in (a .0, omega arith))
+  pub moving-room : ((new ≡ never → ⊥) → RoomOn m new xs) → AddAsks m new xs₁
+  moving-room ask =
+      record {
+        long = ap length e₁ ∙ (length-set xs old (getD xs old 0 - m) ∙ long);
+        room = λ k. let a = ask k in let b = taken-off new in let c = a .few in record { in-days = a .in-days; few = omega arith };
+      }
 
   pub moving-made : {xs′ : List ℕ} → Adding m new xs₁ xs′ → Moving m old new xs xs′
   moving-made {xs′} (Adding.pass h w) =

@@ -28,7 +28,7 @@ use Rattle.rings.specs.Inner.Links.{otherOf, fresh, Every, Covered}
 use Rattle.rings.specs.Inner.Support.{supports, supporters}
 use Rattle.rings.specs.Inner.Peeling.{Setting, season, guess, Place, CoreTimesAre}
 use Rattle.rings.specs.Inner.Settling.{backing, backers, moving, Days, Settling, Glanced, Behind, Gathered, Short, Spared, Least, Looked, Fewer, Lessened, Leaving, Queued, Waiting, Risen, Rising, Spare}
-use Rattle.rings.specs.Inner.Counting.{timeBy, Histogram, Moving, Raised}
+use Rattle.rings.specs.Inner.Counting.{timeBy, Histogram, Moving, Raised, MoveAsks}
 use Rattle.rings.specs.declared.Query.{Query}
 use Rattle.rings.proofs.WordLaws.{look, clash, count-mono, tally-yes, tally-no, same-or}
 use Rattle.rings.proofs.RingLaws.{joins-touch, joins-cases, met-e}
@@ -367,7 +367,7 @@ module _ (d f g : List ℕ) (k s te lo : ℕ) (S : Setting (tableOf d f g) (quer
       near-moves : Moves (timeBy tn (guess xs) s te) (timeBy tn (guess (set xs u above)) s te) (moving tn (guess xs) lo old u) old above (length d)
       near-moves = rise-moves tn (query k) s te lo S u old above (set xs u above) small xs len refl refl (near-step .0) near-day G
 
-      pub near-asks : {counts : List ℕ} → length d ≤ 16384 → te ≤ 1024 → Histogram (timeBy tn (guess xs) s te) (length d) counts → (length counts ≡ 1025) × (old < 1025) × (moved ≤ getD counts old 0) × ((above ≡ never → ⊥) → (above < 1025) × (getD counts above 0 + moved < 65536))
+      pub near-asks : {counts : List ℕ} → length d ≤ 16384 → te ≤ 1024 → Histogram (timeBy tn (guess xs) s te) (length d) counts → MoveAsks moved old above counts
       near-asks most top T = moving-asks (moving tn (guess xs) lo old u) (timeBy tn (guess xs) s te) (timeBy tn (guess (set xs u above)) s te) old above near-moves T (G .moves) most (let h = near-day in omega arith) (⊎-elim (λ y. _⊎_.inl (omega arith)) _⊎_.inr (near-step .1))
 
       pub near-counts : {counts counts′ : List ℕ} → Histogram (timeBy tn (guess xs) s te) (length d) counts → Moving moved old above counts counts′ → Histogram (timeBy tn (guess (set xs u above)) s te) (length d) counts′

@@ -23,7 +23,7 @@ use Rattle.rings.specs.CoreTimes.{never, rowTime}
 use Rattle.rings.specs.Inner.Links.{otherOf, pairCounts, openDay, opensBy}
 use Rattle.rings.specs.Inner.Peeling.{Setting, season, guess, CoreTimesAre}
 use Rattle.rings.specs.Inner.Settling.{value, moving, Gathered}
-use Rattle.rings.specs.Inner.Counting.{timeBy, Histogram, Owing, Removing, Taking, Raised}
+use Rattle.rings.specs.Inner.Counting.{timeBy, Histogram, Owing, Removing, Taking, Raised, HasOne, RemoveAsks, TakeAsks}
 use Rattle.rings.specs.declared.Query.{Query}
 use Rattle.rings.proofs.WordLaws.{look, clash, same-or}
 use Rattle.rings.proofs.RingLaws.{touch-cases, touch-first, touch-second}
@@ -178,8 +178,14 @@ module _ (t : Table) (q : Query) (s hi lo : ℕ) (S : Setting t q s hi lo) (x x�
         small : (old ≤ hi) → test ≡ true → (z ≤ hi) ⊎ (z ≡ never) → new ≤ never → time < 1025
         small o y d n = let h = yes y .1 in let e = et in ⊎-elim (λ c. omega arith) (λ c. absurd (omega arith)) d
 
-        pub shift-asks : old ≤ hi → (z ≤ hi) ⊎ (z ≡ never) → new ≤ never → size t ≤ 16384 → (length xs ≡ 1025) × (m < 16384) × (test ≡ true → (time < 1025) × (1 ≤ getD xs time 0))
-        shift-asks o d n most = (O .1 .long, let a = O .0 in omega arith, λ y. let h = yes y .1 in let w = small o y d n in (w, owing-has (O .1) l (was-time y) w (λ e. let f = et in omega arith)))
+        pub shift-asks : old ≤ hi → (z ≤ hi) ⊎ (z ≡ never) → new ≤ never → size t ≤ 16384 → TakeAsks test time m xs
+        shift-asks o d n most =
+            record {
+              long = O .1 .long;
+              few = let a = O .0 in omega arith;
+              has = λ y. let h = yes y .1 in let w = small o y d n in
+                  record { in-days = w; one = owing-has (O .1) l (was-time y) w (λ e. let f = et in omega arith) };
+            }
 
         pub shift-row : old ≤ hi → (z ≤ hi) ⊎ (z ≡ never) → new ≤ never → {m′ : ℕ} {xs′ : List ℕ} → Taking test time m xs xs′ m′ → Shifting (j + 1) m′ xs′
         shift-row o d n {m′} {xs′} (Taking.none y e f) = subst (λ (c : ℕ). Shifting (j + 1) c xs′) (sym f) (subst (Shifting (j + 1) m) (sym e) (shift-stay (keeps j l k (⊎-elim _⊎_.inl (λ h. _⊎_.inr (_⊎_.inl (let a = ez in omega arith))) (not y)))))
@@ -234,7 +240,7 @@ module _ (t : Table) (q : Query) (s hi lo : ℕ) (S : Setting t q s hi lo) (u ol
     rise-all = shift-all t q s hi lo S (guess (Z .was)) (guess xs) u old new a c n (Z .up) (Z .few, Z .owing)
 
     module _ {j : ℕ} (from : b ≤ j) (l : j < size t) (k : touches t j u ≡ true) (gap : (i : ℕ) → b ≤ i → i < j → touches t i u ≡ true → (i < lo) ⊎ (new ≤ guess xs (otherOf t i u))) (day : dayOf t j ≤ hi) (soon : dayOf t j < new) {test : Bool} {z time : ℕ} (ez : z ≡ guess xs (otherOf t j u)) (et : time ≡ max (max old z) (dayOf t j)) (yes : test ≡ true → (lo ≤ j) × (z < new)) (not : test ≡ false → (j < lo) ⊎ (new ≤ z)) (dz : (z ≤ hi) ⊎ (z ≡ never)) (dn : new ≤ never) where
-      pub rise-asks : size t ≤ 16384 → (length counts ≡ 1025) × (m < 16384) × (test ≡ true → (time < 1025) × (1 ≤ getD counts time 0))
+      pub rise-asks : size t ≤ 16384 → TakeAsks test time m counts
       rise-asks = shift-asks t q s hi lo S (guess (Z .was)) (guess xs) u old new a c n (Z .up) (Z .few, Z .owing) from l k gap day soon (Z .top) ez et yes not (Z .day) dz dn
 
       pub rise-row : {m′ : ℕ} {counts′ : List ℕ} → Taking test time m counts counts′ m′ → Shift t s hi u old new xs (j + 1) m′ counts′
@@ -277,7 +283,7 @@ module _ (d f g : List ℕ) (k s te lo : ℕ) (S : Setting (tableOf d f g) (quer
     is : v ≡ mixed at-s later j j
     is = e ∙ sym (mixed-from at-s later j j (le-refl j))
 
-    pub drop-asks : (length counts ≡ 1025) × ((v ≡ never → ⊥) → (v < 1025) × (1 ≤ getD counts v 0))
+    pub drop-asks : RemoveAsks v counts
     drop-asks = hist-has D here is (is-time ts (query k) te s j top e)
 
     pub drop-next : {counts′ : List ℕ} → Removing v counts counts′ → Dropping (j + 1) counts′

@@ -20,7 +20,7 @@ use Rattle.rings.specs.Ring.{query}
 use Rattle.rings.specs.Inner.Peeling.{Open, guess}
 use Rattle.rings.specs.declared.frame.Frame.{Frame}
 use Rattle.rings.specs.Inner.Settling.{Days, Losing, Lessened, Queued}
-use Rattle.rings.specs.Inner.Counting.{timeBy, WhereCounted, Owing, Taking, Raised}
+use Rattle.rings.specs.Inner.Counting.{timeBy, WhereCounted, Owing, Taking, Raised, AddAsks, TakeAsks}
 use Rattle.rings.specs.declared.Query.{Query}
 use Rattle.rings.proofs.FallLaws.{guess-at}
 use Rattle.rings.proofs.ShelfLaws.{reading-out, reading-row, reading-touch, reading-from, reading-gap, reading-other}
@@ -100,7 +100,7 @@ module _ (d f g links : List ℕ) (r : Frame) (R : Open d f g links r) (xs : Lis
           not : test ≡ false → (j < r .lo) ⊎ (new ≤ z)
           not h = _⊎_.inr (ltb-false z new (sym y ∙ h))
 
-          pub surge-asks : counting ≡ true → (length counts ≡ 1025) × (m < 16384) × (test ≡ true → (time < 1025) × (1 ≤ getD counts time 0))
+          pub surge-asks : counting ≡ true → TakeAsks test time m counts
           surge-asks h =
               let dd = w-day in
               rise-asks tt q (r .start) (r .stop) (r .lo) (R .setting) u old new xs small (Z .shift .counted h) from (reading-row d f g links (R .sound) (R .shelves) small (Z .wave .reading) ee more ej)
@@ -121,5 +121,5 @@ module _ (d f g links : List ℕ) (r : Frame) (R : Open d f g links r) (xs : Lis
               }
 
 -- what is still to be counted
-pub surge-pays : {d f g links : List ℕ} (xs : List ℕ) {r : Frame} {u new m : ℕ} {counts : List ℕ} → Open d f g links r → u < 4096 → Days (r .stop) xs → new ≡ getD xs u 0 → r .stop ≤ 1024 → Owed d f g r xs new m counts → (length counts ≡ 1025) × ((new ≡ never → ⊥) → (new < 1025) × (getD counts new 0 + m < 65536))
+pub surge-pays : {d f g links : List ℕ} (xs : List ℕ) {r : Frame} {u new m : ℕ} {counts : List ℕ} → Open d f g links r → u < 4096 → Days (r .stop) xs → new ≡ getD xs u 0 → r .stop ≤ 1024 → Owed d f g r xs new m counts → AddAsks m new counts
 surge-pays xs {u = u} R small D en top O = owing-room O (R .sound .most) (⊎-elim (λ y. _⊎_.inl (omega arith)) (λ y. _⊎_.inr (en ∙ y)) (D u small))

@@ -1,13 +1,11 @@
 // Day counts: how many rows have each day as their time. Listing keeps them up as times rise; 1,025 numbers, by day.
 ghost use mathlib.Core.Path.{_≡_};
 ghost use mathlib.Core.Bool.{true, false};
-ghost use Prim.Native.Nat.{_+_, _≤_, _<_};
-ghost use lib.ListN.{length, getD};
-ghost use Rattle.rings.specs.CoreTimes.{never};
-ghost use Rattle.rings.specs.Table.{tableOf, Split};
-ghost use Rattle.rings.specs.Ring.{query};
-ghost use Rattle.rings.specs.Inner.Peeling.{season, Framed, Span, CoreTimesAre};
+ghost use Prim.Native.Nat.{_+_};
+ghost use lib.ListN.{length};
+ghost use Rattle.rings.specs.Table.{tableOf};
 ghost use Rattle.rings.specs.Inner.Counting.{CountsBy, WhereCounted, Timed, Adding, Removing, Taking, Moving};
+ghost use Rattle.rings.specs.Inner.Counting.{AddAsks, RemoveAsks, TakeAsks, MoveAsks, CountAsks, DropAsks};
 use crate::choice::one;
 use crate::choice::pick;
 use crate::frame::Frame;
@@ -17,7 +15,7 @@ use crate::times::row_time;
 
 // m rows more with this time, if it is a day.
 pub(crate) fn add_count(counts: &mut [u16], time: u16, m: u16)
-    requires { ⌜ (length (now counts) ≡ 1025) × ((time ≡ never → ⊥) → (time < 1025) × (getD (now counts) time 0 + m < 65536)) ⌝ }
+    requires { ⌜ AddAsks m time (now counts) ⌝ }
     ensures { λ _. ⌜ Adding m time (now (counts .entry)) (now (counts .exit)) ⌝ }
 {
     if time == 65535 {
@@ -29,7 +27,7 @@ pub(crate) fn add_count(counts: &mut [u16], time: u16, m: u16)
 
 // One row fewer with this time, if it is a day.
 pub(crate) fn drop_count(counts: &mut [u16], time: u16)
-    requires { ⌜ (length (now counts) ≡ 1025) × ((time ≡ never → ⊥) → (time < 1025) × (1 ≤ getD (now counts) time 0)) ⌝ }
+    requires { ⌜ RemoveAsks time (now counts) ⌝ }
     ensures { λ _. ⌜ Removing time (now (counts .entry)) (now (counts .exit)) ⌝ }
 {
     if time == 65535 {
@@ -41,8 +39,9 @@ pub(crate) fn drop_count(counts: &mut [u16], time: u16)
 
 // Where days are counted and the test holds: one row fewer with this time, and one more of m that are still to be counted. A sum and no branch on the test: whether a row's time moves no processor foresees.
 pub(crate) fn take_count(counting: bool, counts: &mut [u16], test: bool, time: u16, m: u16) -> u16
-    requires { ⌜ (counting ≡ true → (length (now counts) ≡ 1025) × (m < 16384) × (test ≡ true → (time < 1025) × (1 ≤ getD (now counts) time 0))) ⌝ }
-    ensures { λ r. ⌜ WhereCounted counting (Taking test time m (now (counts .entry)) (now (counts .exit)) r) (now (counts .entry)) (now (counts .exit)) ⌝ }
+    requires { ⌜ (counting ≡ true → TakeAsks test time m (now counts)) ⌝ }
+    ensures { λ r. ⌜ WhereCounted counting (Taking test time m (now (counts .entry)) (now (counts .exit)) r)
+        (now (counts .entry)) (now (counts .exit)) ⌝ }
     ensures { λ r. ⌜ (counting ≡ false → r ≡ m) ⌝ }
 {
     if !counting {
@@ -56,8 +55,9 @@ pub(crate) fn take_count(counting: bool, counts: &mut [u16], test: bool, time: u
 
 // Where days are counted: the m rows that are still to be counted have this time.
 pub(crate) fn pay_counts(counting: bool, counts: &mut [u16], time: u16, m: u16)
-    requires { ⌜ (counting ≡ true → (length (now counts) ≡ 1025) × ((time ≡ never → ⊥) → (time < 1025) × (getD (now counts) time 0 + m < 65536))) ⌝ }
-    ensures { λ _. ⌜ WhereCounted counting (Adding m time (now (counts .entry)) (now (counts .exit))) (now (counts .entry)) (now (counts .exit)) ⌝ }
+    requires { ⌜ (counting ≡ true → AddAsks m time (now counts)) ⌝ }
+    ensures { λ _. ⌜ WhereCounted counting (Adding m time (now (counts .entry)) (now (counts .exit)))
+        (now (counts .entry)) (now (counts .exit)) ⌝ }
 {
     if !counting {
         return;
@@ -67,8 +67,9 @@ pub(crate) fn pay_counts(counting: bool, counts: &mut [u16], time: u16, m: u16)
 
 // Where days are counted: m rows go from one day to another time.
 pub(crate) fn move_counts(counting: bool, counts: &mut [u16], old: u16, new: u16, m: u16)
-    requires { ⌜ (counting ≡ true → (length (now counts) ≡ 1025) × (old < 1025) × (m ≤ getD (now counts) old 0) × ((new ≡ never → ⊥) → (new < 1025) × (getD (now counts) new 0 + m < 65536))) ⌝ }
-    ensures { λ _. ⌜ WhereCounted counting (Moving m old new (now (counts .entry)) (now (counts .exit))) (now (counts .entry)) (now (counts .exit)) ⌝ }
+    requires { ⌜ (counting ≡ true → MoveAsks m old new (now counts)) ⌝ }
+    ensures { λ _. ⌜ WhereCounted counting (Moving m old new (now (counts .entry)) (now (counts .exit)))
+        (now (counts .entry)) (now (counts .exit)) ⌝ }
 {
     if !counting {
         return;
@@ -88,10 +89,11 @@ pub(crate) fn count_times(
     times: &[u16],
     counts: &mut [u16],
 )
-    requires { ⌜ Framed (now days) (now first) (now second) frame ⌝ }
-    requires { ⌜ Span (now days) (frame .stop) (frame .lo) end × CoreTimesAre (now days) (now first) (now second) frame (now times) ⌝ }
-    requires { ⌜ (length (now counts) ≡ 1025) × (frame .stop ≤ 1024) ⌝ }
-    ensures { λ _. ⌜ Timed (tableOf (now (days .entry)) (now (first .entry)) (now (second .entry))) (frame .query) (frame .stop) (frame .start) (length (now (days .entry))) (now (counts .exit)) ⌝ }
+    requires { ⌜ CountAsks (now days) (now first) (now second) frame end (now times) ⌝ }
+    requires { ⌜ length (now counts) ≡ 1025 ⌝ }
+    ensures { λ _. ⌜ (
+        let t = tableOf (now (days .entry)) (now (first .entry)) (now (second .entry)) in
+        Timed t (frame .query) (frame .stop) (frame .start) (length (now (days .entry))) (now (counts .exit))) ⌝ }
 {
     clear(counts);
     let mut j = frame.lo;
@@ -113,10 +115,10 @@ pub(crate) fn drop_rows(
     times: &[u16],
     counts: &mut [u16],
 )
-    requires { ⌜ Framed (now days) (now first) (now second) frame ⌝ }
-    requires { ⌜ Span (now days) (frame .stop) (frame .lo) end × CoreTimesAre (now days) (now first) (now second) frame (now times) × (frame .stop ≤ 1024) × Split (now days) (frame .start + 1) next ⌝ }
-    requires { ⌜ Timed (tableOf (now days) (now first) (now second)) (frame .query) (frame .stop) (frame .start) (length (now days)) (now counts) ⌝ }
-    ensures { λ _. ⌜ CountsBy (now (days .entry)) (now (first .entry)) (now (second .entry)) (frame .start + 1) (frame .stop) (now (times .entry)) (now (counts .exit)) ⌝ }
+    requires { ⌜ CountAsks (now days) (now first) (now second) frame end (now times) ⌝ }
+    requires { ⌜ DropAsks (now days) (now first) (now second) frame next (now counts) ⌝ }
+    ensures { λ _. ⌜ CountsBy (now (days .entry)) (now (first .entry)) (now (second .entry))
+        (frame .start + 1) (frame .stop) (now (times .entry)) (now (counts .exit)) ⌝ }
 {
     let mut j = frame.lo;
     while j < next {

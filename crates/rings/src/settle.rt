@@ -5,10 +5,9 @@ ghost use mathlib.Core.Path.{_≡_};
 ghost use Prim.Native.Nat.{ℕ, _+_, _≤_, _<_};
 ghost use lib.ListN.{length, getD};
 ghost use Rattle.rings.specs.Table.{tableOf};
-ghost use Rattle.rings.specs.Inner.Peeling.{nextFrame, Ready, Span, CoreTimesAre};
-ghost use Rattle.rings.specs.Inner.Settling.{Spare};
+ghost use Rattle.rings.specs.Inner.Peeling.{nextFrame};
 ghost use Rattle.rings.specs.Inner.Worklist.{arrays, NearAsks, NearIs, FarAsks, AccountAsks, AttemptIs, Waits, SettledIs};
-ghost use Rattle.rings.specs.Inner.Worklist.{Leaves, LeaveAsks, LeftRow, LeftRows, StepAsks, AdvanceAsks, Advanced};
+ghost use Rattle.rings.specs.Inner.Worklist.{EachOne, EachItself, BeginAsks, Begun, Leaves, LeaveAsks, LeftRow, LeftRows, StepAsks, AdvanceAsks, Advanced};
 use crate::counts::move_counts;
 use crate::frame::Frame;
 use crate::frame::next_frame;
@@ -422,7 +421,7 @@ fn leave_rows(
 // Nobody is known to have a supporter to spare.
 fn spare_none(spare: &mut [u16])
     requires { ⌜ length (now spare) ≡ 4096 ⌝ }
-    ensures { λ _. ⌜ (length (now (spare .exit)) ≡ 4096) × ((u : ℕ) → u < 4096 → getD (now (spare .exit)) u 0 ≡ 1) ⌝ }
+    ensures { λ _. ⌜ EachOne (now (spare .exit)) ⌝ }
 {
     let mut u = 0;
     while u < 4096 {
@@ -434,7 +433,7 @@ fn spare_none(spare: &mut [u16])
 // Every account is listed.
 fn list_all(list: &mut [u16])
     requires { ⌜ length (now list) ≡ 4352 ⌝ }
-    ensures { λ _. ⌜ (length (now (list .exit)) ≡ 4352) × ((u : ℕ) → u < 4096 → getD (now (list .exit)) u 0 ≡ u) ⌝ }
+    ensures { λ _. ⌜ EachItself (now (list .exit)) ⌝ }
 {
     let mut u = 0;
     while u < 4096 {
@@ -455,10 +454,9 @@ pub(crate) fn begin(
     spare: &mut [u16],
     queue: &mut [u16],
 )
-    requires { ⌜ Ready (now days) (now first) (now second) (now links) frame ⌝ }
-    requires { ⌜ Span (now days) (frame .stop) (frame .lo) end ⌝ }
-    requires { ⌜ (length (now times) ≡ 4096) × (length (now spare) ≡ 4096) × (length (now queue) ≡ 4352) ⌝ }
-    ensures { λ _. ⌜ CoreTimesAre (now (days .entry)) (now (first .entry)) (now (second .entry)) frame (now (times .exit)) × Spare (tableOf (now (days .entry)) (now (first .entry)) (now (second .entry))) (frame .query) (frame .start) (now (times .exit)) (now (spare .exit)) ⌝ }
+    requires { ⌜ BeginAsks (now days) (now first) (now second) (now links) frame end (now times) (now spare) (now queue) ⌝ }
+    ensures { λ _. ⌜ Begun (now (days .entry)) (now (first .entry)) (now (second .entry)) frame
+        (now (times .exit)) (now (spare .exit)) ⌝ }
 {
     peel(days, first, second, links, frame, end, times, spare, queue);
     spare_none(spare);

@@ -9,6 +9,9 @@
 --     Adding, Removing      m rows more with a time, and one fewer
 --     Taking                one row fewer, and one more of those that are still to be counted, if a test says so
 --     Moving                m rows go from one time to another at once
+--     RoomOn, HasOne        a day has room for m rows more; it has one
+--     AddAsks, RemoveAsks, TakeAsks, MoveAsks    what adding, removing, taking and moving ask
+--     CountAsks, DropAsks   what counting the rows of a start asks, and taking off those of its first day
 --     Raised                the counts by the times before an account rose
 --     Timed t q hi s n xs   the histogram of the core times at s
 --     Started               what a start hands on to the next: the book, the times of the accounts, what they can spare, and the counts
@@ -20,10 +23,10 @@ use mathlib.Core.List.{List}
 use lib.ListN.{length, getD, set}
 use lib.Dec.{eqb}
 use Rattle.rings.specs.Words.{count}
-use Rattle.rings.specs.Table.{Table, tableOf, size, firstOf, secondOf}
+use Rattle.rings.specs.Table.{Table, tableOf, size, firstOf, secondOf, Split}
 use Rattle.rings.specs.CoreTimes.{never, rowTime}
 use Rattle.rings.specs.Ring.{query}
-use Rattle.rings.specs.Inner.Peeling.{guess, Open, CoreTimesAre}
+use Rattle.rings.specs.Inner.Peeling.{guess, Framed, Open, Span, CoreTimesAre}
 use Rattle.rings.specs.declared.frame.Frame.{Frame}
 use Rattle.rings.specs.Inner.Links.{openDay, opensBy, Covered}
 use Rattle.rings.specs.Inner.Settling.{Spare}
@@ -70,6 +73,37 @@ pub record Moving (m old new : ℕ) (xs xs′ : List ℕ) : Type 0 where
   pub long : length xs′ ≡ 1025
   pub each : (e : ℕ) → e < 1025 → getD xs′ e 0 + owed old m e ≡ getD xs e 0 + owed new m e
 
+-- ---- what these ask: the counts are by day, and a day that is counted on has its place
+
+-- m rows more on this day
+pub record RoomOn (m day : ℕ) (xs : List ℕ) : Type 0 where
+  pub in-days : day < 1025
+  pub few : getD xs day 0 + m < 65536
+
+-- a row that is counted on this day
+pub record HasOne (day : ℕ) (xs : List ℕ) : Type 0 where
+  pub in-days : day < 1025
+  pub one : 1 ≤ getD xs day 0
+
+pub record AddAsks (m time : ℕ) (xs : List ℕ) : Type 0 where
+  pub long : length xs ≡ 1025
+  pub room : (time ≡ never → ⊥) → RoomOn m time xs
+
+pub record RemoveAsks (time : ℕ) (xs : List ℕ) : Type 0 where
+  pub long : length xs ≡ 1025
+  pub has : (time ≡ never → ⊥) → HasOne time xs
+
+pub record TakeAsks (test : Bool) (time m : ℕ) (xs : List ℕ) : Type 0 where
+  pub long : length xs ≡ 1025
+  pub few : m < 16384
+  pub has : test ≡ true → HasOne time xs
+
+pub record MoveAsks (m old new : ℕ) (xs : List ℕ) : Type 0 where
+  pub long : length xs ≡ 1025
+  pub from-day : old < 1025
+  pub enough : m ≤ getD xs old 0
+  pub room : (new ≡ never → ⊥) → RoomOn m new xs
+
 -- u rose from old to new; xs are the times after that
 pub record Raised (t : Table) (s hi u old new : ℕ) (xs counts : List ℕ) : Type 0 where
   pub was : List ℕ
@@ -83,6 +117,18 @@ pub record Raised (t : Table) (s hi u old new : ℕ) (xs counts : List ℕ) : Ty
 
 abbrev pub Timed : Table → Query → ℕ → ℕ → ℕ → List ℕ → Type 0
 Timed t q hi s n xs = Histogram (rowTime t q hi s) n xs
+
+-- the times of a start, of which counts are made or taken
+pub record CountAsks (d f g : List ℕ) (p : Frame) (end : ℕ) (times : List ℕ) : Type 0 where
+  pub framed : Framed d f g p
+  pub span : Span d (p .stop) (p .lo) end
+  pub times-are : CoreTimesAre d f g p times
+  pub in-days : p .stop ≤ 1024
+
+-- the rows below next are those dated up to the first day, and are counted still
+pub record DropAsks (d f g : List ℕ) (p : Frame) (next : ℕ) (counts : List ℕ) : Type 0 where
+  pub follows : Split d (p .start + 1) next
+  pub timed : Timed (tableOf d f g) (p .query) (p .stop) (p .start) (length d) counts
 
 pub record Started (d f g sc : List ℕ) (p : Frame) (times spare counts : List ℕ) : Type 0 where
   pub opened : Open d f g sc p

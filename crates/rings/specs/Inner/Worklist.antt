@@ -10,6 +10,7 @@
 --     CountsStay            the counts stay where days are not counted
 --     FarAsks, AccountAsks, AttemptIs    the long way, and both
 --     Waits, AtTimes, SettledIs          a whole start: who waits at first, the times at last, and what holds by its answer
+--     EachOne, EachItself, BeginAsks, Begun    a start from nothing
 --     Leaves, LeaveAsks, LeftRow, LeftRows    the rows of the first day leave
 --     StepAsks              from the rows that leave to the next start's times
 --     AdvanceAsks, Advanced    the same with the whole book at hand
@@ -21,7 +22,7 @@ use lib.ListN.{length, getD}
 use Rattle.rings.specs.Table.{Table, tableOf, size, Split}
 use Rattle.rings.specs.CoreTimes.{never}
 use Rattle.rings.specs.Inner.Links.{Reading, Every, Covered}
-use Rattle.rings.specs.Inner.Peeling.{guess, nextFrame, Ready, Placed, Open, CoreTimesAre}
+use Rattle.rings.specs.Inner.Peeling.{guess, nextFrame, Ready, Placed, Open, Span, CoreTimesAre}
 use Rattle.rings.specs.Inner.Settling.{Days, Behind, Short, Lessened, Leaving, Queued, Rising, Spare, Risen}
 use Rattle.rings.specs.Inner.Counting.{CountsBy, WhereCounted, Raised, Timed}
 use Rattle.rings.specs.declared.frame.Frame.{Frame}
@@ -159,6 +160,29 @@ pub record AtTimes (d f g : List ℕ) (p : Frame) (counting : Bool) (times count
 abbrev pub SettledIs : Settled → List ℕ → List ℕ → List ℕ → Frame → Bool → List ℕ → List ℕ → Arrays → Type 0
 SettledIs (Settled.Risen n) d f g p counting times counts a = AtTimes d f g p counting times counts a n
 SettledIs Settled.GaveUp d f g p counting times counts a = CountsStay counting counts (a .counts)
+
+-- ---- a start from nothing
+
+-- nobody is known to have a supporter to spare
+pub record EachOne (xs : List ℕ) : Type 0 where
+  pub long : length xs ≡ 4096
+  pub each : (u : ℕ) → u < 4096 → getD xs u 0 ≡ 1
+
+-- every account is listed
+pub record EachItself (xs : List ℕ) : Type 0 where
+  pub long : length xs ≡ 4352
+  pub each : (u : ℕ) → u < 4096 → getD xs u 0 ≡ u
+
+pub record BeginAsks (d f g links : List ℕ) (p : Frame) (end : ℕ) (times sp ws : List ℕ) : Type 0 where
+  pub ready : Ready d f g links p
+  pub span : Span d (p .stop) (p .lo) end
+  pub times-long : length times ≡ 4096
+  pub spare-long : length sp ≡ 4096
+  pub queue-long : length ws ≡ 4352
+
+pub record Begun (d f g : List ℕ) (p : Frame) (times sp : List ℕ) : Type 0 where
+  pub times-are : CoreTimesAre d f g p times
+  pub spares : Spare (tableOf d f g) (p .query) (p .start) times sp
 
 -- ---- the rows of the first day leave
 

@@ -20,14 +20,14 @@ slice-read-counts : tie.Need-slice-read-counts
 slice-read-counts c =
     let if1 = c .before .if1 in
     let pre = c .before .before .pre in
-    omega (arith, pre .0, (pre .1) (if1 .left) .0)
+    omega (arith, pre .long, pre .room (if1 .left) .in-days)
 
 -- src/rows.rt:51:17
 add-counts : tie.Need-add-counts
 add-counts c =
     let if1 = c .before .if1 in
     let pre = c .before .before .pre in
-    omega (arith, (pre .1) (if1 .left) .1)
+    omega (arith, pre .room (if1 .left) .few)
 
 -- src/rows.rt:51:5
 mul-counts-2 : tie.Need-mul-counts-2
@@ -38,7 +38,7 @@ slice-write-counts : tie.Need-slice-write-counts
 slice-write-counts c =
     let if1 = c .before .if1 in
     let pre = c .before .before .pre in
-    omega (arith, pre .0, (pre .1) (if1 .left) .0)
+    omega (arith, pre .long, pre .room (if1 .left) .in-days)
 
 -- src/rows.rt:43:1
 same-length : tie.Need-same-length

@@ -33,15 +33,15 @@ loop-holds c =
     let clear = c .before .before .clear in
     let pre = c .before .before .before .before .before .before .before .before .before .pre in (
       omega arith,
-      pre .1 .0 .0 .ordered,
-      hist-start _ _ _ (pre .1 .1 .0) (clear .ensures) (λ j h. row-before _ _ _ _ j (pre .0 .setting .before-lo j h)),
+      pre .0 .span .ordered,
+      hist-start _ _ _ (pre .1) (clear .ensures) (λ j h. row-before _ _ _ _ j (pre .0 .framed .setting .before-lo j h)),
     )
 
 -- src/counts.rt:86:13
 row-time-requires : tie.Need-row-time-requires Inv-loop μ-loop
 row-time-requires c κs =
     let pre = c .before .before .before .before .before .before .before .before .before .before .before .pre in
-    (pre .0, (pre .1 .0 .0, (pre .1 .0 .1, omega (arith, c .loop-test .taken, pre .1 .0 .0 .within))))
+    (pre .0 .framed, (pre .0 .span, (pre .0 .times-are, omega (arith, c .loop-test .taken, pre .0 .span .within))))
 
 -- src/counts.rt:87:9
 add-count-requires : tie.Need-add-count-requires Inv-loop μ-loop
@@ -50,15 +50,15 @@ add-count-requires c κs =
     let loop-test = c .before .before .loop-test in
     let loop = c .before .before .before .loop in
     let pre = c .before .before .before .before .before .before .before .before .before .before .before .before .before .pre in
-    hist-few _ (loop .inv .2) (omega (arith, loop-test .taken, pre .1 .0 .0 .within, pre .0 .sound .most))
-    (is-time _ _ _ _ _ (pre .1 .1 .1) (row-time .ensures))
+    hist-few _ (loop .inv .2) (omega (arith, loop-test .taken, pre .0 .span .within, pre .0 .framed .sound .most))
+    (is-time _ _ _ _ _ (pre .0 .in-days) (row-time .ensures))
 
 -- src/counts.rt:88:9
 add-j : tie.Need-add-j Inv-loop μ-loop
 add-j c =
     let loop-test = c .before .before .before .before .before .loop-test in
     let pre = c .before .before .before .before .before .before .before .before .before .before .before .before .before .before .before .before .pre in
-    omega (arith, loop-test .taken, pre .1 .0 .0 .within, pre .0 .sound .most)
+    omega (arith, loop-test .taken, pre .0 .span .within, pre .0 .framed .sound .most)
 
 -- src/counts.rt:85:5
 loop-less : tie.Need-loop-less Inv-loop μ-loop
@@ -83,15 +83,15 @@ same-length : tie.Need-same-length Inv-loop μ-loop
 same-length c =
     let loop = c .before .loop in
     let pre = c .before .before .before .before .before .before .before .before .before .before .before .pre in
-    loop .inv .2 .long ∙ sym (pre .1 .1 .0)
+    loop .inv .2 .long ∙ sym (pre .1)
 
 -- src/counts.rt:66:1
 returns : tie.Need-returns Inv-loop μ-loop
 returns c =
     let loop = c .before .loop in
     let pre = c .before .before .before .before .before .before .before .before .before .before .before .pre in
-    hist-past _ (loop .inv .2) (omega (arith, loop .inv .1, pre .1 .0 .0 .within))
-    (λ j a b. sym (row-late _ _ _ _ (pre .0) (pre .1 .0 .0) (pre .1 .0 .1) b (omega (arith, a, c .loop-test .left))))
+    hist-past _ (loop .inv .2) (omega (arith, loop .inv .1, pre .0 .span .within))
+    (λ j a b. sym (row-late _ _ _ _ (pre .0 .framed) (pre .0 .span) (pre .0 .times-are) b (omega (arith, a, c .loop-test .left))))
 
 pub count-times-spec : {M : Type 1} → statement M
 count-times-spec =

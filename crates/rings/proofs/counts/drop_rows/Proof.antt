@@ -26,20 +26,20 @@ loop-holds : tie.Need-loop-holds Inv-loop μ-loop
 loop-holds c =
     let pre = c .before .before .before .before .before .pre in (
       omega arith,
-      drop-from _ _ _ _ _ _ _ (pre .0 .setting) (pre .1 .0 .1) (pre .1 .0 .3)
-          (omega (arith, pre .1 .0 .0 .ordered, pre .1 .0 .0 .within)),
-      drop-start _ _ _ _ _ _ _ (pre .0 .setting) (pre .1 .0 .1) (pre .1 .0 .3)
+      drop-from _ _ _ _ _ _ _ (pre .0 .framed .setting) (pre .0 .times-are) (pre .1 .follows)
+          (omega (arith, pre .0 .span .ordered, pre .0 .span .within)),
+      drop-start _ _ _ _ _ _ _ (pre .0 .framed .setting) (pre .0 .times-are) (pre .1 .follows)
           (
-          drop-from _ _ _ _ _ _ _ (pre .0 .setting) (pre .1 .0 .1) (pre .1 .0 .3)
-          (omega (arith, pre .1 .0 .0 .ordered, pre .1 .0 .0 .within))
-          ) (pre .1 .1),
+          drop-from _ _ _ _ _ _ _ (pre .0 .framed .setting) (pre .0 .times-are) (pre .1 .follows)
+          (omega (arith, pre .0 .span .ordered, pre .0 .span .within))
+          ) (pre .1 .timed),
     )
 
 -- src/counts.rt:113:13
 row-time-requires : tie.Need-row-time-requires Inv-loop μ-loop
 row-time-requires c κs =
     let pre = c .before .before .before .before .before .before .before .pre in
-    (pre .0, (pre .1 .0 .0, (pre .1 .0 .1, omega (arith, c .loop-test .taken, pre .1 .0 .3 .within))))
+    (pre .0 .framed, (pre .0 .span, (pre .0 .times-are, omega (arith, c .loop-test .taken, pre .1 .follows .within))))
 
 -- src/counts.rt:114:9
 drop-count-requires : tie.Need-drop-count-requires Inv-loop μ-loop
@@ -48,7 +48,7 @@ drop-count-requires c κs =
     let loop-test = c .before .before .loop-test in
     let loop = c .before .before .before .loop in
     let pre = c .before .before .before .before .before .before .before .before .before .pre in
-    drop-asks _ _ _ _ _ _ _ (pre .0 .setting) (pre .1 .0 .1) (pre .1 .0 .3) (loop-test .taken) (pre .1 .0 .2)
+    drop-asks _ _ _ _ _ _ _ (pre .0 .framed .setting) (pre .0 .times-are) (pre .1 .follows) (loop-test .taken) (pre .0 .in-days)
     (row-time .ensures) (loop .inv .2)
 
 -- src/counts.rt:115:9
@@ -56,7 +56,7 @@ add-j : tie.Need-add-j Inv-loop μ-loop
 add-j c =
     let loop-test = c .before .before .before .before .before .loop-test in
     let pre = c .before .before .before .before .before .before .before .before .before .before .before .before .pre in
-    omega (arith, loop-test .taken, pre .1 .0 .3 .within, pre .0 .sound .most)
+    omega (arith, loop-test .taken, pre .1 .follows .within, pre .0 .framed .sound .most)
 
 -- src/counts.rt:112:5
 loop-less : tie.Need-loop-less Inv-loop μ-loop
@@ -74,7 +74,7 @@ loop-again c =
     let pre = c .before .before .before .before .before .before .before .before .before .before .before .before .pre in (
       omega (arith, loop .inv .0),
       omega (arith, loop-test .taken),
-      drop-next _ _ _ _ _ _ _ (pre .0 .setting) (pre .1 .0 .1) (pre .1 .0 .3) (loop-test .taken) (pre .1 .0 .2)
+      drop-next _ _ _ _ _ _ _ (pre .0 .framed .setting) (pre .0 .times-are) (pre .1 .follows) (loop-test .taken) (pre .0 .in-days)
           (row-time .ensures) (loop .inv .2) (drop-count .ensures),
     )
 
@@ -83,14 +83,14 @@ same-length : tie.Need-same-length Inv-loop μ-loop
 same-length c =
     let loop = c .before .loop in
     let pre = c .before .before .before .before .before .before .before .pre in
-    loop .inv .2 .long ∙ sym (pre .1 .1 .long)
+    loop .inv .2 .long ∙ sym (pre .1 .timed .long)
 
 -- src/counts.rt:93:1
 returns : tie.Need-returns Inv-loop μ-loop
 returns c =
     let loop = c .before .loop in
     let pre = c .before .before .before .before .before .before .before .pre in
-    drop-end _ _ _ _ _ _ _ (pre .0 .setting) (pre .1 .0 .1) (pre .1 .0 .3) (c .loop-test .left) (loop .inv .2)
+    drop-end _ _ _ _ _ _ _ (pre .0 .framed .setting) (pre .0 .times-are) (pre .1 .follows) (c .loop-test .left) (loop .inv .2)
 
 pub drop-rows-spec : {M : Type 1} → statement M
 drop-rows-spec =

@@ -31,7 +31,7 @@ slice-read-counts c =
     let wide = c .before .wide in
     let if1 = c .before .before .if1 in
     let pre = c .before .before .before .before .pre in
-    omega (arith, wide .ensures, (pre (not-false _ (if1 .left))) .0, (pre (not-false _ (if1 .left))) .1)
+    omega (arith, wide .ensures, (pre (not-false _ (if1 .left))) .long, (pre (not-false _ (if1 .left))) .from-day)
 
 -- src/counts.rt:74:17
 sub-counts : tie.Need-sub-counts
@@ -40,7 +40,7 @@ sub-counts c =
     let if1 = c .before .before .if1 in
     let args = c .before .before .before .before .args in
     let pre = c .before .before .before .before .pre in
-    subst (λ (i : ℕ). args .m ≤ getD (args .counts .now) i 0) (sym (wide .ensures)) ((pre (not-false _ (if1 .left))) .2)
+    subst (λ (i : ℕ). args .m ≤ getD (args .counts .now) i 0) (sym (wide .ensures)) ((pre (not-false _ (if1 .left))) .enough)
 
 -- src/counts.rt:74:5
 mul-counts-2 : tie.Need-mul-counts-2
@@ -52,7 +52,7 @@ slice-write-counts c =
     let wide = c .before .wide in
     let if1 = c .before .before .if1 in
     let pre = c .before .before .before .before .pre in
-    omega (arith, wide .ensures, (pre (not-false _ (if1 .left))) .0, (pre (not-false _ (if1 .left))) .1)
+    omega (arith, wide .ensures, (pre (not-false _ (if1 .left))) .long, (pre (not-false _ (if1 .left))) .from-day)
 
 -- src/counts.rt:75:5
 add-count-requires : tie.Need-add-count-requires
@@ -61,10 +61,10 @@ add-count-requires c κs =
     let if1 = c .before .before .before .if1 in
     let args = c .before .before .before .before .before .args in
     let pre = c .before .before .before .before .before .pre in
-    moving-room _ _ _ (args .counts .now) _ ((pre (not-false _ (if1 .left))) .0) ((pre (not-false _ (if1 .left))) .1)
-    ((pre (not-false _ (if1 .left))) .2)
+    moving-room _ _ _ (args .counts .now) _ ((pre (not-false _ (if1 .left))) .long) ((pre (not-false _ (if1 .left))) .from-day)
+    ((pre (not-false _ (if1 .left))) .enough)
     (ap (λ (i : ℕ). set (args .counts .now) i (getD (args .counts .now) i 0 - args .m)) (wide .ensures))
-    ((pre (not-false _ (if1 .left))) .3)
+    ((pre (not-false _ (if1 .left))) .room)
 
 -- src/counts.rt:66:1
 same-length : tie.Need-same-length
@@ -84,8 +84,8 @@ returns-2 c =
     let args = c .before .before .before .before .before .before .before .before .args in
     let pre = c .before .before .before .before .before .before .before .before .pre in
     record {
-      counted = λ h. moving-made _ _ _ (args .counts .now) _ ((pre (not-false _ (if1 .left))) .0)
-          ((pre (not-false _ (if1 .left))) .1) ((pre (not-false _ (if1 .left))) .2)
+      counted = λ h. moving-made _ _ _ (args .counts .now) _ ((pre (not-false _ (if1 .left))) .long)
+          ((pre (not-false _ (if1 .left))) .from-day) ((pre (not-false _ (if1 .left))) .enough)
           (ap (λ (i : ℕ). set (args .counts .now) i (getD (args .counts .now) i 0 - args .m)) (wide .ensures))
           (add-count .ensures);
       same = λ h. clash (not-false _ (if1 .left)) h;

@@ -42,7 +42,7 @@ slice-read-counts c =
     let args = c .before .before .before .before .before .before .args in
     let pre = c .before .before .before .before .before .before .pre in
     take-place (args .counts .now) (λ y. wide .ensures ∙ pick .ensures .0 y, λ y. wide .ensures ∙ pick .ensures .1 y)
-    (one .ensures) (pre (not-false _ (if1 .left)) .2) (pre (not-false _ (if1 .left)) .0)
+    (one .ensures) (pre (not-false _ (if1 .left)) .has) (pre (not-false _ (if1 .left)) .long)
 
 -- src/counts.rt:50:17
 sub-counts : tie.Need-sub-counts
@@ -54,7 +54,7 @@ sub-counts c =
     let args = c .before .before .before .before .before .before .args in
     let pre = c .before .before .before .before .before .before .pre in
     take-less (args .counts .now) (λ y. wide .ensures ∙ pick .ensures .0 y, λ y. wide .ensures ∙ pick .ensures .1 y)
-    (one .ensures) (pre (not-false _ (if1 .left)) .2)
+    (one .ensures) (pre (not-false _ (if1 .left)) .has)
 
 -- src/counts.rt:50:5
 mul-counts-2 : tie.Need-mul-counts-2
@@ -70,7 +70,7 @@ slice-write-counts c =
     let args = c .before .before .before .before .before .before .args in
     let pre = c .before .before .before .before .before .before .pre in
     take-place (args .counts .now) (λ y. wide .ensures ∙ pick .ensures .0 y, λ y. wide .ensures ∙ pick .ensures .1 y)
-    (one .ensures) (pre (not-false _ (if1 .left)) .2) (pre (not-false _ (if1 .left)) .0)
+    (one .ensures) (pre (not-false _ (if1 .left)) .has) (pre (not-false _ (if1 .left)) .long)
 
 -- src/counts.rt:51:5
 add-result : tie.Need-add-result
@@ -84,8 +84,8 @@ add-result c =
     omega (
       arith,
       take-few (args .counts .now) (λ y. wide .ensures ∙ pick .ensures .0 y, λ y. wide .ensures ∙ pick .ensures .1 y)
-          (one .ensures) (pre (not-false _ (if1 .left)) .2),
-      pre (not-false _ (if1 .left)) .1,
+          (one .ensures) (pre (not-false _ (if1 .left)) .has),
+      pre (not-false _ (if1 .left)) .few,
     )
 
 -- src/counts.rt:41:1
@@ -102,7 +102,7 @@ returns-2 c =
     let args = c .before .before .before .before .before .before .args in
     let pre = c .before .before .before .before .before .before .pre in (
       record
-          { counted = λ h. take-end (args .counts .now) (λ y. wide .ensures ∙ pick .ensures .0 y, λ y. wide .ensures ∙ pick .ensures .1 y) (one .ensures) (pre (not-false _ (if1 .left)) .2); same = λ h. clash (not-false _ (if1 .left)) h },
+          { counted = λ h. take-end (args .counts .now) (λ y. wide .ensures ∙ pick .ensures .0 y, λ y. wide .ensures ∙ pick .ensures .1 y) (one .ensures) (pre (not-false _ (if1 .left)) .has); same = λ h. clash (not-false _ (if1 .left)) h },
       λ h. clash (not-false _ (if1 .left)) h,
     )
 

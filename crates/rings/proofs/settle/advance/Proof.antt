@@ -56,15 +56,13 @@ begin-requires c κs =
     let step = c .before .before .before .before .before .before .before .before .before .before .before .before .before .step in
     let pre = c .before .before .before .before .before .before .before .before .before .before .before .before .before .before .before .before .before .before .before .before .before .before .before .before .before .pre in
     rw (next .ensures) (
-      pre .ready,
-      (
-        span-after (omega (arith, pre .ordered)) (pre .follows) (pre .ends),
-        (
-          step .kept .1 .1 .1 .1 .1 .1 .1 .0 ∙ pre .times-are .long,
-          step .kept .1 .1 .1 .1 .1 .1 .1 .1 .0 ∙ pre .spares .long,
-          step .kept .1 .1 .1 .1 .1 .1 .1 .1 .1 .0 ∙ pre .queue-long,
-        ),
-      ),
+    record {
+      ready = pre .ready;
+      span = span-after (omega (arith, pre .ordered)) (pre .follows) (pre .ends);
+      times-long = step .kept .1 .1 .1 .1 .1 .1 .1 .0 ∙ pre .times-are .long;
+      spare-long = step .kept .1 .1 .1 .1 .1 .1 .1 .1 .0 ∙ pre .spares .long;
+      queue-long = step .kept .1 .1 .1 .1 .1 .1 .1 .1 .1 .0 ∙ pre .queue-long;
+    }
     )
 
 -- src/settle.rt:550:13
@@ -115,9 +113,9 @@ returns-2 c =
     let next = c .before .before .before .before .before .before .before .before .before .before .before .before .before .before .next-frame in
     let done = rw (next .ensures) at (begin .ensures) in
     record {
-      times-are = done .0;
-      spares = done .1;
-      listed = all-risen (list-all .ensures .0) (list-all .ensures .1);
+      times-are = done .times-are;
+      spares = done .spares;
+      listed = all-risen (list-all .ensures .long) (list-all .ensures .each);
     }
 
 pub advance-spec : {M : Type 1} → statement M

@@ -12,7 +12,7 @@ use Rattle.rings.proofs.settle.spare_none.Reads as spare-none-reads
 peel-requires : tie.Need-peel-requires
 peel-requires c κs =
     let pre = c .before .before .before .before .before .before .before .before .before .before .pre in
-    (pre .0, (pre .1 .0, record { times = pre .1 .1 .0; left = pre .1 .1 .1; queue = omega (arith, pre .1 .1 .2) }))
+    (pre .ready, (pre .span, record { times = pre .times-long; left = pre .spare-long; queue = omega (arith, pre .queue-long) }))
 
 -- src/settle.rt:422:5
 spare-none-requires : tie.Need-spare-none-requires
@@ -35,10 +35,11 @@ returns : tie.Need-returns
 returns c =
     let spare-none = c .before .before .spare-none in
     let peel = c .before .before .before .before .before .before .before .before .before .before .peel in
-    let pre = c .before .before .before .before .before .before .before .before .before .before .before .before .before .before .before .before .before .before .before .before .before .pre in (
-      peel .ensures,
-      spare-ones _ _ _ _ _ _ _ (pre .0 .setting) (peel .ensures) (spare-none .ensures .0) (spare-none .ensures .1),
-    )
+    let pre = c .before .before .before .before .before .before .before .before .before .before .before .before .before .before .before .before .before .before .before .before .before .pre in
+    record {
+      times-are = peel .ensures;
+      spares = spare-ones _ _ _ _ _ _ _ (pre .ready .setting) (peel .ensures) (spare-none .ensures .long) (spare-none .ensures .each);
+    }
 
 pub begin-spec : {M : Type 1} → statement M
 begin-spec =

@@ -58,7 +58,7 @@ same-length c =
 returns : tie.Need-returns Inv-loop μ-loop
 returns c =
     let loop = c .before .loop in
-    (loop .inv .1 .long, λ u h. loop .inv .1 .filled u (omega (arith, c .loop-test .left, h)))
+    record { long = loop .inv .1 .long; each = λ u h. loop .inv .1 .filled u (omega (arith, c .loop-test .left, h)) }
 
 pub spare-none-spec : {M : Type 1} → statement M
 spare-none-spec =

@@ -28,24 +28,27 @@ move-heads-requires c κs =
 begin-requires : tie.Need-begin-requires
 begin-requires c κs =
     let move-heads = c .before .before .before .before .before .before .move-heads in
-    let pre = c .before .before .before .before .before .before .before .before .before .before .before .before .before .before .before .before .before .before .before .before .pre in (
-      ready-of (pre .0) (move-heads .ensures .linked) (pre .1 .1 .0 .0) (pre .1 .1 .0 .2) (pre .1 .1 .0 .3),
-      (
-        (span-after (pre .1 .1 .0 .1) (pre .1 .1 .0 .3) (pre .1 .1 .0 .4)),
-        (pre .1 .1 .1 .0, pre .1 .1 .1 .1, pre .1 .1 .1 .2),
-      ),
-    )
+    let pre = c .before .before .before .before .before .before .before .before .before .before .before .before .before .before .before .before .before .before .before .before .pre in
+    record {
+      ready = ready-of (pre .0) (move-heads .ensures .linked) (pre .1 .1 .0 .0) (pre .1 .1 .0 .2) (pre .1 .1 .0 .3);
+      span = span-after (pre .1 .1 .0 .1) (pre .1 .1 .0 .3) (pre .1 .1 .0 .4);
+      times-long = pre .1 .1 .1 .0;
+      spare-long = pre .1 .1 .1 .1;
+      queue-long = pre .1 .1 .1 .2;
+    }
 
 -- src/starts.rt:86:5
 count-times-requires : tie.Need-count-times-requires
 count-times-requires c κs =
     let begin = c .before .before .before .before .before .before .before .before .begin in
     let pre = c .before .before .before .before .before .before .before .before .before .before .before .before .before .before .before .before .before .before .before .before .before .before .before .before .before .before .before .before .before .pre in (
-      (framed-of (pre .0) (pre .1 .1 .0 .0) (pre .1 .1 .0 .2) (pre .1 .1 .0 .3)),
-      (
-        ((span-after (pre .1 .1 .0 .1) (pre .1 .1 .0 .3) (pre .1 .1 .0 .4)), begin .ensures .0),
-        (pre .1 .1 .1 .3, pre .1 .1 .0 .2),
-      ),
+      record {
+        framed = framed-of (pre .0) (pre .1 .1 .0 .0) (pre .1 .1 .0 .2) (pre .1 .1 .0 .3);
+        span = span-after (pre .1 .1 .0 .1) (pre .1 .1 .0 .3) (pre .1 .1 .0 .4);
+        times-are = begin .ensures .times-are;
+        in-days = pre .1 .1 .0 .2;
+      },
+      pre .1 .1 .1 .3,
     )
 
 -- src/starts.rt:87:5
@@ -54,7 +57,7 @@ trim-requires c κs =
     let begin = c .before .before .before .before .before .before .before .before .before .before .before .before .before .begin in
     let move-heads = c .before .before .before .before .before .before .before .before .before .before .before .before .before .before .before .before .before .before .before .before .move-heads in
     let pre = c .before .before .before .before .before .before .before .before .before .before .before .before .before .before .before .before .before .before .before .before .before .before .before .before .before .before .before .before .before .before .before .before .before .before .pre in
-    record { sound = pre .0; linked = move-heads .ensures .linked; times = begin .ensures .0 .long }
+    record { sound = pre .0; linked = move-heads .ensures .linked; times = begin .ensures .times-are .long }
 
 -- src/starts.rt:49:1
 same-length : tie.Need-same-length
@@ -93,8 +96,8 @@ returns c =
         opened = open-of (pre .0) (trim .ensures .shelves) (pre .1 .1 .0 .0) (pre .1 .1 .0 .2) (pre .1 .1 .0 .3);
         covered = trim .ensures .covered _
             (linked-covered (move-heads .ensures .linked) _ ((framed-of (pre .0) (pre .1 .1 .0 .0) (pre .1 .1 .0 .2) (pre .1 .1 .0 .3)) .setting .from-lo));
-        times-are = begin .ensures .0;
-        spares = begin .ensures .1;
+        times-are = begin .ensures .times-are;
+        spares = begin .ensures .spares;
         timed = count-times .ensures;
       };
     }

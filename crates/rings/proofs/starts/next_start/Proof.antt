@@ -20,8 +20,13 @@ drop-rows-requires : tie.Need-drop-rows-requires
 drop-rows-requires c κs =
     let pre = c .before .before .before .before .before .before .before .before .before .before .pre in
     let here = pre .0 .inside in (
-      open-framed (here .opened),
-      ((span-of (pre .1 .0 .0) (pre .1 .0 .2) (pre .1 .0 .4), here .times-are, pre .1 .0 .1, pre .1 .0 .3), here .timed),
+      record {
+        framed = open-framed (here .opened);
+        span = span-of (pre .1 .0 .0) (pre .1 .0 .2) (pre .1 .0 .4);
+        times-are = here .times-are;
+        in-days = pre .1 .0 .1;
+      },
+      record { follows = pre .1 .0 .3; timed = here .timed },
     )
 
 -- src/starts.rt:96:5
