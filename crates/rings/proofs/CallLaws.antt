@@ -20,8 +20,9 @@ use Rattle.rings.specs.CoreTimes.{never}
 use Rattle.rings.specs.CoreTimesCall.{timesAnswer, accountColumn, rowColumn}
 use Rattle.rings.specs.Windows.{Entry, minimalWindows}
 use Rattle.rings.specs.MinimalWindowsCall.{minimalChecks, minimalAnswer, entryColumn, minimalRows, minimalStarts, minimalEnds}
-use Rattle.rings.specs.Inner.Closing.{place}
+use Rattle.rings.specs.RecallCall.{Columns}
 use Rattle.rings.specs.Inner.Answers.{RingFound, TimesFound}
+use Rattle.rings.specs.Inner.Closing.{firstPlace, WindowsFound}
 use Rattle.rings.specs.WindowRingCall.{ringChecks, ringAnswer, ringMarks}
 use Rattle.rings.specs.declared.Query.{Query}
 use Rattle.rings.specs.declared.refusal.Refusal.{Refusal}
@@ -32,6 +33,7 @@ use Rattle.rings.specs.declared.refusal.Counted.{Counted}
 use Rattle.rings.proofs.CheckLaws.{then-refused, then-accepted, counted-yes, counted-no}
 use Rattle.rings.proofs.AcceptedLaws.{shared, scratch-kept, then-room}
 use Rattle.rings.proofs.PlaceLaws.{list-length}
+use Rattle.rings.proofs.ColumnLaws.{ListWritten}
 
 -- ---- Window ring
 
@@ -69,22 +71,39 @@ module _ (t : Table) (q : Query) (lo hi s : ℕ) (a r sc : List ℕ) {window len
 
 -- ---- Minimal windows
 
-module _ (t : Table) (q : Query) (lo hi : ℕ) (fits : hi < never) (rows starts ends sc : List ℕ) {total : ℕ} (et : total ≡ place t q lo hi (length (t .days)) 0) where
+module _ (t : Table) (q : Query) (lo hi : ℕ) (fits : hi < never) (c : Columns) (sc : List ℕ) {total : ℕ} (et : total ≡ firstPlace t q lo hi (length (t .days))) where
   abbrev list : List Entry
   list = minimalWindows t q lo hi
 
   is-length : total ≡ length list
   is-length = et ∙ sym (list-length t q lo hi fits)
 
-  pub windows-full : {sc′ rows′ starts′ ends′ : List ℕ} → length rows′ < total → (rows′ ≡ rows) × (starts′ ≡ starts) × (ends′ ≡ ends) → sc′ ≡ replicate (length sc) 0
-      → (Counted.Refused NoRoom ≡ counted (NoRoom when ltb (length rows) (length list)) (length list)) × ((rows′ ≡ minimalRows (Counted.Refused NoRoom) t q lo hi rows) × ((starts′ ≡ minimalStarts (Counted.Refused NoRoom) t q lo hi starts) × ((ends′ ≡ minimalEnds (Counted.Refused NoRoom) t q lo hi ends) × (sc′ ≡ countedScratch (Counted.Refused NoRoom) sc))))
+  pub windows-full : {sc′ : List ℕ} {c′ : Columns} → length (c′ .rows) < total → c′ ≡ c → sc′ ≡ replicate (length sc) 0
+      → WindowsFound t q lo hi (Counted.Refused NoRoom) c sc c′ sc′
   unfolding _when_ minimalRows minimalStarts minimalEnds entryColumn countedScratch scratchOn clearedIf cleared behindScratch
-  windows-full h w es = (sym (counted-no (length list) (ap (λ (b : Bool). NoRoom when b) (lt-ltb (length rows) (length list) (subst (λ (n : ℕ). length rows < n) is-length (subst (λ (xs : List ℕ). length xs < total) (w .0) h))))), (w .0, (w .1, (w .2, es))))
+  windows-full h w es =
+      let l : length (c .rows) < total = subst (λ (b : Columns). length (b .rows) < total) w h in
+      let m = subst (λ (n : ℕ). length (c .rows) < n) is-length l in
+      record {
+        answer = sym (counted-no (length list) (ap (λ (b : Bool). NoRoom when b) (lt-ltb (length (c .rows)) (length list) m)));
+        in-rows = ap (λ (b : Columns). b .rows) w;
+        in-starts = ap (λ (b : Columns). b .starts) w;
+        in-ends = ap (λ (b : Columns). b .ends) w;
+        scratch = es;
+      }
 
-  pub windows-found : {sc′ rows′ starts′ ends′ : List ℕ} → total ≤ length rows → (rows′ ≡ over (map (λ (x : Entry). x .row) list) rows) × (starts′ ≡ over (map (λ (x : Entry). x .start) list) starts) × (ends′ ≡ over (map (λ (x : Entry). x .end) list) ends) → sc′ ≡ replicate (length sc) 0
-      → (Counted.Count total ≡ counted (NoRoom when ltb (length rows) (length list)) (length list)) × ((rows′ ≡ minimalRows (Counted.Count total) t q lo hi rows) × ((starts′ ≡ minimalStarts (Counted.Count total) t q lo hi starts) × ((ends′ ≡ minimalEnds (Counted.Count total) t q lo hi ends) × (sc′ ≡ countedScratch (Counted.Count total) sc))))
+  pub windows-found : {sc′ : List ℕ} {c′ : Columns} → total ≤ length (c .rows) → ListWritten t q lo hi c c′ → sc′ ≡ replicate (length sc) 0
+      → WindowsFound t q lo hi (Counted.Count total) c sc c′ sc′
   unfolding _when_ minimalRows minimalStarts minimalEnds entryColumn countedScratch cleared
-  windows-found h w es = (ap Counted.Count is-length ∙ sym (counted-yes (length list) (ap (λ (b : Bool). NoRoom when b) (le-ltb (length rows) (length list) (subst (λ (n : ℕ). n ≤ length rows) is-length h)))), (w .0, (w .1, (w .2, es))))
+  windows-found h w es =
+      let m = subst (λ (n : ℕ). n ≤ length (c .rows)) is-length h in
+      record {
+        answer = ap Counted.Count is-length ∙ sym (counted-yes (length list) (ap (λ (b : Bool). NoRoom when b) (le-ltb (length (c .rows)) (length list) m)));
+        in-rows = w .in-rows;
+        in-starts = w .in-starts;
+        in-ends = w .in-ends;
+        scratch = es;
+      }
 
 module _ (t : Table) (q : Query) (lo hi : ℕ) (rows starts ends sc : List ℕ) {window lengths : Bool} (ew : window ≡ (leb 1 lo and leb lo hi and leb hi 1024)) (el : lengths ≡ (eqb (length starts) (length rows) and eqb (length ends) (length rows))) where
   abbrev room : Verdict

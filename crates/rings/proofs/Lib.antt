@@ -28,6 +28,7 @@ pub mod CallLaws
 pub mod TimeLaws
 pub mod RecallLaws
 pub mod PlaceLaws
+pub mod ColumnLaws
 pub mod ClosingLaws
 pub mod LookLaws
 pub mod LossLaws

@@ -11,3 +11,6 @@ pub(crate) const ADJACENCY: usize = 8192;
 
 // The most rows of a table.
 pub(crate) const ROWS: usize = 16384;
+
+// Places of the queue of settling: 256 more than there are accounts.
+pub(crate) const QUEUE: usize = 4352;
