@@ -1,4 +1,5 @@
--- From one start to the next, row by row. Behind the links the scratch keeps a time for each row, so that a row whose time changes is seen as it changes. p is the frame of the start that closes.
+-- From one start to the next, row by row. Behind the links the scratch keeps a time for each row, so that a row whose time changes
+-- is seen as it changes. p is the frame of the start that closes.
 --     timeOf t sc j          the time kept for row j
 --     timeNow, timeNext      the time of row j at the start, and at the day after it
 --     Kept t p sc            those are the row times at the start, and the heads stand there
