@@ -29,7 +29,7 @@ use Rattle.rings.specs.Ring.{joins, neighbour, names, degree, touches, m
 use Rattle.rings.specs.CoreTimes.{never, accountTime}
 use Rattle.rings.specs.Inner.Links.{otherOf, fresh}
 use Rattle.rings.specs.Inner.Support.{supports, supporters}
-use Rattle.rings.specs.Inner.Peeling.{Losable, Lost, Setting, Fell, Here, Rows, Place, fallen, Queue, guess, Times, Fall, nothing, passing, Walk}
+use Rattle.rings.specs.Inner.Peeling.{Losable, Lost, Setting, Fell, Here, Rows, Place, fallen, Queue, Degrees, guess, Times, Fall, nothing, passing, Walk}
 use Rattle.rings.specs.declared.Query.{Query}
 use Rattle.rings.specs.declared.frame.Frame.{Frame}
 use Rattle.rings.proofs.WordLaws.{look, clash, and-i, and-l, and-r, or-l, or-r, or-e, no-i, no-e, same-truth, count-mono, count-less, count-same}
@@ -396,24 +396,28 @@ module _ (t : Table) (frame : Frame) (S : Setting t (frame .query) (frame .start
     pub losable : Losable (q .k) tail v x d w
     losable = record { buffers = F .buffers; small = k; some = lose-one; room = lose-room }
 
-    now-less : getD (set d v (getD d v 0 - 1)) v 0 ≡ getD d v 0 - 1
+    -- one neighbour fewer for v
+    abbrev less : List ℕ
+    less = set d v (getD d v 0 - 1)
+
+    now-less : getD less v 0 ≡ getD d v 0 - 1
     now-less = getD-set-same d v (getD d v 0 - 1) 0 (let n = F .buffers .left in omega arith)
 
     -- of v, and of those who have fallen
-    many-now : (u : ℕ) → u < 4096 → (u ≡ v) ⊎ Fell x u → count (λ i. without (F .live) j v i u) (size t) ≤ getD (set d v (getD d v 0 - 1)) u 0
+    many-now : (u : ℕ) → u < 4096 → (u ≡ v) ⊎ Fell x u → count (λ i. without (F .live) j v i u) (size t) ≤ getD less u 0
     many-now u a o =
-        ⊎-elim (λ y. subst (λ (c : ℕ). count (λ i. without (F .live) j v i c) (size t) ≤ getD (set d v (getD d v 0 - 1)) c 0) (sym y)
+        ⊎-elim (λ y. subst (λ (c : ℕ). count (λ i. without (F .live) j v i c) (size t) ≤ getD less c 0) (sym y)
         (let m = most-live in let n = one-fewer in let g = now-less in omega arith))
-        (λ y. let g : getD (set d v (getD d v 0 - 1)) u 0 ≡ getD d u 0 = getD-set-other d v u (getD d v 0 - 1) 0 y in
+        (λ y. let g : getD less u 0 ≡ getD d u 0 = getD-set-other d v u (getD d v 0 - 1) 0 y in
         let c : count (λ i. without (F .live) j v i u) (size t) ≡ count (λ i. F .live i u) (size t) =
         count-same (λ i. without (F .live) j v i u) (λ i. F .live i u) (size t) (λ i b. without-other (F .live) j v i u (λ e. y (e .1))) in
         ⊎-elim (λ e. absurd (y e)) (λ f. let m = F .counts .many u a f in omega arith) o) (same-or u v)
 
-    few-now : (u : ℕ) → u < 4096 → (u ≡ v → getD d v 0 ≤ q .k) → (u ≡ v) ⊎ Fell x u → getD (set d v (getD d v 0 - 1)) u 0 < q .k
+    few-now : (u : ℕ) → u < 4096 → (u ≡ v → getD d v 0 ≤ q .k) → (u ≡ v) ⊎ Fell x u → getD less u 0 < q .k
     few-now u a le o =
-        ⊎-elim (λ y. subst (λ (c : ℕ). getD (set d v (getD d v 0 - 1)) c 0 < q .k) (sym y)
+        ⊎-elim (λ y. subst (λ (c : ℕ). getD less c 0 < q .k) (sym y)
         (let m = le y in let n = lose-one in let g = now-less in omega arith))
-        (λ y. let g : getD (set d v (getD d v 0 - 1)) u 0 ≡ getD d u 0 =
+        (λ y. let g : getD less u 0 ≡ getD d u 0 =
         getD-set-other d v u (getD d v 0 - 1) 0 y in ⊎-elim (λ e. absurd (y e)) (λ f. let m = F .counts .few u a f in omega arith) o) (same-or u v)
 
     why-all : (i u : ℕ) → i < size t → passed′ i u ≡ true → ((otherOf t i u < 4096) × Fell x (otherOf t i u)) ⊎ (e ≤ dayOf t i)
@@ -424,53 +428,48 @@ module _ (t : Table) (frame : Frame) (S : Setting t (frame .query) (frame .start
         (λ b. F .passed-why i u l (sym (P .rest i u (λ e. b (e .1))) ∙ h)) (same-or u v))
         (λ a. F .passed-why i u l (sym (P .rest i u (λ e. a (e .0))) ∙ h)) (same-or i j)
 
-    -- the three outcomes of a loss
-    kept-state : Fell x v → Fall t frame 4096 e r head tail passed′ x (set d v (getD d v 0 - 1)) w
-    kept-state f =
+    -- nobody falls: only the counts are others
+    lost-state : Degrees t q 4096 (without (F .live) j v) x less → Fall t frame 4096 e r head tail passed′ x less w
+    lost-state D =
         record {
           buffers = record { times = F .buffers .times; left = length-set d v (getD d v 0 - 1) ∙ F .buffers .left; queue = F .buffers .queue };
           walked = F .walked;
           live = without (F .live) j v;
           rows = rows-pass j v P (F .rows);
           queue = F .queue;
-          counts = record {
-            degrees = λ u a g. getD-set-other d v u (getD d v 0 - 1) 0 (not-v u g) ∙ counts-kept (F .live) x d j v f (F .counts .degrees) u a g;
-            enough = λ u a b g. rw (getD-set-other d v u (getD d v 0 - 1) 0 (not-v u g)) (F .counts .enough u a b g);
-            many = λ u a g. many-now u a (_⊎_.inr g);
-            few = λ u a g. few-now u a (λ y. let m = F .counts .few v k f in omega arith) (_⊎_.inr g);
-          };
+          counts = D;
           times = F .times;
           passed-why = why-all;
           left-why = F .left-why;
         }
+
+    -- the three outcomes of a loss
+    kept-state : Fell x v → Fall t frame 4096 e r head tail passed′ x less w
+    kept-state f =
+        lost-state (record {
+          degrees = λ u a g. getD-set-other d v u (getD d v 0 - 1) 0 (not-v u g) ∙ counts-kept (F .live) x d j v f (F .counts .degrees) u a g;
+          enough = λ u a b g. rw (getD-set-other d v u (getD d v 0 - 1) 0 (not-v u g)) (F .counts .enough u a b g);
+          many = λ u a g. many-now u a (_⊎_.inr g);
+          few = λ u a g. few-now u a (λ y. let m = F .counts .few v k f in omega arith) (_⊎_.inr g);
+        })
       where
         not-v : (u : ℕ) → getD x u 0 ≡ 0 → u ≡ v → ⊥
         not-v u g y = f (ap (λ (c : ℕ). getD x c 0) (sym y) ∙ g)
 
-    lower-state : getD x v 0 ≡ 0 → q .k < getD d v 0 → Fall t frame 4096 e r head tail passed′ x (set d v (getD d v 0 - 1)) w
+    lower-state : getD x v 0 ≡ 0 → q .k < getD d v 0 → Fall t frame 4096 e r head tail passed′ x less w
     lower-state z h =
-        record {
-          buffers = record { times = F .buffers .times; left = length-set d v (getD d v 0 - 1) ∙ F .buffers .left; queue = F .buffers .queue };
-          walked = F .walked;
-          live = without (F .live) j v;
-          rows = rows-pass j v P (F .rows);
-          queue = F .queue;
-          counts = record {
-            degrees = counts-lost (F .live) x d j v (here .below) k (F .buffers .left) counted z (F .counts .degrees);
-            enough =
-                λ u a b g. ⊎-elim
-                (λ y. subst (λ (c : ℕ). q .k ≤ getD (set d v (getD d v 0 - 1)) c 0) (sym y)
-                (rw (getD-set-same d v (getD d v 0 - 1) 0 (let n = F .buffers .left in omega arith)) (omega arith)))
-                (λ y. rw (getD-set-other d v u (getD d v 0 - 1) 0 y) (F .counts .enough u a b g)) (same-or u v);
-            many = λ u a g. many-now u a (_⊎_.inr g);
-            few = λ u a g. few-now u a (λ y. absurd (g (ap (λ (c : ℕ). getD x c 0) y ∙ z))) (_⊎_.inr g);
-          };
-          times = F .times;
-          passed-why = why-all;
-          left-why = F .left-why;
-        }
+        lost-state (record {
+          degrees = counts-lost (F .live) x d j v (here .below) k (F .buffers .left) counted z (F .counts .degrees);
+          enough =
+              λ u a b g. ⊎-elim
+              (λ y. subst (λ (c : ℕ). q .k ≤ getD less c 0) (sym y)
+              (rw (getD-set-same d v (getD d v 0 - 1) 0 (let n = F .buffers .left in omega arith)) (omega arith)))
+              (λ y. rw (getD-set-other d v u (getD d v 0 - 1) 0 y) (F .counts .enough u a b g)) (same-or u v);
+          many = λ u a g. many-now u a (_⊎_.inr g);
+          few = λ u a g. few-now u a (λ y. absurd (g (ap (λ (c : ℕ). getD x c 0) y ∙ z))) (_⊎_.inr g);
+        })
 
-    fall-state : getD x v 0 ≡ 0 → getD d v 0 ≤ q .k → Fall t frame 4096 e r head (tail + 1) passed′ (set x v e) (set d v (getD d v 0 - 1)) (set w tail v)
+    fall-state : getD x v 0 ≡ 0 → getD d v 0 ≤ q .k → Fall t frame 4096 e r head (tail + 1) passed′ (set x v e) less (set w tail v)
     fall-state z h =
         record {
           buffers =
@@ -500,7 +499,7 @@ module _ (t : Table) (frame : Frame) (S : Setting t (frame .query) (frame .start
         R : Rows t lo r passed′ (F .walked) (without (F .live) j v)
         R = rows-pass j v P (F .rows)
 
-        D : (u : ℕ) → u < 4096 → getD x u 0 ≡ 0 → getD (set d v (getD d v 0 - 1)) u 0 ≡ count (λ i. without (F .live) j v i u) (size t)
+        D : (u : ℕ) → u < 4096 → getD x u 0 ≡ 0 → getD less u 0 ≡ count (λ i. without (F .live) j v i u) (size t)
         D = counts-lost (F .live) x d j v (here .below) k (F .buffers .left) counted z (F .counts .degrees)
 
         fell-now : (u : ℕ) → Fell (set x v e) u → (u ≡ v) ⊎ Fell x u
@@ -509,8 +508,8 @@ module _ (t : Table) (frame : Frame) (S : Setting t (frame .query) (frame .start
         few : count (λ i. without (F .live) j v i v) (size t) < q .k
         few =
             let a : 0 < getD d v 0 = lose-one in
-            let c : getD (set d v (getD d v 0 - 1)) v 0 ≡ getD d v 0 - 1 = getD-set-same d v (getD d v 0 - 1) 0 (let n = F .buffers .left in omega arith) in
-            let g : getD (set d v (getD d v 0 - 1)) v 0 ≡ count (λ i. without (F .live) j v i v) (size t) = D v k z in omega arith
+            let c : getD less v 0 ≡ getD d v 0 - 1 = getD-set-same d v (getD d v 0 - 1) 0 (let n = F .buffers .left in omega arith) in
+            let g : getD less v 0 ≡ count (λ i. without (F .live) j v i v) (size t) = D v k z in omega arith
 
         fell-v : (u : ℕ) → u ≡ v → getD (set x v e) u 0 ≡ 0 → ⊥
         fell-v u y g = let p = F .times .e-pos in let a : getD (set x v e) u 0 ≡ e = ap (λ (c : ℕ). getD (set x v e) c 0) y

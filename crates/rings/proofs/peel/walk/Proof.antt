@@ -2,7 +2,8 @@
 -- Assumes nothing.
 use native.Mathlib.Omega.{arith}
 use Prim.Native.Nat.{_-_}
-use Rattle.rings.proofs.WalkLaws.{At, head-small, head-place, at-small, at-start, at-stands, at-few, at-stop, at-out, at-room, at-lose, at-skip}
+use Rattle.rings.proofs.WalkLaws.{At, head-small, head-place, at-small, at-start, at-stands, at-few, at-stop}
+use Rattle.rings.proofs.WalkLaws.{at-out, at-room, at-lose, at-skip}
 use Rattle.rings.proofs.peel.walk.Statement.{statement}
 use Rattle.rings.proofs.peel.walk.Tie as tie
 use Rattle.rings.proofs.peel.walk.Reads as reads
@@ -58,7 +59,9 @@ loop-holds c =
 -- src/peel.rt:95:13
 row-at-requires : tie.Need-row-at-requires Inv-loop μ-loop
 row-at-requires c κs =
-    let pre = c .before .before .before .before .before .before .before .before .before .before .before .before .before .pre in
+    let pre =
+    c .before .before .before .before .before .before .before .before .before .before .before .before
+    .before .pre in
     let loop = c .before .loop in
     let loop-test = c .loop-test in
     at-stands _ _ _ _ _ (pre .0) (loop .inv) (loop-test .taken)
@@ -66,7 +69,9 @@ row-at-requires c κs =
 -- src/peel.rt:101:23
 add-t21 : tie.Need-add-t21 Inv-loop μ-loop
 add-t21 c =
-    let pre = c .before .before .before .before .before .before .before .before .before .before .before .before .before .before .before .before .before .pre in
+    let pre =
+    c .before .before .before .before .before .before .before .before .before .before .before .before .before
+    .before .before .before .before .pre in
     omega (arith, head-small _ _ _ _ _ (pre .0) (pre .1))
 
 -- src/peel.rt:98:13
@@ -90,7 +95,9 @@ same-length-3 c =
 -- src/peel.rt:98:13
 returns : tie.Need-returns Inv-loop μ-loop
 returns c =
-    let pre = c .before .before .before .before .before .before .before .before .before .before .before .before .before .before .before .before .before .pre in
+    let pre =
+    c .before .before .before .before .before .before .before .before .before .before .before .before .before
+    .before .before .before .before .pre in
     let loop = c .before .before .before .before .before .loop in
     let loop-test = c .before .before .before .before .loop-test in
     let row-at = c .before .before .before .row-at in
@@ -100,7 +107,9 @@ returns c =
 -- src/peel.rt:105:9
 add-p : tie.Need-add-p Inv-loop μ-loop
 add-p c =
-    let pre = c .before .before .before .before .before .before .before .before .before .before .before .before .before .before .before .before .pre in
+    let pre =
+    c .before .before .before .before .before .before .before .before .before .before .before .before .before
+    .before .before .before .pre in
     let loop = c .before .before .before .before .loop in
     let loop-test = c .before .before .before .loop-test in
     omega (arith, at-few _ _ _ _ _ (pre .0) (loop .inv) (loop-test .taken))
@@ -108,7 +117,9 @@ add-p c =
 -- src/peel.rt:108:13
 lose-requires : tie.Need-lose-requires Inv-loop μ-loop
 lose-requires c κs =
-    let pre = c .before .before .before .before .before .before .before .before .before .before .before .before .before .before .before .before .before .before .before .before .before .before .pre in
+    let pre =
+    c .before .before .before .before .before .before .before .before .before .before .before .before .before
+    .before .before .before .before .before .before .before .before .before .pre in
     let loop = c .before .before .before .before .before .before .before .before .before .before .loop in
     let loop-test = c .before .before .before .before .before .before .before .before .before .loop-test in
     let row-at = c .before .before .before .before .before .before .before .before .row-at in
@@ -119,20 +130,34 @@ lose-requires c κs =
 -- src/peel.rt:94:5
 loop-less : tie.Need-loop-less Inv-loop μ-loop
 loop-less c =
-    let loop-test = c .before .before .before .before .before .before .before .before .before .before .before .before .before .before .before .before .loop-test in
+    let loop-test =
+    c .before .before .before .before .before .before .before .before .before .before .before .before .before
+    .before .before .before .loop-test in
     omega (arith, loop-test .taken)
 
 -- src/peel.rt:94:5
 loop-again : tie.Need-loop-again Inv-loop μ-loop
 loop-again c =
-    let pre = c .before .before .before .before .before .before .before .before .before .before .before .before .before .before .before .before .before .before .before .before .before .before .before .before .before .before .before .before .before .pre in
-    let loop = c .before .before .before .before .before .before .before .before .before .before .before .before .before .before .before .before .before .loop in
-    let loop-test = c .before .before .before .before .before .before .before .before .before .before .before .before .before .before .before .before .loop-test in
-    let row-at = c .before .before .before .before .before .before .before .before .before .before .before .before .before .before .before .row-at in
-    let if1 = c .before .before .before .before .before .before .before .before .before .before .before .before .before .if1 in
+    let pre =
+    c .before .before .before .before .before .before .before .before .before .before .before .before .before
+    .before .before .before .before .before .before .before .before .before .before .before .before .before .before
+    .before .before .pre in
+    let loop =
+    c .before .before .before .before .before .before .before .before .before .before .before .before .before
+    .before .before .before .before .loop in
+    let loop-test =
+    c .before .before .before .before .before .before .before .before .before .before .before .before .before
+    .before .before .before .loop-test in
+    let row-at =
+    c .before .before .before .before .before .before .before .before .before .before .before .before .before
+    .before .before .row-at in
+    let if1 =
+    c .before .before .before .before .before .before .before .before .before .before .before .before
+    .before .if1 in
     let if2 = c .before .before .before .before .before .before .before .before .before .before .if2 in
     let lose = c .before .before .before .before .before .before .lose in
-    at-lose _ _ _ _ _ (pre .0) (loop .inv) (loop-test .taken) (row-at .ensures) (if1 .left) (if2 .taken) (lose .kept .1 .1 .1 .1 .0) (lose .kept .1 .1 .1 .1 .1 .0) (lose .kept .1 .1 .1 .1 .1 .1 .0) (lose .ensures)
+    at-lose _ _ _ _ _ (pre .0) (loop .inv) (loop-test .taken) (row-at .ensures) (if1 .left) (if2 .taken)
+    (lose .kept .1 .1 .1 .1 .0) (lose .kept .1 .1 .1 .1 .1 .0) (lose .kept .1 .1 .1 .1 .1 .1 .0) (lose .ensures)
 
 -- src/peel.rt:94:5
 loop-less-2 : tie.Need-loop-less-2 Inv-loop μ-loop
@@ -143,7 +168,9 @@ loop-less-2 c =
 -- src/peel.rt:94:5
 loop-again-2 : tie.Need-loop-again-2 Inv-loop μ-loop
 loop-again-2 c =
-    let pre = c .before .before .before .before .before .before .before .before .before .before .before .before .before .before .before .before .before .before .before .pre in
+    let pre =
+    c .before .before .before .before .before .before .before .before .before .before .before .before .before
+    .before .before .before .before .before .before .pre in
     let loop = c .before .before .before .before .before .before .before .loop in
     let loop-test = c .before .before .before .before .before .before .loop-test in
     let row-at = c .before .before .before .before .before .row-at in
@@ -153,7 +180,9 @@ loop-again-2 c =
 -- src/peel.rt:115:15
 add-t19 : tie.Need-add-t19 Inv-loop μ-loop
 add-t19 c =
-    let pre = c .before .before .before .before .before .before .before .before .before .before .before .before .before .before .pre in
+    let pre =
+    c .before .before .before .before .before .before .before .before .before .before .before .before .before
+    .before .pre in
     omega (arith, head-small _ _ _ _ _ (pre .0) (pre .1))
 
 -- src/peel.rt:74:1
@@ -177,7 +206,9 @@ same-length-6 c =
 -- src/peel.rt:74:1
 returns-2 : tie.Need-returns-2 Inv-loop μ-loop
 returns-2 c =
-    let pre = c .before .before .before .before .before .before .before .before .before .before .before .before .before .before .pre in
+    let pre =
+    c .before .before .before .before .before .before .before .before .before .before .before .before .before
+    .before .pre in
     let loop = c .before .before .loop in
     let loop-test = c .before .loop-test in
     at-out _ _ _ _ _ (pre .0) (loop .inv) (loop-test .left)
