@@ -5,12 +5,14 @@
 --   unblank-yes      from position i on: a blank is passed
 --   unblank-no       the first byte that is no blank
 --   unblank-end      the end
+--   BlanksPassed    the invariant of the loop that skips blanks
 --   digit-yes        a byte from 48 to 57 is a digit
 --   digit-between    and a digit is one of these
 --   digits-next      from position i on: a digit is passed
 --   digits-low       a byte below 48
 --   digits-high      a byte above 57
 --   digits-end       the end
+--   DigitsPassed    the invariant of the loop that tests digits
 --   numeral-none     no byte is no numeral
 --   numeral-one      one byte is one if it is a digit
 --   numeral-zero     more bytes that start with 0 are none
@@ -21,6 +23,7 @@
 --   digit-at         one of them
 --   value-next       a digit's part of the value
 --   value-end        the value of no digits
+--   DigitsSummed    the invariant of the loop that sums
 --   value-few        the value of few digits
 --   numeral-above    a numeral of more than k digits is at least 10 ^ k
 --   broken-field     what a field holds, for any limit: no numeral
@@ -75,6 +78,11 @@ pub unblank-end : (f : List ℕ) (i : ℕ) → i ≡ length f → drop i f ≡ u
 unfolding unblank
 unblank-end f i e = rw (e, drop-length f)
 
+-- through the loop that skips blanks: the first i bytes are blanks
+pub record BlanksPassed (f : List ℕ) (i : ℕ) : Type 0 where
+  pub within : i ≤ length f
+  pub rest : unblank (drop i f) ≡ unblank f
+
 -- ---- digits
 
 digits-cons : (f : List ℕ) (i : ℕ) → i < length f → allDigits (drop i f) ≡ (isDigit (getD f i 0) && allDigits (drop (suc i) f))
@@ -104,6 +112,11 @@ digits-high f i h g = digits-cons f i h ∙ rw (lt-leb (getD f i 0) 57 g, and-fa
 pub digits-end : (f : List ℕ) (i : ℕ) → i ≡ length f → allDigits (drop i f) ≡ true
 unfolding allDigits
 digits-end f i e = rw (e, drop-length f)
+
+-- through the loop that tests digits: the first i bytes are digits
+pub record DigitsPassed (f : List ℕ) (i : ℕ) : Type 0 where
+  pub within : i ≤ length f
+  pub rest : allDigits (drop i f) ≡ allDigits f
 
 -- ---- numerals
 
@@ -157,6 +170,11 @@ value-next f i p h q =
 pub value-end : (f : List ℕ) (i : ℕ) → i ≡ length f → value (drop i f) ≡ 0
 unfolding value
 value-end f i e = rw (e, drop-length f)
+
+-- through the loop that sums: the parts of the first i digits
+pub record DigitsSummed (f : List ℕ) (sum i : ℕ) : Type 0 where
+  pub within : i ≤ length f
+  pub total : sum + value (drop i f) ≡ value f
 
 -- so no sum of its digits' parts overflows
 pub value-few : {f : List ℕ} → FewDigits f → value f < 10 ^ mostDigits

@@ -14,6 +14,7 @@
 --   early-end      a byte 10 before the end
 --   unended-line   no byte 10 at the end
 --   whole-line     byte 10 at the end alone
+--   NoEndPassed    the invariant of the loop that looks for byte 10
 --   line-ends      the byte at the end decides
 --   whole-size     a whole line has its size
 --   whole-first    a whole first line is the text's first bytes
@@ -147,6 +148,12 @@ whole-line s n p l h e =
     let size : length (firstLine s) ≡ n = ap length f ∙ length-take-le n s l in
     let end : getD (firstLine s) (n - 1) 0 ≡ 10 = ap (λ (x : List ℕ). getD x (n - 1) 0) f ∙ getD-take n s (n - 1) 0 (omega arith) ∙ e in
     both-true _ _ (eq-eqb _ _ size) (eq-eqb _ _ end)
+
+-- through the loop that looks for byte 10: none of the first i bytes is one
+pub record NoEndPassed (s : List ℕ) (width last i : ℕ) : Type 0 where
+  pub within : i ≤ last
+  pub fits : width ≤ length s
+  pub none : (k : ℕ) → k < i → getD s k 0 ≡ 10 → ⊥
 
 -- the byte at the end decides
 pub line-ends : (s : List ℕ) (n i : ℕ) → 0 < n → n ≤ length s → n - 1 ≤ i → ((k : ℕ) → k < i → getD s k 0 ≡ 10 → ⊥)

@@ -1,22 +1,21 @@
 -- `text::decimal::blanks` meets its contract: every byte passed is a blank, so the field from there on has the same number.
 -- Assumes nothing.
-use Prim.Native.Nat.{_≤_, _-_}
-use mathlib.Core.Path.{_≡_, refl, sym, _∙_}
+use Prim.Native.Nat.{_-_}
+use mathlib.Core.Path.{refl, sym, _∙_}
 use native.Mathlib.Omega.{arith}
-use lib.ListN.{length, drop}
-use Rattle.text.specs.Decimal.{unblank}
-use Rattle.text.proofs.FieldLaws.{unblank-yes, unblank-no, unblank-end}
+use lib.ListN.{length}
+use Rattle.text.proofs.FieldLaws.{BlanksPassed, unblank-yes, unblank-no, unblank-end}
 use Rattle.text.proofs.decimal.blanks.Statement.{statement}
 use Rattle.text.proofs.decimal.blanks.Tie as tie
 
 abbrev Inv-loop : tie.InvT-loop
-Inv-loop f i₀ i = (i ≤ length f) × (unblank (drop i f) ≡ unblank f)
+Inv-loop f i₀ i = BlanksPassed f i
 
 abbrev μ-loop : tie.MeasureT-loop
 μ-loop f i₀ i = length f - i
 
 loop-holds : tie.Need-loop-holds Inv-loop μ-loop
-loop-holds c = (omega arith, refl)
+loop-holds c = record { within = omega arith; rest = refl }
 
 shared-slice-read-if1 : tie.Need-shared-slice-read-if1 Inv-loop μ-loop
 shared-slice-read-if1 c = omega arith
@@ -26,7 +25,7 @@ returns c =
     let at-loop = c .before .before .before in
     let f = at-loop .before .args .f .now in
     let l = at-loop .loop in
-    record { within = omega arith; rest = unblank-no f (l .i) (omega arith) (c .if1 .taken) ∙ l .inv .1 }
+    record { within = omega arith; rest = unblank-no f (l .i) (omega arith) (c .if1 .taken) ∙ l .inv .rest }
 
 add-i : tie.Need-add-i Inv-loop μ-loop
 add-i c = omega arith
@@ -39,13 +38,13 @@ loop-again c =
     let at-loop = c .before .before .before in
     let f = at-loop .before .args .f .now in
     let l = at-loop .loop in
-    (omega arith, sym (unblank-yes f (l .i) (omega arith) (c .if1 .left)) ∙ l .inv .1)
+    record { within = omega arith; rest = sym (unblank-yes f (l .i) (omega arith) (c .if1 .left)) ∙ l .inv .rest }
 
 returns-2 : tie.Need-returns-2 Inv-loop μ-loop
 returns-2 c =
     let at-loop = c .before in
     let l = at-loop .loop in
-    record { within = omega arith; rest = unblank-end (at-loop .before .args .f .now) (l .i) (omega arith) ∙ l .inv .1 }
+    record { within = omega arith; rest = unblank-end (at-loop .before .args .f .now) (l .i) (omega arith) ∙ l .inv .rest }
 
 pub blanks-spec : {M : Type 1} → statement M
 blanks-spec =

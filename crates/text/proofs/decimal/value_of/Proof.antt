@@ -1,22 +1,20 @@
 -- `text::decimal::value_of` meets its contract: the sum so far and the value of the rest are the whole value, which is below 10 ^ 5.
 -- Assumes nothing.
-use Prim.Native.Nat.{_+_, _≤_, _-_}
-use mathlib.Core.Path.{_≡_}
+use Prim.Native.Nat.{_-_}
 use native.Mathlib.Omega.{arith}
-use lib.ListN.{length, drop}
-use Rattle.text.specs.Decimal.{value}
-use Rattle.text.proofs.FieldLaws.{digit-at, value-few, value-next, value-end}
+use lib.ListN.{length}
+use Rattle.text.proofs.FieldLaws.{DigitsSummed, digit-at, value-few, value-next, value-end}
 use Rattle.text.proofs.decimal.value_of.Statement.{statement}
 use Rattle.text.proofs.decimal.value_of.Tie as tie
 
 abbrev Inv-loop : tie.InvT-loop
-Inv-loop f sum₀ i₀ sum i = (i ≤ length f) × (sum + value (drop i f) ≡ value f)
+Inv-loop f sum₀ i₀ sum i = DigitsSummed f sum i
 
 abbrev μ-loop : tie.MeasureT-loop
 μ-loop f sum₀ i₀ sum i = length f - i
 
 loop-holds : tie.Need-loop-holds Inv-loop μ-loop
-loop-holds c = (omega arith, omega arith)
+loop-holds c = record { within = omega arith; total = omega arith }
 
 shared-slice-read-digit : tie.Need-shared-slice-read-digit Inv-loop μ-loop
 shared-slice-read-digit c = omega arith
@@ -66,7 +64,7 @@ loop-again c =
     let at-loop = c .before .before .before in
     let f = at-loop .before .before .args .f .now in
     let next = value-next f (at-loop .loop .i) (c .place .result) (omega arith) (c .place .ensures) in
-    (omega arith, omega (arith, next))
+    record { within = omega arith; total = omega (arith, next) }
 
 returns : tie.Need-returns Inv-loop μ-loop
 returns c =

@@ -1,16 +1,15 @@
 -- `text::lines::is_whole` meets its contract: no byte passed is a byte 10, so the byte at the end decides.
 -- Assumes nothing.
-use Prim.Native.Nat.{ℕ, _≤_, _<_, _-_}
-use mathlib.Core.Path.{_≡_, sym}
+use Prim.Native.Nat.{_-_}
+use mathlib.Core.Path.{sym}
 use native.Mathlib.Omega.{arith}
-use lib.ListN.{length, getD}
 use borrow.Author.Count.{below-none, below-more}
-use Rattle.text.proofs.SplitLaws.{short-line, early-end, line-ends}
+use Rattle.text.proofs.SplitLaws.{NoEndPassed, short-line, early-end, line-ends}
 use Rattle.text.proofs.lines.is_whole.Statement.{statement}
 use Rattle.text.proofs.lines.is_whole.Tie as tie
 
 abbrev Inv-loop : tie.InvT-loop
-Inv-loop s width last i₀ i = (i ≤ last) × (width ≤ length s) × ((k : ℕ) → k < i → getD s k 0 ≡ 10 → ⊥)
+Inv-loop s width last i₀ i = NoEndPassed s width last i
 
 abbrev μ-loop : tie.MeasureT-loop
 μ-loop s width last i₀ i = last - i
@@ -24,7 +23,7 @@ sub-last : tie.Need-sub-last Inv-loop μ-loop
 sub-last c = omega arith
 
 loop-holds : tie.Need-loop-holds Inv-loop μ-loop
-loop-holds c = (omega arith, omega arith, below-none _)
+loop-holds c = record { within = omega arith; fits = omega arith; none = below-none _ }
 
 shared-slice-read-if2 : tie.Need-shared-slice-read-if2 Inv-loop μ-loop
 shared-slice-read-if2 c = omega arith
@@ -43,7 +42,8 @@ loop-less c = omega arith
 
 loop-again : tie.Need-loop-again Inv-loop μ-loop
 loop-again c =
-    (omega arith, omega arith, below-more _ _ (c .before .before .before .loop .inv .2) (c .if2 .left))
+    let none = below-more _ _ (c .before .before .before .loop .inv .none) (c .if2 .left) in
+    record { within = omega arith; fits = omega arith; none = none }
 
 shared-slice-read-result : tie.Need-shared-slice-read-result Inv-loop μ-loop
 shared-slice-read-result c = omega arith
@@ -53,7 +53,7 @@ returns-3 c =
     let at-loop = c .before .before in
     let a = at-loop .before .before .args in
     let l = at-loop .loop in
-    sym (line-ends (a .s .now) (a .width) (l .i) (omega arith) (omega arith) (omega arith) (l .inv .2))
+    sym (line-ends (a .s .now) (a .width) (l .i) (omega arith) (omega arith) (omega arith) (l .inv .none))
 
 pub is-whole-spec : {M : Type 1} → statement M
 is-whole-spec =
