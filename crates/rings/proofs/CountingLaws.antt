@@ -27,7 +27,9 @@ use Rattle.rings.specs.Ring.{query}
 use Rattle.rings.specs.Inner.Links.{openDay, opensBy}
 use Rattle.rings.specs.Inner.Peeling.{Setting, season, guess, CoreTimesAre}
 use Rattle.rings.specs.Inner.Counting.{timeBy, IsTime, Histogram, WhereCounted, owed, Owing, Adding, Removing, Taking, Moving, RoomOn, HasOne, AddAsks, RemoveAsks, MoveAsks}
+use Rattle.rings.specs.Inner.Choice.{Picked}
 use Rattle.rings.proofs.WordLaws.{look, tally-yes, tally-no, count-le, count-mono, count-same, count-none, count-pos, same-or}
+use Rattle.rings.proofs.ChoiceLaws.{picked-most}
 use Rattle.rings.specs.declared.Query.{Query}
 use Rattle.rings.proofs.PairLaws.{count-drop}
 use Rattle.rings.proofs.LeadLaws.{Opens, open-own, open-day, day-opens, opens-e, opens-i, opens-not, row-opens, row-shut}
@@ -244,20 +246,20 @@ module _ {g : ℕ → ℕ} {n : ℕ} {xs : List ℕ} (T : Histogram g n xs) {j v
 
 -- ---- what `take_count` does
 
-module _ (xs : List ℕ) {test : Bool} {time e more : ℕ} (w : (test ≡ true → e ≡ time) × (test ≡ false → e ≡ 0)) (o : (test ≡ true → more ≡ 1) × (test ≡ false → more ≡ 0)) (ask : test ≡ true → HasOne time xs) where
+module _ (xs : List ℕ) {test : Bool} {time e more : ℕ} (w : Picked test time 0 e) (o : Picked test 1 0 more) (ask : test ≡ true → HasOne time xs) where
   pub take-place : length xs ≡ 1025 → e < length xs
-  take-place l = ⊎-elim (λ y. let a = w .0 y in let b = ask y .in-days in omega arith) (λ y. let a = w .1 y in omega arith) (look test)
+  take-place l = ⊎-elim (λ y. let a = w .yes y in let b = ask y .in-days in omega arith) (λ y. let a = w .no y in omega arith) (look test)
 
   pub take-less : more ≤ getD xs e 0
-  take-less = ⊎-elim (λ y. let a : getD xs e 0 ≡ getD xs time 0 = ap (λ (c : ℕ). getD xs c 0) (w .0 y) in let b = ask y .one in let c = o .0 y in omega arith) (λ y. let c = o .1 y in omega arith) (look test)
+  take-less = ⊎-elim (λ y. let a : getD xs e 0 ≡ getD xs time 0 = ap (λ (c : ℕ). getD xs c 0) (w .yes y) in let b = ask y .one in let c = o .yes y in omega arith) (λ y. let c = o .no y in omega arith) (look test)
 
   pub take-few : more ≤ 1
-  take-few = ⊎-elim (λ y. let c = o .0 y in omega arith) (λ y. let c = o .1 y in omega arith) (look test)
+  take-few = picked-most o
 
   pub take-end : {m : ℕ} → Taking test time m xs (set xs e (getD xs e 0 - more)) (m + more)
   take-end {m} =
-      ⊎-elim (λ y. Taking.one y (ap (λ (c : ℕ). set xs c (getD xs c 0 - more)) (w .0 y) ∙ ap (λ (c : ℕ). set xs time (getD xs time 0 - c)) (o .0 y)) (ap (λ (c : ℕ). m + c) (o .0 y)))
-      (λ y. Taking.none y (ap (λ (c : ℕ). set xs e (getD xs e 0 - c)) (o .1 y) ∙ (ap (set xs e) (let z : getD xs e 0 - 0 ≡ getD xs e 0 = omega arith in z) ∙ set-getD xs e 0)) (let z = o .1 y in omega arith)) (look test)
+      ⊎-elim (λ y. Taking.one y (ap (λ (c : ℕ). set xs c (getD xs c 0 - more)) (w .yes y) ∙ ap (λ (c : ℕ). set xs time (getD xs time 0 - c)) (o .yes y)) (ap (λ (c : ℕ). m + c) (o .yes y)))
+      (λ y. Taking.none y (ap (λ (c : ℕ). set xs e (getD xs e 0 - c)) (o .no y) ∙ (ap (set xs e) (let z : getD xs e 0 - 0 ≡ getD xs e 0 = omega arith in z) ∙ set-getD xs e 0)) (let z = o .no y in omega arith)) (look test)
 
 -- ---- rows that go from one day to another time at once
 

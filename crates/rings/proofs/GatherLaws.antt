@@ -21,6 +21,7 @@ use Rattle.rings.specs.Words.{_and_, at, count}
 use Rattle.rings.specs.Table.{Table, tableOf, size, dayOf}
 use Rattle.rings.specs.Ring.{touches, query}
 use Rattle.rings.specs.CoreTimes.{never}
+use Rattle.rings.specs.Inner.Choice.{Picked}
 use Rattle.rings.specs.Inner.Links.{pickOther, otherOf, pairCounts, fresh, Reading, Every}
 use Rattle.rings.specs.Inner.Peeling.{Setting, Open, Place, guess}
 use Rattle.rings.specs.declared.frame.Frame.{Frame}
@@ -32,7 +33,8 @@ use Rattle.rings.proofs.LeadLaws.{counts-from, counts-here, fresh-count
 use Rattle.rings.proofs.FallLaws.{guess-at, other-small}
 use Rattle.rings.proofs.ShelfLaws.{reading-out, reading-row, reading-touch, reading-from, reading-gap, reading-next, reading-fresh, reading-other}
 use Rattle.rings.proofs.CountingLaws.{count-past}
-use Rattle.rings.proofs.LookLaws.{By, by-most, both, seen-start, seen-note, seen-idle, Glance}
+use Rattle.rings.proofs.ChoiceLaws.{picked-most}
+use Rattle.rings.proofs.LookLaws.{both, seen-start, seen-note, seen-idle, Glance}
 use Rattle.rings.proofs.LossLaws.{at-place, in-list, losing-less, losing-on, queued-start, queued-losing}
 
 -- ---- the rows of u, one after the other
@@ -119,7 +121,7 @@ module _ (t : Table) (x : ℕ → ℕ) (lo hi : ℕ) where
             grows = G .grows;
           }
 
-      module _ {y : Bool} {v xv z n more n′ above′ more′ a w : ℕ} {ws′ : List ℕ} (l : lo ≤ j) (touch : touches t j u ≡ true) (ev : v ≡ otherOf t j u) (small : v < 4096) (ex : xv ≡ x v) (ez : z ≡ value t x j u) (ef : y ≡ fresh t lo j) (N : Noting y z c n above more n′ above′ more′) (A : By (leb z c) 1 0 a) (room : end < length ws) (eq : ws′ ≡ set ws end v) (B : By ((leb z c && y) && eqb xv c) 1 0 w) where
+      module _ {y : Bool} {v xv z n more n′ above′ more′ a w : ℕ} {ws′ : List ℕ} (l : lo ≤ j) (touch : touches t j u ≡ true) (ev : v ≡ otherOf t j u) (small : v < 4096) (ex : xv ≡ x v) (ez : z ≡ value t x j u) (ef : y ≡ fresh t lo j) (N : Noting y z c n above more n′ above′ more′) (A : Picked (leb z c) 1 0 a) (room : end < length ws) (eq : ws′ ≡ set ws end v) (B : Picked ((leb z c && y) && eqb xv c) 1 0 w) where
         here-now : getD ws′ end 0 ≡ v
         here-now = in-list end eq ∙ getD-set-same ws end v 0 room
 
@@ -130,14 +132,14 @@ module _ (t : Table) (x : ℕ → ℕ) (lo hi : ℕ) where
         unfolding count
         is-moved =
             subst (λ (i : ℕ). moved + a ≡ count (moving t x lo c u) i) (sym (add-one j))
-            (⊎-elim (λ h. let e = A .0 h in let m = moves-to in let o = tally-yes (count (moving t x lo c u) j) (moving-i c u j (record { counts = counts-here t lo j l; touch = touch; by = let g = leb-true z c h in omega arith })) in omega arith)
-            (λ h. let e = A .1 h in let m = moves-to in let o = tally-no (count (moving t x lo c u) j) (moving-not c u j (λ k. let g = leb-false z c h in let i = k .by in omega arith)) in omega arith) (look (leb z c)))
+            (⊎-elim (λ h. let e = A .yes h in let m = moves-to in let o = tally-yes (count (moving t x lo c u) j) (moving-i c u j (record { counts = counts-here t lo j l; touch = touch; by = let g = leb-true z c h in omega arith })) in omega arith)
+            (λ h. let e = A .no h in let m = moves-to in let o = tally-no (count (moving t x lo c u) j) (moving-not c u j (λ k. let g = leb-false z c h in let i = k .by in omega arith)) in omega arith) (look (leb z c)))
 
         own : fresh t lo j ≡ true → x (otherOf t j u) ≡ c → dayOf t j ≤ c → Place ws′ tail (end + w) (otherOf t j u)
         unfolding value
         own f e o =
             let g : xv ≡ c = ex ∙ (ap x ev ∙ e) in
-            let h : w ≡ 1 = B .0 (both (both (le-leb z c (omega arith)) (ef ∙ f)) (eq-eqb xv c g)) in
+            let h : w ≡ 1 = B .yes (both (both (le-leb z c (omega arith)) (ef ∙ f)) (eq-eqb xv c g)) in
             record { place = end; from = G .grows; below = omega arith; is = here-now ∙ ev }
 
         pub gathered-next : Gathered t x lo hi c u (j + 1) above′ (moved + a) tail (end + w) ws′
@@ -149,7 +151,7 @@ module _ (t : Table) (x : ℕ → ℕ) (lo hi : ℕ) where
               loses = λ i k f h e o.
                   ⊎-elim (λ q. subst (λ (m : ℕ). Place ws′ tail (end + w) (otherOf t m u)) (sym q) (own (subst (λ (m : ℕ). fresh t lo m ≡ true) q f) (subst (λ (m : ℕ). x (otherOf t m u) ≡ c) q e) (subst (λ (m : ℕ). dayOf t m ≤ c) q o)))
                   (λ q. let P = listed i q f h e o in let m = P .below in record { place = P .place; from = P .from; below = omega arith; is = else-now (P .place) (λ r. omega arith) ∙ P .is }) (eq-or-lt-of-le (let r : i ≤ j = omega arith in r));
-              small = λ i b k. ⊎-elim (λ e. let m = at-place ws′ e in let o = here-now in omega arith) (λ ne. let m = else-now i ne in let o = G .small i b (⊎-elim (λ q. absurd (ne q)) (λ q. q) (eq-or-lt-of-le (let r : i ≤ end = (let g = by-most B in omega arith) in r))) in omega arith) (same-or i end);
+              small = λ i b k. ⊎-elim (λ e. let m = at-place ws′ e in let o = here-now in omega arith) (λ ne. let m = else-now i ne in let o = G .small i b (⊎-elim (λ q. absurd (ne q)) (λ q. q) (eq-or-lt-of-le (let r : i ≤ end = (let g = picked-most B in omega arith) in r))) in omega arith) (same-or i end);
               grows = let m = G .grows in omega arith;
             }
 
@@ -249,7 +251,7 @@ module _ (d f g links : List ℕ) (r : Frame) (R : Open d f g links r) (xs : Lis
                 ⊎-elim (λ h. seen-note tt (r .query) (r .start) (r .stop) (r .lo) (R .setting) (guess xs) (G .seen) j from gap (sym fresh-is ∙ h) touch z-is z-day (subst (λ (w : Bool). Noting w z c n above more n′ above′ more′) h N))
                 (λ h. seen-idle tt (r .query) (r .start) (r .stop) (r .lo) (R .setting) (guess xs) (G .seen) j from gap (sym fresh-is ∙ h) z-day (subst (λ (w : Bool). Noting w z c n above more n′ above′ more′) h N)) (look y)
 
-            pub gathering-next : {m w : ℕ} {ws′ : List ℕ} → By (leb z c) 1 0 m → end < length ws → ws′ ≡ set ws end v → By ((leb z c && y) && eqb xv c) 1 0 w → Gathering d f g links r xs u c tail ws₀ (p + 1) n′ above′ more′ (moved + m) (end + w) ws′
+            pub gathering-next : {m w : ℕ} {ws′ : List ℕ} → Picked (leb z c) 1 0 m → end < length ws → ws′ ≡ set ws end v → Picked ((leb z c && y) && eqb xv c) 1 0 w → Gathering d f g links r xs u c tail ws₀ (p + 1) n′ above′ more′ (moved + m) (end + w) ws′
             gathering-next {ws′ = ws′} A room eq B =
                 record {
                   b = j + 1;

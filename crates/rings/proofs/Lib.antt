@@ -1,5 +1,6 @@
 pub mod WordLaws
 pub mod ListLaws
+pub mod ChoiceLaws
 pub mod PeelLaws
 pub mod RingLaws
 pub mod CoreTimeLaws

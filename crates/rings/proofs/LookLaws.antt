@@ -2,7 +2,7 @@
 --     backing-e, backing-i, backers-are     the rows that back u, each the first of its pair, are as many as its supporters
 --     seen-start, seen-stale, seen-idle, seen-note, seen-count, seen-stop, seen-out     the rows of u as they stand on a day
 --     few-start, look-next, look-found, look-never, look-near, short-start, short-next     a look rises from day to day, and stops at the first with k supporters
---     By, by-most, noted      what `one`, `pick` and `note` compute without a branch
+--     noted                   what `note` computes without a branch
 --     both, not-first, not-second, bit-is         two tests at once
 --     Glance, glance-start, glance-out, glance-over, glance-mark, glance-few, glance-late, glance-most, glance-small     the walk of `look_at` in the book
 -- Assumes nothing.
@@ -21,6 +21,7 @@ use Rattle.rings.specs.Words.{_and_, at, tally, count}
 use Rattle.rings.specs.Table.{Table, tableOf, size, dayOf}
 use Rattle.rings.specs.Ring.{joins, names, touches, query}
 use Rattle.rings.specs.CoreTimes.{never}
+use Rattle.rings.specs.Inner.Choice.{Picked}
 use Rattle.rings.specs.Inner.Links.{pickOther, otherOf, fresh, Reading, Every}
 use Rattle.rings.specs.Inner.Support.{supports, supporters}
 use Rattle.rings.specs.Inner.Peeling.{Setting, Open, guess}
@@ -372,13 +373,6 @@ module _ (t : Table) (q : Query) (s hi lo : ℕ) (S : Setting t q s hi lo) (x : 
 
 -- ---- one row more, without a branch
 
--- what a sum or a choice by a test gives
-abbrev pub By : Bool → ℕ → ℕ → ℕ → Type 0
-By test x y r = (test ≡ true → r ≡ x) × (test ≡ false → r ≡ y)
-
-pub by-most : {test : Bool} {r : ℕ} → By test 1 0 r → r ≤ 1
-by-most {test} A = ⊎-elim (λ h. let e = A .0 h in omega arith) (λ h. let e = A .1 h in omega arith) (look test)
-
 pub both : {p q : Bool} → p ≡ true → q ≡ true → (p && q) ≡ true
 both {p} {q} h k = ap (λ (w : Bool). w && q) h ∙ k
 
@@ -389,22 +383,22 @@ pub not-second : {p q : Bool} → p ≡ true → q ≡ false → (p && q) ≡ fa
 not-second {p} {q} h k = ap (λ (w : Bool). w && q) h ∙ k
 
 -- the sum with a bit that is 1 where y says so, if p holds
-pub bit-is : (p y : Bool) {a : ℕ} (n : ℕ) → p ≡ true → By (p && y) 1 0 a → n + a ≡ tally y n
-bit-is p y n h A = ⊎-elim (λ k. let e = A .0 (both h k) in let v = tally-yes n k in omega arith) (λ k. let e = A .1 (not-second h k) in let v = tally-no n k in omega arith) (look y)
+pub bit-is : (p y : Bool) {a : ℕ} (n : ℕ) → p ≡ true → Picked (p && y) 1 0 a → n + a ≡ tally y n
+bit-is p y n h A = ⊎-elim (λ k. let e = A .yes (both h k) in let v = tally-yes n k in omega arith) (λ k. let e = A .no (not-second h k) in let v = tally-no n k in omega arith) (look y)
 
-pub noted : (y : Bool) (z c n above more : ℕ) {a b e i m : ℕ} → c < above → By (leb z c && y) 1 0 a → By (ltb c z && ltb z above) z above b → By y 1 0 i → By (eqb z above && y) 1 0 e → By (ltb c z && ltb z above) i (more + e) m → Noting y z c n above more (n + a) b m
+pub noted : (y : Bool) (z c n above more : ℕ) {a b e i m : ℕ} → c < above → Picked (leb z c && y) 1 0 a → Picked (ltb c z && ltb z above) z above b → Picked y 1 0 i → Picked (eqb z above && y) 1 0 e → Picked (ltb c z && ltb z above) i (more + e) m → Noting y z c n above more (n + a) b m
 noted y z c n above more {a} {b} {e} {i} {m} up A B I E M = ⊎-elim (λ g. late (ltb-true c z g) g) (λ g. soon (ltb-false c z g) g) (look (ltb c z))
   where
     soon : z ≤ c → ltb c z ≡ false → Noting y z c n above more (n + a) b m
     soon l g =
-        let none : e ≡ 0 = E .1 (not-first y (⊎-elim (λ h. let k = eqb-true z above h in absurd (omega arith)) (λ h. h) (look (eqb z above)))) in
-        Noting.back l (bit-is (leb z c) y n (le-leb z c l) A) (B .1 (not-first (ltb z above) g)) (let k = M .1 (not-first (ltb z above) g) in omega arith)
+        let none : e ≡ 0 = E .no (not-first y (⊎-elim (λ h. let k = eqb-true z above h in absurd (omega arith)) (λ h. h) (look (eqb z above)))) in
+        Noting.back l (bit-is (leb z c) y n (le-leb z c l) A) (B .no (not-first (ltb z above) g)) (let k = M .no (not-first (ltb z above) g) in omega arith)
 
     late : c < z → ltb c z ≡ true → Noting y z c n above more (n + a) b m
     late l g =
-        let none : a ≡ 0 = A .1 (not-first y (⊎-elim (λ h. let k = leb-true z c h in absurd (omega arith)) (λ h. h) (look (leb z c)))) in
-        ⊎-elim (λ h. Noting.nearer l (ltb-true z above h) (omega arith) (B .0 (both g h)) (let o = M .0 (both g h) in let v = bit-is true y 0 refl I in omega arith))
-        (λ h. ⊎-elim (λ k. Noting.level l (eqb-true z above k) (omega arith) (B .1 (not-second g h)) (M .1 (not-second g h) ∙ bit-is (eqb z above) y more k E)) (λ k. Noting.farther l (ltb-false z above h) (omega arith) (B .1 (not-second g h)) (let o = E .1 (not-first y k) in let i = M .1 (not-second g h) in omega arith)) (look (eqb z above)))
+        let none : a ≡ 0 = A .no (not-first y (⊎-elim (λ h. let k = leb-true z c h in absurd (omega arith)) (λ h. h) (look (leb z c)))) in
+        ⊎-elim (λ h. Noting.nearer l (ltb-true z above h) (omega arith) (B .yes (both g h)) (let o = M .yes (both g h) in let v = bit-is true y 0 refl I in omega arith))
+        (λ h. ⊎-elim (λ k. Noting.level l (eqb-true z above k) (omega arith) (B .no (not-second g h)) (M .no (not-second g h) ∙ bit-is (eqb z above) y more k E)) (λ k. Noting.farther l (ltb-false z above h) (omega arith) (B .no (not-second g h)) (let o = E .no (not-first y k) in let i = M .no (not-second g h) in omega arith)) (look (eqb z above)))
         (look (ltb z above))
 
 -- ---- a look at u, in the book
@@ -492,6 +486,6 @@ module _ (d f g links : List ℕ) (r : Frame) (R : Open d f g links r) (xs : Lis
               in-range : (z ≤ r .stop) ⊎ (z ≡ never)
               in-range = let o = R .setting .fits in ⊎-elim (λ k. _⊎_.inl (omega arith)) (λ k. _⊎_.inr (omega arith)) (D v glance-small)
 
-          pub glance-mark : {y : Bool} {z w n′ above′ more′ : ℕ} → y ≡ (leb (r .lo) j and leb (getD links (8192 + 2 * length d + j) 0) (r .lo)) → day ≤ r .stop → z ≡ max (getD xs v 0) day → By y z never w → Noting true w c n above more n′ above′ more′ → Glance d f g links r xs u c (p + 1) n′ above′ more′
+          pub glance-mark : {y : Bool} {z w n′ above′ more′ : ℕ} → y ≡ (leb (r .lo) j and leb (getD links (8192 + 2 * length d + j) 0) (r .lo)) → day ≤ r .stop → z ≡ max (getD xs v 0) day → Picked y z never w → Noting true w c n above more n′ above′ more′ → Glance d f g links r xs u c (p + 1) n′ above′ more′
           glance-mark {y} {n′ = n′} {above′ = above′} {more′ = more′} ey l ez B N =
-              ⊎-elim (λ h. glance-note ey h l ez (subst (λ (i : ℕ). Noting true i c n above more n′ above′ more′) (B .0 h) N)) (λ h. glance-skip ey h (subst (λ (i : ℕ). Noting true i c n above more n′ above′ more′) (B .1 h) N)) (look y)
+              ⊎-elim (λ h. glance-note ey h l ez (subst (λ (i : ℕ). Noting true i c n above more n′ above′ more′) (B .yes h) N)) (λ h. glance-skip ey h (subst (λ (i : ℕ). Noting true i c n above more n′ above′ more′) (B .no h) N)) (look y)

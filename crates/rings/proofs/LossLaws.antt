@@ -22,6 +22,7 @@ use Rattle.rings.specs.Table.{Table, tableOf, size, dayOf, firstOf, seco
 use Rattle.rings.specs.Ring.{touches, query}
 use Rattle.rings.specs.CoreTimes.{never}
 use Rattle.rings.specs.Sound.{Sound}
+use Rattle.rings.specs.Inner.Choice.{Picked}
 use Rattle.rings.specs.Inner.Links.{pickOther, otherOf, fresh, Reading, Every}
 use Rattle.rings.specs.Inner.Peeling.{Setting, Open, Place, guess}
 use Rattle.rings.specs.declared.frame.Frame.{Frame}
@@ -33,7 +34,8 @@ use Rattle.rings.proofs.PairLaws.{other-first, other-second}
 use Rattle.rings.proofs.LeadLaws.{fresh-from}
 use Rattle.rings.proofs.FallLaws.{guess-at, other-small}
 use Rattle.rings.proofs.ShelfLaws.{reading-out, reading-row, reading-touch, reading-gap, reading-next, reading-fresh, reading-other}
-use Rattle.rings.proofs.LookLaws.{By, by-most, both, not-first, backing-e, backers-yes, backers-no}
+use Rattle.rings.proofs.ChoiceLaws.{picked-most}
+use Rattle.rings.proofs.LookLaws.{both, not-first, backing-e, backers-yes, backers-no}
 
 -- ---- losses
 
@@ -68,8 +70,8 @@ losing-less {v = v} {sp = sp} {sp′ = sp′} small len L =
     }
 
 -- what `lose` computes without a branch
-pub under : (y : Bool) (n : ℕ) {a : ℕ} → By (y && ltb 0 n) 1 0 a → a ≤ n
-under y n A = ⊎-elim (λ h. let e = ltb-true 0 n h in let m = by-most A in omega arith) (λ h. let e = A .1 (none y h) in omega arith) (look (ltb 0 n))
+pub under : (y : Bool) (n : ℕ) {a : ℕ} → Picked (y && ltb 0 n) 1 0 a → a ≤ n
+under y n A = ⊎-elim (λ h. let e = ltb-true 0 n h in let m = picked-most A in omega arith) (λ h. let e = A .no (none y h) in omega arith) (look (ltb 0 n))
   where
     none : (w : Bool) → ltb 0 n ≡ false → (w && ltb 0 n) ≡ false
     none true h = h
@@ -78,22 +80,22 @@ under y n A = ⊎-elim (λ h. let e = ltb-true 0 n h in let m = by-most A in ome
 pub losing-on : {y : Bool} {v tail r : ℕ} {sp ws sp′ ws′ : List ℕ} → Losing y v tail sp ws sp′ ws′ r → r ≤ tail + 1
 losing-on L = ⊎-elim (λ e. let h = e .0 in omega arith) (λ e. omega arith) (L .ended)
 
-pub losing : (y : Bool) (v tail : ℕ) (sp ws : List ℕ) {a b m : ℕ} {sp′ ws′ : List ℕ} → By (y && ltb 0 (getD sp v 0)) 1 0 a → By (y && eqb (getD sp v 0) 1) 1 0 b → sp′ ≡ set sp v (getD sp v 0 - a) → ws′ ≡ set ws tail v → m ≡ b → Losing y v tail sp ws sp′ ws′ (tail + m)
+pub losing : (y : Bool) (v tail : ℕ) (sp ws : List ℕ) {a b m : ℕ} {sp′ ws′ : List ℕ} → Picked (y && ltb 0 (getD sp v 0)) 1 0 a → Picked (y && eqb (getD sp v 0) 1) 1 0 b → sp′ ≡ set sp v (getD sp v 0 - a) → ws′ ≡ set ws tail v → m ≡ b → Losing y v tail sp ws sp′ ws′ (tail + m)
 losing y v tail sp ws {a} {b} {m} A B es ew em =
     record {
       left = getD sp v 0 - a;
       stored = es;
       less = omega arith;
-      lost = λ h. ⊎-elim (λ k. let e = A .0 (both h k) in omega arith) (λ k. let e = ltb-false 0 (getD sp v 0) k in omega arith) (look (ltb 0 (getD sp v 0)));
+      lost = λ h. ⊎-elim (λ k. let e = A .yes (both h k) in omega arith) (λ k. let e = ltb-false 0 (getD sp v 0) k in omega arith) (look (ltb 0 (getD sp v 0)));
       queued = ew;
-      ended = ⊎-elim (λ h. _⊎_.inr (let e = B .0 h in omega arith)) (λ h. let e = B .1 h in _⊎_.inl (omega arith, λ z. stays z h)) (look (y && eqb (getD sp v 0) 1));
+      ended = ⊎-elim (λ h. _⊎_.inr (let e = B .yes h in omega arith)) (λ h. let e = B .no h in _⊎_.inl (omega arith, λ z. stays z h)) (look (y && eqb (getD sp v 0) 1));
     }
   where
     stays : getD sp v 0 - a ≡ 0 → (y && eqb (getD sp v 0) 1) ≡ false → getD sp v 0 ≡ 0
     stays z h =
         ⊎-elim
-        (λ k. ⊎-elim (λ o. ⊎-elim (λ e. clash (both k e) h) (λ e. let c = A .0 (both k o) in let i = ltb-true 0 (getD sp v 0) o in absurd (eqb-false (getD sp v 0) 1 e (omega arith))) (look (eqb (getD sp v 0) 1))) (λ o. let e = ltb-false 0 (getD sp v 0) o in omega arith) (look (ltb 0 (getD sp v 0))))
-        (λ k. let c = A .1 (not-first (ltb 0 (getD sp v 0)) k) in omega arith) (look y)
+        (λ k. ⊎-elim (λ o. ⊎-elim (λ e. clash (both k e) h) (λ e. let c = A .yes (both k o) in let i = ltb-true 0 (getD sp v 0) o in absurd (eqb-false (getD sp v 0) 1 e (omega arith))) (look (eqb (getD sp v 0) 1))) (λ o. let e = ltb-false 0 (getD sp v 0) o in omega arith) (look (ltb 0 (getD sp v 0))))
+        (λ k. let c = A .no (not-first (ltb 0 (getD sp v 0)) k) in omega arith) (look y)
 
 pub queued-start : (tail : ℕ) (sp ws : List ℕ) → length ws ≡ 4352 → Queued tail sp ws tail sp ws
 queued-start tail sp ws l = record { long = l; grows = λ h. le-refl tail; front = λ i h o. refl; waits = λ h u k z. _⊎_.inl z; small = λ i a b. absurd (omega arith) }

@@ -1,18 +1,18 @@
 // Choices without a branch: what a processor cannot foresee is better computed.
 ghost use mathlib.Core.Path.{_≡_};
-ghost use mathlib.Core.Bool.{true, false};
 ghost use Prim.Native.Nat.{min};
+ghost use Rattle.rings.specs.Inner.Choice.{Picked};
 
 // 1 where the test holds, else 0.
 pub(crate) fn one(test: bool) -> u16
-    ensures { λ r. ⌜ (test ≡ true → r ≡ 1) × (test ≡ false → r ≡ 0) ⌝ }
+    ensures { λ r. ⌜ Picked test 1 0 r ⌝ }
 {
     if test { 1 } else { 0 }
 }
 
 // The first of two numbers where the test holds, else the second.
 pub(crate) fn pick(test: bool, x: u16, y: u16) -> u16
-    ensures { λ r. ⌜ (test ≡ true → r ≡ x) × (test ≡ false → r ≡ y) ⌝ }
+    ensures { λ r. ⌜ Picked test x y r ⌝ }
 {
     if test { x } else { y }
 }

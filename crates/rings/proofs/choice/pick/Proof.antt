@@ -7,11 +7,11 @@ use Rattle.rings.proofs.choice.pick.Lts as lts
 
 -- src/choice.rt:58:1
 returns : tie.Need-returns
-returns c = (λ e. refl, λ e. clash (c .if1 .taken) e)
+returns c = record { yes = λ e. refl; no = λ e. clash (c .if1 .taken) e }
 
 -- src/choice.rt:58:1
 returns-2 : tie.Need-returns-2
-returns-2 c = (λ e. clash e (c .if1 .left), λ e. refl)
+returns-2 c = record { yes = λ e. clash e (c .if1 .left); no = λ e. refl }
 
 pub pick-spec : {M : Type 1} → statement M
 pick-spec = tie.close (tie.spec returns returns-2)

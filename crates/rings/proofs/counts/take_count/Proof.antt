@@ -1,3 +1,4 @@
+use Rattle.rings.proofs.ChoiceLaws.{picked-as}
 use mathlib.Core.Path.{refl, _∙_}
 use Rattle.rings.proofs.CountingLaws.{take-place, take-less, take-few, take-end}
 use Rattle.rings.proofs.WordLaws.{clash}
@@ -41,7 +42,7 @@ slice-read-counts c =
     let if1 = c .before .before .before .before .if1 in
     let args = c .before .before .before .before .before .before .args in
     let pre = c .before .before .before .before .before .before .pre in
-    take-place (args .counts .now) (λ y. wide .ensures ∙ pick .ensures .0 y, λ y. wide .ensures ∙ pick .ensures .1 y)
+    take-place (args .counts .now) (picked-as (wide .ensures) (pick .ensures))
     (one .ensures) (pre (not-false _ (if1 .left)) .has) (pre (not-false _ (if1 .left)) .long)
 
 -- src/counts.rt:50:17
@@ -53,7 +54,7 @@ sub-counts c =
     let if1 = c .before .before .before .before .if1 in
     let args = c .before .before .before .before .before .before .args in
     let pre = c .before .before .before .before .before .before .pre in
-    take-less (args .counts .now) (λ y. wide .ensures ∙ pick .ensures .0 y, λ y. wide .ensures ∙ pick .ensures .1 y)
+    take-less (args .counts .now) (picked-as (wide .ensures) (pick .ensures))
     (one .ensures) (pre (not-false _ (if1 .left)) .has)
 
 -- src/counts.rt:50:5
@@ -69,7 +70,7 @@ slice-write-counts c =
     let if1 = c .before .before .before .before .if1 in
     let args = c .before .before .before .before .before .before .args in
     let pre = c .before .before .before .before .before .before .pre in
-    take-place (args .counts .now) (λ y. wide .ensures ∙ pick .ensures .0 y, λ y. wide .ensures ∙ pick .ensures .1 y)
+    take-place (args .counts .now) (picked-as (wide .ensures) (pick .ensures))
     (one .ensures) (pre (not-false _ (if1 .left)) .has) (pre (not-false _ (if1 .left)) .long)
 
 -- src/counts.rt:51:5
@@ -83,7 +84,7 @@ add-result c =
     let pre = c .before .before .before .before .before .before .pre in
     omega (
       arith,
-      take-few (args .counts .now) (λ y. wide .ensures ∙ pick .ensures .0 y, λ y. wide .ensures ∙ pick .ensures .1 y)
+      take-few (args .counts .now) (picked-as (wide .ensures) (pick .ensures))
           (one .ensures) (pre (not-false _ (if1 .left)) .has),
       pre (not-false _ (if1 .left)) .few,
     )
@@ -102,7 +103,7 @@ returns-2 c =
     let args = c .before .before .before .before .before .before .args in
     let pre = c .before .before .before .before .before .before .pre in (
       record
-          { counted = λ h. take-end (args .counts .now) (λ y. wide .ensures ∙ pick .ensures .0 y, λ y. wide .ensures ∙ pick .ensures .1 y) (one .ensures) (pre (not-false _ (if1 .left)) .has); same = λ h. clash (not-false _ (if1 .left)) h },
+          { counted = λ h. take-end (args .counts .now) (picked-as (wide .ensures) (pick .ensures)) (one .ensures) (pre (not-false _ (if1 .left)) .has); same = λ h. clash (not-false _ (if1 .left)) h },
       λ h. clash (not-false _ (if1 .left)) h,
     )
 

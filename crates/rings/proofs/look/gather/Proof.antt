@@ -1,6 +1,7 @@
+use Rattle.rings.proofs.ChoiceLaws.{picked-most, picked-as}
 use borrow.Author.Needs.{needs}
 use Rattle.rings.proofs.GatherLaws.{Gathering, as-glance, gathering-start, gathering-out, gathering-few, gathering-over, gathering-next}
-use Rattle.rings.proofs.LookLaws.{by-most, glance-out, glance-most, glance-few, glance-late, glance-over, glance-small}
+use Rattle.rings.proofs.LookLaws.{glance-out, glance-most, glance-few, glance-late, glance-over, glance-small}
 use Rattle.rings.proofs.ShelfLaws.{reading-place, reading-few, reading-row, reading-ends, reading-fresh-place}
 use Rattle.rings.specs.Inner.Peeling.{season}
 use mathlib.Core.Logic.{⊎-elim}
@@ -265,7 +266,7 @@ add-end c =
     let loop-test = c .before .before .before .before .before .before .before .before .before .before .before .before .before .before .before .before .before .before .loop-test in
     let loop = c .before .before .before .before .before .before .before .before .before .before .before .before .before .before .before .before .before .before .before .loop in
     let pre = c .before .before .before .before .before .before .before .before .before .before .before .before .before .before .before .before .before .before .before .before .before .before .before .before .before .before .before .pre in
-    omega (arith, by-most (one .ensures), c .wide .ensures, pre .1 .room, loop .inv .1, loop .inv .5, loop-test .taken)
+    omega (arith, picked-most (one .ensures), c .wide .ensures, pre .1 .room, loop .inv .1, loop .inv .5, loop-test .taken)
 
 -- src/look.rt:196:25
 one-requires-2 : tie.Need-one-requires-2 Inv-loop μ-loop
@@ -280,7 +281,7 @@ add-moved c =
     let pre = c .before .before .before .before .before .before .before .before .before .before .before .before .before .before .before .before .before .before .before .before .before .before .before .before .before .before .before .before .pre in
     omega (
       arith,
-      by-most (c .one2 .ensures),
+      picked-most (c .one2 .ensures),
       gathering-few _ _ _ _ _ (pre .0 .lent .opened) _ (pre .0 .lent .long) (pre .0 .lent .days) (pre .0 .lent .small) (pre .0 .in-range) (pre .0 .every) _
           _ (loop .inv .2) (loop .inv .1) (loop-test .taken) (entry2 .ensures),
     )
@@ -336,11 +337,11 @@ loop-again c =
             loop .inv .5,
             loop-test .taken,
           )
-          ) (put .ensures) (λ y. wide .ensures ∙ one .ensures .0 y, λ y. wide .ensures ∙ one .ensures .1 y),
+          ) (put .ensures) (picked-as (wide .ensures) (one .ensures)),
       omega (arith, loop .inv .3),
       omega
           (arith, reading-few _ _ _ _ (pre .0 .lent .opened .sound) (pre .0 .lent .opened .shelves) (pre .0 .lent .small) (loop .inv .2 .reading) (loop .inv .1) (loop-test .taken)),
-      omega (arith, loop .inv .5, by-most (one .ensures), wide .ensures),
+      omega (arith, loop .inv .5, picked-most (one .ensures), wide .ensures),
     )
 
 -- src/look.rt:208:17

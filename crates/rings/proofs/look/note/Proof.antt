@@ -1,5 +1,6 @@
 use native.Mathlib.Omega.{arith}
-use Rattle.rings.proofs.LookLaws.{by-most, noted}
+use Rattle.rings.proofs.LookLaws.{noted}
+use Rattle.rings.proofs.ChoiceLaws.{picked-most}
 use borrow.Author.Needs.{needs}
 use Rattle.rings.proofs.look.note.Statement.{statement}
 use Rattle.rings.proofs.look.note.Tie as tie
@@ -16,7 +17,7 @@ one-requires c κs = search needs
 add-t13 : tie.Need-add-t13
 add-t13 c =
     let pre = c .before .pre in
-    omega (arith, pre .0, by-most (c .one .ensures))
+    omega (arith, pre .0, picked-most (c .one .ensures))
 
 -- src/look.rt:70:16
 pick-requires : tie.Need-pick-requires
@@ -34,7 +35,7 @@ one-requires-3 c κs = search needs
 add-pick : tie.Need-add-pick
 add-pick c =
     let pre = c .before .before .before .before .pre in
-    omega (arith, pre .1, by-most (c .one3 .ensures))
+    omega (arith, pre .1, picked-most (c .one3 .ensures))
 
 -- src/look.rt:71:15
 pick-requires-2 : tie.Need-pick-requires-2

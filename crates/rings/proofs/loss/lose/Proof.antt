@@ -1,6 +1,6 @@
 use mathlib.Core.Path.{refl}
 use native.Mathlib.Omega.{arith}
-use Rattle.rings.proofs.LookLaws.{by-most}
+use Rattle.rings.proofs.ChoiceLaws.{picked-most}
 use Rattle.rings.proofs.LossLaws.{losing, under}
 use borrow.Author.Needs.{needs}
 use Rattle.rings.proofs.loss.lose.Statement.{statement}
@@ -54,7 +54,7 @@ add-result : tie.Need-add-result
 add-result c =
     let one2 = c .before .one2 in
     let pre = c .before .before .before .before .before .before .before .before .before .before .pre in
-    omega (arith, pre .room, c .wide .ensures, by-most (one2 .ensures))
+    omega (arith, pre .room, c .wide .ensures, picked-most (one2 .ensures))
 
 -- src/settle.rt:239:1
 same-length : tie.Need-same-length

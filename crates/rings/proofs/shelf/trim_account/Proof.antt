@@ -6,7 +6,7 @@ use mathlib.Core.Path.{_≡_, _∙_}
 use lib.ListN.{getD}
 use Rattle.rings.specs.Table.{tableOf}
 use Rattle.rings.specs.Inner.Peeling.{guess}
-use Rattle.rings.proofs.LookLaws.{by-most}
+use Rattle.rings.proofs.ChoiceLaws.{picked-most}
 use Rattle.rings.proofs.TrimLaws.{Sift, sift-start, sift-stands, sift-place, sift-few, sift-timed, sift-next, sift-end}
 use Rattle.rings.proofs.shelf.trim_account.Statement.{statement}
 use Rattle.rings.proofs.shelf.trim_account.Tie as tie
@@ -111,7 +111,7 @@ add-end c =
     let loop = c .before .before .before .before .before .before .before .before .before .before .loop in
     let wide = c .wide in
     let one = c .before .one in
-    omega (arith, sift-few (pre .shelves) (pre .account) (loop .inv .sift) (pre .sound .most), wide .ensures, by-most (one .ensures))
+    omega (arith, sift-few (pre .shelves) (pre .account) (loop .inv .sift) (pre .sound .most), wide .ensures, picked-most (one .ensures))
 
 -- src/shelf.rt:78:9
 add-p : tie.Need-add-p Inv-loop μ-loop
@@ -140,8 +140,8 @@ loop-again c =
     record {
       cursor = loop .inv .cursor;
       sift = sift-next (pre .shelves) (pre .account) (loop .inv .sift) (omega (arith, loop .inv .cursor, loop-test .taken)) (row-at .ensures .row) (put .ensures)
-          (λ n. wide .ensures ∙ one .ensures .0 (sift-timed (args .times .now) (pre .times) (row-at .ensures .small) (row-at .ensures .other) n))
-          (omega (arith, wide .ensures, by-most (one .ensures)));
+          (λ n. wide .ensures ∙ one .ensures .yes (sift-timed (args .times .now) (pre .times) (row-at .ensures .small) (row-at .ensures .other) n))
+          (omega (arith, wide .ensures, picked-most (one .ensures)));
     }
 
 -- src/shelf.rt:80:5
