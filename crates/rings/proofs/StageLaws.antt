@@ -8,7 +8,7 @@
 --     fall-start, weed-start, weed-small, weed-room, weed-left, weed-keep, weed-fall, weed-end    who has fewer than k neighbours
 --     core-start, fade-start                    the stages together
 -- Assumes nothing.
-use Prim.Native.Nat.{ℕ, zero, suc, _+_, _-_, _*_, _≤_, _<_}
+use Prim.Native.Nat.{ℕ, zero, suc, _+_, _-_, _≤_, _<_}
 use native.Mathlib.Nat.{le-refl, le-antisymm, eq-or-lt-of-le, not-suc-le-zero}
 use native.Mathlib.Omega.{arith}
 use mathlib.Core.Path.{_≡_, refl, sym, _∙_, ap, subst}
