@@ -1,13 +1,13 @@
 // How lines are laid out: 01's widths, limits and sizes, each once. The definitions have them in specs/Layout.antt.
 
 // A field of a line: how many columns it has, and the largest number that it may hold.
-pub struct Format {
+pub(crate) struct Format {
     pub width: usize,
     pub limit: u16,
 }
 
 // The three fields of a line.
-pub struct Layout {
+pub(crate) struct Layout {
     pub first: Format,
     pub second: Format,
     pub third: Format,
@@ -70,6 +70,6 @@ pub(crate) const ENTRY_BYTES: usize = DAY_WIDTH + DAY_WIDTH + DAY_WIDTH + ROWS_W
 pub(crate) const REFUSED_BYTES: usize = 7 + NUMBER_WIDTH + PLACE_WIDTH + 1;
 
 // The listing program's longest input: a query line and 1,024 lines of a table, in all 18,448 bytes.
-pub const MOST_ROWS: usize = 1024;
+const MOST_ROWS: usize = 1024;
 
 pub const MOST_INPUT: usize = QUERY_BYTES + MOST_ROWS * LINE_BYTES;
