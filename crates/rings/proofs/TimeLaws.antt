@@ -16,15 +16,23 @@ use Rattle.rings.specs.Table.{tableOf, dayOf, firstOf, secondOf}
 use Rattle.rings.specs.CoreTimes.{never, accountTime, rowTime}
 use Rattle.rings.specs.Ring.{query}
 use Rattle.rings.specs.Inner.Links.{openDay}
-use Rattle.rings.specs.Inner.Peeling.{Framed, Span, CoreTimesAre}
+use Rattle.rings.specs.Inner.Peeling.{Framed, Span, CoreTimesAre, TimesKnown}
 use Rattle.rings.specs.declared.frame.Frame.{Frame}
 use Rattle.rings.proofs.WordLaws.{length-run, getD-run}
 use Rattle.rings.proofs.LinkLaws.{first-small, second-small}
 use Rattle.rings.proofs.LeadLaws.{counts-here, open-is, day-opens, row-opens}
 use Rattle.rings.proofs.CoreTimeLaws.{row-before, row-after}
 
-module _ (d f s : List ℕ) (q : Frame) (R : Framed d f s q) {end : ℕ} (Sp : Span d (q .stop) (q .lo) end) {x : List ℕ} (C : CoreTimesAre d f s q x) {j : ℕ}
-    (b : j < length d) where
+module _ (d f s : List ℕ) (q : Frame) {end : ℕ} {x : List ℕ} (K : TimesKnown d f s q end x) {j : ℕ} (b : j < length d) where
+  R : Framed d f s q
+  R = K .framed
+
+  Sp : Span d (q .stop) (q .lo) end
+  Sp = K .span
+
+  C : CoreTimesAre d f s q x
+  C = K .times-are
+
   a-small : getD f j 0 < 4096
   a-small = first-small (R .sound) b refl
 

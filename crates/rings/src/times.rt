@@ -8,7 +8,7 @@ ghost use Rattle.rings.specs.CoreTimes.{rowTime};
 ghost use Rattle.rings.specs.Buffers.{verdictScratch};
 ghost use Rattle.rings.specs.CoreTimesCall.{timesAnswer, accountColumn, rowColumn};
 ghost use Rattle.rings.specs.Sound.{Sound};
-ghost use Rattle.rings.specs.Inner.Peeling.{Framed, Span, CoreTimesAre};
+ghost use Rattle.rings.specs.Inner.Peeling.{TimesKnown};
 ghost use Rattle.rings.specs.Inner.Answers.{Asked, TimesBuffers, TimesFound};
 use crate::Query;
 use crate::checks::are_equal;
@@ -42,9 +42,7 @@ pub(crate) fn row_time(
     times: &[u16],
     j: usize,
 ) -> u16
-    requires { ⌜ Framed (now days) (now first) (now second) frame ⌝ }
-    requires { ⌜ Span (now days) (frame .stop) (frame .lo) end ⌝ }
-    requires { ⌜ CoreTimesAre (now days) (now first) (now second) frame (now times) ⌝ }
+    requires { ⌜ TimesKnown (now days) (now first) (now second) frame end (now times) ⌝ }
     requires { ⌜ j < length (now days) ⌝ }
     ensures { λ r. ⌜ (
         let t = tableOf (now (days .entry)) (now (first .entry)) (now (second .entry)) in
@@ -71,9 +69,7 @@ fn time_rows(
     times: &[u16],
     rows: &mut [u16],
 )
-    requires { ⌜ Framed (now days) (now first) (now second) frame ⌝ }
-    requires { ⌜ Span (now days) (frame .stop) (frame .lo) end ⌝ }
-    requires { ⌜ CoreTimesAre (now days) (now first) (now second) frame (now times) ⌝ }
+    requires { ⌜ TimesKnown (now days) (now first) (now second) frame end (now times) ⌝ }
     requires { ⌜ length (now rows) ≡ length (now days) ⌝ }
     ensures { λ _. ⌜ (
         let t = tableOf (now (days .entry)) (now (first .entry)) (now (second .entry)) in

@@ -26,7 +26,7 @@ use Rattle.rings.specs.Words.{count}
 use Rattle.rings.specs.Table.{Table, tableOf, size, firstOf, secondOf, Split}
 use Rattle.rings.specs.CoreTimes.{never, rowTime}
 use Rattle.rings.specs.Ring.{query}
-use Rattle.rings.specs.Inner.Peeling.{guess, Framed, Open, Span, CoreTimesAre}
+use Rattle.rings.specs.Inner.Peeling.{guess, Open, CoreTimesAre, TimesKnown}
 use Rattle.rings.specs.declared.frame.Frame.{Frame}
 use Rattle.rings.specs.Inner.Links.{openDay, opensBy, Covered}
 use Rattle.rings.specs.Inner.Settling.{Spare}
@@ -120,9 +120,7 @@ Timed t q hi s n xs = Histogram (rowTime t q hi s) n xs
 
 -- the times of a start, of which counts are made or taken
 pub record CountAsks (d f g : List ℕ) (p : Frame) (end : ℕ) (times : List ℕ) : Type 0 where
-  pub framed : Framed d f g p
-  pub span : Span d (p .stop) (p .lo) end
-  pub times-are : CoreTimesAre d f g p times
+  pub known : TimesKnown d f g p end times
   pub in-days : p .stop ≤ 1024
 
 -- the rows below next are those dated up to the first day, and are counted still

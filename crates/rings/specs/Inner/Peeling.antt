@@ -24,6 +24,7 @@
 --     Span         the rows of a window, as a first row and an end
 --     Counted      d holds the fresh rows of each account below a row
 --     Fade         the rows from the removal's end on have left, and nobody waits
+--     CoreTimesAre, TimesKnown     a list holds the core times of the accounts; beside the rows of the window
 use Prim.Native.Nat.{ℕ, _+_, _-_, _*_, _≤_, _<_}
 use mathlib.Core.Path.{_≡_}
 use mathlib.Core.Logic.{_⊎_}
@@ -253,3 +254,9 @@ pub record Span (d : List ℕ) (stop lo end : ℕ) : Type 0 where
 pub record CoreTimesAre (d f s : List ℕ) (p : Frame) (x : List ℕ) : Type 0 where
   pub long : length x ≡ 4096
   pub times : (u : ℕ) → u < 4096 → getD x u 0 ≡ accountTime (tableOf d f s) (p .query) (p .stop) (p .start) u
+
+-- the same beside the rows of the window, of a table without links
+pub record TimesKnown (d f s : List ℕ) (p : Frame) (end : ℕ) (x : List ℕ) : Type 0 where
+  pub framed : Framed d f s p
+  pub span : Span d (p .stop) (p .lo) end
+  pub times-are : CoreTimesAre d f s p x

@@ -33,15 +33,15 @@ loop-holds c =
     let clear = c .before .before .clear in
     let pre = c .before .before .before .before .before .before .before .before .before .pre in (
       omega arith,
-      pre .0 .span .ordered,
-      hist-start _ _ _ (pre .1) (clear .ensures) (λ j h. row-before _ _ _ _ j (pre .0 .framed .setting .before-lo j h)),
+      pre .0 .known .span .ordered,
+      hist-start _ _ _ (pre .1) (clear .ensures) (λ j h. row-before _ _ _ _ j (pre .0 .known .framed .setting .before-lo j h)),
     )
 
 -- src/counts.rt:86:13
 row-time-requires : tie.Need-row-time-requires Inv-loop μ-loop
 row-time-requires c κs =
     let pre = c .before .before .before .before .before .before .before .before .before .before .before .pre in
-    (pre .0 .framed, (pre .0 .span, (pre .0 .times-are, omega (arith, c .loop-test .taken, pre .0 .span .within))))
+    (pre .0 .known, omega (arith, c .loop-test .taken, pre .0 .known .span .within))
 
 -- src/counts.rt:87:9
 add-count-requires : tie.Need-add-count-requires Inv-loop μ-loop
@@ -50,7 +50,7 @@ add-count-requires c κs =
     let loop-test = c .before .before .loop-test in
     let loop = c .before .before .before .loop in
     let pre = c .before .before .before .before .before .before .before .before .before .before .before .before .before .pre in
-    hist-few _ (loop .inv .2) (omega (arith, loop-test .taken, pre .0 .span .within, pre .0 .framed .sound .most))
+    hist-few _ (loop .inv .2) (omega (arith, loop-test .taken, pre .0 .known .span .within, pre .0 .known .framed .sound .most))
     (is-time _ _ _ _ _ (pre .0 .in-days) (row-time .ensures))
 
 -- src/counts.rt:88:9
@@ -58,7 +58,7 @@ add-j : tie.Need-add-j Inv-loop μ-loop
 add-j c =
     let loop-test = c .before .before .before .before .before .loop-test in
     let pre = c .before .before .before .before .before .before .before .before .before .before .before .before .before .before .before .before .pre in
-    omega (arith, loop-test .taken, pre .0 .span .within, pre .0 .framed .sound .most)
+    omega (arith, loop-test .taken, pre .0 .known .span .within, pre .0 .known .framed .sound .most)
 
 -- src/counts.rt:85:5
 loop-less : tie.Need-loop-less Inv-loop μ-loop
@@ -90,8 +90,8 @@ returns : tie.Need-returns Inv-loop μ-loop
 returns c =
     let loop = c .before .loop in
     let pre = c .before .before .before .before .before .before .before .before .before .before .before .pre in
-    hist-past _ (loop .inv .2) (omega (arith, loop .inv .1, pre .0 .span .within))
-    (λ j a b. sym (row-late _ _ _ _ (pre .0 .framed) (pre .0 .span) (pre .0 .times-are) b (omega (arith, a, c .loop-test .left))))
+    hist-past _ (loop .inv .2) (omega (arith, loop .inv .1, pre .0 .known .span .within))
+    (λ j a b. sym (row-late _ _ _ _ (pre .0 .known) b (omega (arith, a, c .loop-test .left))))
 
 pub count-times-spec : {M : Type 1} → statement M
 count-times-spec =

@@ -26,12 +26,12 @@ loop-holds : tie.Need-loop-holds Inv-loop μ-loop
 loop-holds c =
     let pre = c .before .before .before .before .before .pre in (
       omega arith,
-      drop-from _ _ _ _ _ _ _ (pre .0 .framed .setting) (pre .0 .times-are) (pre .1 .follows)
-          (omega (arith, pre .0 .span .ordered, pre .0 .span .within)),
-      drop-start _ _ _ _ _ _ _ (pre .0 .framed .setting) (pre .0 .times-are) (pre .1 .follows)
+      drop-from _ _ _ _ _ _ _ (pre .0 .known .framed .setting) (pre .0 .known .times-are) (pre .1 .follows)
+          (omega (arith, pre .0 .known .span .ordered, pre .0 .known .span .within)),
+      drop-start _ _ _ _ _ _ _ (pre .0 .known .framed .setting) (pre .0 .known .times-are) (pre .1 .follows)
           (
-          drop-from _ _ _ _ _ _ _ (pre .0 .framed .setting) (pre .0 .times-are) (pre .1 .follows)
-          (omega (arith, pre .0 .span .ordered, pre .0 .span .within))
+          drop-from _ _ _ _ _ _ _ (pre .0 .known .framed .setting) (pre .0 .known .times-are) (pre .1 .follows)
+          (omega (arith, pre .0 .known .span .ordered, pre .0 .known .span .within))
           ) (pre .1 .timed),
     )
 
@@ -39,7 +39,7 @@ loop-holds c =
 row-time-requires : tie.Need-row-time-requires Inv-loop μ-loop
 row-time-requires c κs =
     let pre = c .before .before .before .before .before .before .before .pre in
-    (pre .0 .framed, (pre .0 .span, (pre .0 .times-are, omega (arith, c .loop-test .taken, pre .1 .follows .within))))
+    (pre .0 .known, omega (arith, c .loop-test .taken, pre .1 .follows .within))
 
 -- src/counts.rt:114:9
 drop-count-requires : tie.Need-drop-count-requires Inv-loop μ-loop
@@ -48,7 +48,7 @@ drop-count-requires c κs =
     let loop-test = c .before .before .loop-test in
     let loop = c .before .before .before .loop in
     let pre = c .before .before .before .before .before .before .before .before .before .pre in
-    drop-asks _ _ _ _ _ _ _ (pre .0 .framed .setting) (pre .0 .times-are) (pre .1 .follows) (loop-test .taken) (pre .0 .in-days)
+    drop-asks _ _ _ _ _ _ _ (pre .0 .known .framed .setting) (pre .0 .known .times-are) (pre .1 .follows) (loop-test .taken) (pre .0 .in-days)
     (row-time .ensures) (loop .inv .2)
 
 -- src/counts.rt:115:9
@@ -56,7 +56,7 @@ add-j : tie.Need-add-j Inv-loop μ-loop
 add-j c =
     let loop-test = c .before .before .before .before .before .loop-test in
     let pre = c .before .before .before .before .before .before .before .before .before .before .before .before .pre in
-    omega (arith, loop-test .taken, pre .1 .follows .within, pre .0 .framed .sound .most)
+    omega (arith, loop-test .taken, pre .1 .follows .within, pre .0 .known .framed .sound .most)
 
 -- src/counts.rt:112:5
 loop-less : tie.Need-loop-less Inv-loop μ-loop
@@ -74,7 +74,7 @@ loop-again c =
     let pre = c .before .before .before .before .before .before .before .before .before .before .before .before .pre in (
       omega (arith, loop .inv .0),
       omega (arith, loop-test .taken),
-      drop-next _ _ _ _ _ _ _ (pre .0 .framed .setting) (pre .0 .times-are) (pre .1 .follows) (loop-test .taken) (pre .0 .in-days)
+      drop-next _ _ _ _ _ _ _ (pre .0 .known .framed .setting) (pre .0 .known .times-are) (pre .1 .follows) (loop-test .taken) (pre .0 .in-days)
           (row-time .ensures) (loop .inv .2) (drop-count .ensures),
     )
 
@@ -90,7 +90,7 @@ returns : tie.Need-returns Inv-loop μ-loop
 returns c =
     let loop = c .before .loop in
     let pre = c .before .before .before .before .before .before .before .pre in
-    drop-end _ _ _ _ _ _ _ (pre .0 .framed .setting) (pre .0 .times-are) (pre .1 .follows) (c .loop-test .left) (loop .inv .2)
+    drop-end _ _ _ _ _ _ _ (pre .0 .known .framed .setting) (pre .0 .known .times-are) (pre .1 .follows) (c .loop-test .left) (loop .inv .2)
 
 pub drop-rows-spec : {M : Type 1} → statement M
 drop-rows-spec =

@@ -43,9 +43,11 @@ count-times-requires c κs =
     let begin = c .before .before .before .before .before .before .before .before .begin in
     let pre = c .before .before .before .before .before .before .before .before .before .before .before .before .before .before .before .before .before .before .before .before .before .before .before .before .before .before .before .before .before .pre in (
       record {
-        framed = framed-of (pre .0) (pre .1 .1 .0 .0) (pre .1 .1 .0 .2) (pre .1 .1 .0 .3);
-        span = span-after (pre .1 .1 .0 .1) (pre .1 .1 .0 .3) (pre .1 .1 .0 .4);
-        times-are = begin .ensures .times-are;
+        known = record {
+          framed = framed-of (pre .0) (pre .1 .1 .0 .0) (pre .1 .1 .0 .2) (pre .1 .1 .0 .3);
+          span = span-after (pre .1 .1 .0 .1) (pre .1 .1 .0 .3) (pre .1 .1 .0 .4);
+          times-are = begin .ensures .times-are;
+        };
         in-days = pre .1 .1 .0 .2;
       },
       pre .1 .1 .1 .3,

@@ -29,13 +29,13 @@ loop-holds c =
 -- src/starts.rt:63:13
 row-time-requires : tie.Need-row-time-requires Inv-loop μ-loop
 row-time-requires c κs =
-    let pre′ = c .before .before .before .before .before .before .pre in
-    let pre = pre′ in (
-      pre .0 .inside .0,
-      (
-        span-of (pre .1 .0) (pre .1 .1) (pre .1 .3),
-        (pre .0 .inside .1, omega (arith, c .loop-test .taken, pre .1 .2 .within)),
-      ),
+    let pre = c .before .before .before .before .before .before .pre in (
+      record {
+        framed = pre .0 .inside .0;
+        span = span-of (pre .1 .0) (pre .1 .1) (pre .1 .3);
+        times-are = pre .0 .inside .1;
+      },
+      omega (arith, c .loop-test .taken, pre .1 .2 .within),
     )
 
 -- src/starts.rt:64:9

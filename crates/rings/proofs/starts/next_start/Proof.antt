@@ -21,9 +21,11 @@ drop-rows-requires c κs =
     let pre = c .before .before .before .before .before .before .before .before .before .before .pre in
     let here = pre .0 .inside in (
       record {
-        framed = open-framed (here .opened);
-        span = span-of (pre .1 .0 .0) (pre .1 .0 .2) (pre .1 .0 .4);
-        times-are = here .times-are;
+        known = record {
+          framed = open-framed (here .opened);
+          span = span-of (pre .1 .0 .0) (pre .1 .0 .2) (pre .1 .0 .4);
+          times-are = here .times-are;
+        };
         in-days = pre .1 .0 .1;
       },
       record { follows = pre .1 .0 .3; timed = here .timed },

@@ -90,8 +90,12 @@ time-rows-requires c κs =
     let sound = pre .0 in
     let asked = pre .1 .0 in
     let buffers = pre .1 .1 in (
-      framed-of sound (asked .some-k) (asked .last-day) (rows-before .ensures),
-      (span-of (asked .ordered) (rows-before .ensures) (rows-before2 .ensures), (peel .ensures, buffers .rows)),
+      record {
+        framed = framed-of sound (asked .some-k) (asked .last-day) (rows-before .ensures);
+        span = span-of (asked .ordered) (rows-before .ensures) (rows-before2 .ensures);
+        times-are = peel .ensures;
+      },
+      buffers .rows,
     )
 
 -- src/times.rt:146:5

@@ -12,21 +12,17 @@ use Rattle.rings.proofs.times.greater.Reads as greater-reads
 returns : tie.Need-returns
 returns c =
     let pre = c .before .before .before .before .before .before .pre in
-    let framed = pre .0 in
-    let span = pre .1 .0 in
-    let times = pre .1 .1 .0 in
-    let below = pre .1 .1 .1 in
-    row-early _ _ _ _ framed span times below (c .if1 .taken)
+    let known = pre .0 in
+    let below = pre .1 in
+    row-early _ _ _ _ known below (c .if1 .taken)
 
 -- src/times.rt:54:9
 returns-2 : tie.Need-returns-2
 returns-2 c =
     let pre = c .before .before .before .before .before .before .before .pre in
-    let framed = pre .0 in
-    let span = pre .1 .0 in
-    let times = pre .1 .1 .0 in
-    let below = pre .1 .1 .1 in
-    row-late _ _ _ _ framed span times below (c .if2 .taken)
+    let known = pre .0 in
+    let below = pre .1 in
+    row-late _ _ _ _ known below (c .if2 .taken)
 
 -- src/times.rt:56:9
 entry-requires : tie.Need-entry-requires
@@ -41,13 +37,11 @@ mul-greater : tie.Need-mul-greater
 mul-greater c =
     let entry = c .before .entry in
     let pre = c .before .before .before .before .before .before .before .before .before .pre in
-    let framed = pre .0 in
-    let span = pre .1 .0 in
-    let times = pre .1 .1 .0 in
-    let below = pre .1 .1 .1 in
+    let known = pre .0 in
+    let below = pre .1 in
     omega (
       arith,
-      row-reads _ _ _ _ framed span times below (entry .ensures) (c .entry2 .ensures),
+      row-reads _ _ _ _ known below (entry .ensures) (c .entry2 .ensures),
     )
 
 -- src/times.rt:58:21
@@ -56,11 +50,9 @@ shared-slice-read-greater c =
     let entry2 = c .before .entry2 in
     let entry = c .before .before .entry in
     let pre = c .before .before .before .before .before .before .before .before .before .before .pre in
-    let framed = pre .0 in
-    let span = pre .1 .0 in
-    let times = pre .1 .1 .0 in
-    let below = pre .1 .1 .1 in
-    row-reads _ _ _ _ framed span times below (entry .ensures) (entry2 .ensures) .2
+    let known = pre .0 in
+    let below = pre .1 in
+    row-reads _ _ _ _ known below (entry .ensures) (entry2 .ensures) .2
 
 -- src/times.rt:58:31
 mul-greater-2 : tie.Need-mul-greater-2
@@ -68,12 +60,10 @@ mul-greater-2 c =
     let entry2 = c .before .entry2 in
     let entry = c .before .before .entry in
     let pre = c .before .before .before .before .before .before .before .before .before .before .pre in
-    let framed = pre .0 in
-    let span = pre .1 .0 in
-    let times = pre .1 .1 .0 in
-    let below = pre .1 .1 .1 in
+    let known = pre .0 in
+    let below = pre .1 in
     omega
-    (arith, row-reads _ _ _ _ framed span times below (entry .ensures) (entry2 .ensures))
+    (arith, row-reads _ _ _ _ known below (entry .ensures) (entry2 .ensures))
 
 -- src/times.rt:58:31
 shared-slice-read-greater-2 : tie.Need-shared-slice-read-greater-2
@@ -81,11 +71,9 @@ shared-slice-read-greater-2 c =
     let entry2 = c .before .before .entry2 in
     let entry = c .before .before .before .entry in
     let pre = c .before .before .before .before .before .before .before .before .before .before .before .pre in
-    let framed = pre .0 in
-    let span = pre .1 .0 in
-    let times = pre .1 .1 .0 in
-    let below = pre .1 .1 .1 in
-    row-reads _ _ _ _ framed span times below (entry .ensures) (entry2 .ensures) .3
+    let known = pre .0 in
+    let below = pre .1 in
+    row-reads _ _ _ _ known below (entry .ensures) (entry2 .ensures) .3
 
 -- src/times.rt:58:13
 greater-requires : tie.Need-greater-requires
@@ -114,11 +102,9 @@ returns-3 c =
     let pre =
     c .before .before .before .before .before .before .before .before .before .before .before .before .before
     .before .pre in
-    let framed = pre .0 in
-    let span = pre .1 .0 in
-    let times = pre .1 .1 .0 in
-    let below = pre .1 .1 .1 in
-    row-mid _ _ _ _ framed span times below (if1 .left) (if2 .left) (entry .ensures)
+    let known = pre .0 in
+    let below = pre .1 in
+    row-mid _ _ _ _ known below (if1 .left) (if2 .left) (entry .ensures)
     (entry2 .ensures) (greater .ensures) (c .greater2 .ensures)
 
 pub row-time-spec : {M : Type 1} → statement M

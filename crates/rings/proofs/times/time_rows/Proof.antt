@@ -27,18 +27,16 @@ loop-holds c = (omega arith, fill-start _ _)
 row-time-requires : tie.Need-row-time-requires Inv-loop μ-loop
 row-time-requires c κs =
     let pre = c .before .before .before .before .before .before .before .pre in
-    let framed = pre .0 in
-    let span = pre .1 .0 in
-    let times = pre .1 .1 .0 in
-    (framed, (span, (times, c .loop-test .taken)))
+    let known = pre .0 in
+    (known, c .loop-test .taken)
 
 -- src/times.rt:82:9
 mul-rows : tie.Need-mul-rows Inv-loop μ-loop
 mul-rows c =
     let loop-test = c .before .loop-test in
     let pre = c .before .before .before .before .before .before .before .before .pre in
-    let framed = pre .0 in
-    omega (arith, loop-test .taken, framed .sound .most)
+    let known = pre .0 in
+    omega (arith, loop-test .taken, known .framed .sound .most)
 
 -- src/times.rt:82:9
 slice-write-rows : tie.Need-slice-write-rows Inv-loop μ-loop
@@ -46,7 +44,7 @@ slice-write-rows c =
     let loop-test = c .before .loop-test in
     let loop = c .before .before .loop in
     let pre = c .before .before .before .before .before .before .before .before .pre in
-    let long = pre .1 .1 .1 in
+    let long = pre .1 in
     omega (arith, loop-test .taken, long, loop .inv .1 .long)
 
 -- src/times.rt:94:9
@@ -54,8 +52,8 @@ add-j : tie.Need-add-j Inv-loop μ-loop
 add-j c =
     let loop-test = c .before .loop-test in
     let pre = c .before .before .before .before .before .before .before .before .pre in
-    let framed = pre .0 in
-    omega (arith, loop-test .taken, framed .sound .most)
+    let known = pre .0 in
+    omega (arith, loop-test .taken, known .framed .sound .most)
 
 -- src/times.rt:81:5
 loop-less : tie.Need-loop-less Inv-loop μ-loop
@@ -69,7 +67,7 @@ loop-again c =
     let loop-test = c .before .loop-test in
     let loop = c .before .before .loop in
     let pre = c .before .before .before .before .before .before .before .before .pre in
-    let long = pre .1 .1 .1 in (
+    let long = pre .1 in (
       omega (arith, loop-test .taken),
       fill-next (loop .inv .1) (omega (arith, loop-test .taken, long, loop .inv .1 .long))
           (c .row-time .ensures),
@@ -86,7 +84,7 @@ returns : tie.Need-returns Inv-loop μ-loop
 returns c =
     let loop = c .before .loop in
     let pre = c .before .before .before .before .before .before .before .pre in
-    let long = pre .1 .1 .1 in
+    let long = pre .1 in
     fill-end _ (loop .inv .1) long (c .loop-test .left)
 
 pub time-rows-spec : {M : Type 1} → statement M
