@@ -5,7 +5,7 @@
 --     Losses, losses-start, losses-next, losses-end       the loop of `lose_listed`
 --     gathered-lessened       who is listed is who loses u by the rise
 -- Assumes nothing.
-use Prim.Native.Nat.{ℕ, max, _+_, _-_, _*_, _≤_, _<_}
+use Prim.Native.Nat.{ℕ, max, _+_, _-_, _≤_, _<_}
 use native.Mathlib.Nat.{le-refl, le-trans, eq-or-lt-of-le}
 use native.Mathlib.Numerals.{add-one}
 use native.Mathlib.Omega.{arith}
@@ -17,21 +17,23 @@ use lib.ListN.{length, getD, set, length-set}
 use lib.Seq.{getD-set-same, getD-set-other}
 use lib.Dec.{leb, eqb}
 use borrow.Author.Tests.{leb-true, leb-false, eq-eqb, le-leb}
-use Rattle.rings.specs.Words.{_and_, at, count}
+use Rattle.rings.specs.Words.{_and_, count}
 use Rattle.rings.specs.Table.{Table, tableOf, size, dayOf}
 use Rattle.rings.specs.Ring.{touches, query}
 use Rattle.rings.specs.CoreTimes.{never}
 use Rattle.rings.specs.Inner.Choice.{Picked}
-use Rattle.rings.specs.Inner.Links.{pickOther, otherOf, pairCounts, fresh, Reading, Every}
+use Rattle.rings.specs.Inner.Links.{otherOf, pairCounts, fresh, Reading, Every}
+use Rattle.rings.specs.Inner.Incident.{RowRead}
 use Rattle.rings.specs.Inner.Peeling.{Setting, Open, Place, guess}
 use Rattle.rings.specs.declared.frame.Frame.{Frame}
+use Rattle.rings.specs.declared.incident.Incident.{Incident}
 use Rattle.rings.specs.Inner.Settling.{value, moving, Days, Seen, Noting, Behind, Gathered, Losing, Fewer, Lessened, Queued}
 use Rattle.rings.specs.declared.Query.{Query}
 use Rattle.rings.proofs.WordLaws.{look, and-i, and-l, and-r, count-le, count-none, tally-yes, tally-no, same-or}
 use Rattle.rings.proofs.PairLaws.{other-apart}
 use Rattle.rings.proofs.LeadLaws.{counts-from, counts-here, fresh-counts, fresh-from}
 use Rattle.rings.proofs.FallLaws.{guess-at, other-small}
-use Rattle.rings.proofs.ShelfLaws.{reading-out, reading-row, reading-touch, reading-from, reading-gap, reading-next, reading-fresh, reading-other}
+use Rattle.rings.proofs.ShelfLaws.{reading-out, reading-from, reading-gap, reading-next}
 use Rattle.rings.proofs.CountingLaws.{count-past}
 use Rattle.rings.proofs.ChoiceLaws.{picked-most}
 use Rattle.rings.proofs.LookLaws.{both, seen-start, seen-note, seen-idle, Glance}
@@ -196,72 +198,64 @@ module _ (d f g links : List ℕ) (r : Frame) (R : Open d f g links r) (xs : Lis
     pub gathering-out : last ≤ p → Gathered tt (guess xs) (r .lo) (r .stop) c u (length d) above moved tail end ws
     gathering-out h = gathered-out tt (guess xs) (r .lo) (r .stop) soon above-most (G .kept) (G .within) (reading-out d f g links (R .sound) (R .shelves) small (G .reading) ee E h)
 
-    module _ (here : p < last) {j : ℕ} (ej : j ≡ getD links (8192 + p) 0) where
-      below : j < length d
-      below = reading-row d f g links (R .sound) (R .shelves) small (G .reading) ee here ej
+    module _ (here : p < last) {it : Incident} (I : RowRead tt links (r .lo) u p it) where
+      from : G .b ≤ it .row
+      from = reading-from d f g links (R .sound) (R .shelves) small (G .reading) ee here (I .row)
 
-      from : G .b ≤ j
-      from = reading-from d f g links (R .sound) (R .shelves) small (G .reading) ee here ej
+      gap : (i : ℕ) → G .b ≤ i → i < it .row → touches tt i u ≡ true → (i < r .lo) ⊎ (guess xs (otherOf tt i u) ≡ never)
+      gap = reading-gap d f g links (R .sound) (R .shelves) small (G .reading) ee here (I .row) E
 
-      gap : (i : ℕ) → G .b ≤ i → i < j → touches tt i u ≡ true → (i < r .lo) ⊎ (guess xs (otherOf tt i u) ≡ never)
-      gap = reading-gap d f g links (R .sound) (R .shelves) small (G .reading) ee here ej E
+      -- the walk began at lo
+      late : r .lo ≤ it .row
+      late = let h = G .late in let k = from in omega arith
 
       pub gathering-few : moved < 16384
-      gathering-few = let a = G .kept .moves in let b = count-le (moving tt (guess xs) (r .lo) c u) (G .b) in let h = from in let k = below in let m = R .sound .most in omega arith
+      gathering-few =
+          let a = G .kept .moves in
+          let b = count-le (moving tt (guess xs) (r .lo) c u) (G .b) in let h = from in let k = I .below in let m = R .sound .most in omega arith
 
-      module _ {day : ℕ} (ed : day ≡ getD d j 0) where
-        day-is : day ≡ dayOf tt j
-        unfolding dayOf at
-        day-is = ed
+      pub gathering-over : (c < it .day) × ((r .query .k ≤ n) ⊎ ((r .stop < it .day) ⊎ (above < it .day))) → n < r .query .k
+          → Gathered tt (guess xs) (r .lo) (r .stop) c u (length d) above moved tail end ws
+      gathering-over o few =
+          gathered-stop tt (guess xs) (r .lo) (r .stop) soon above-most (G .kept) (it .row) from gap
+          (λ i a k. let e = I .day in let y = R .setting .rising (it .row) i a k in let z = o .0 in omega arith)
+          (λ i a k.
+          let e = I .day in
+          let y = R .setting .rising (it .row) i a k in
+          ⊎-elim (λ h. absurd (omega arith)) (λ h. ⊎-elim (λ z. _⊎_.inl (omega arith)) (λ z. _⊎_.inr (omega arith)) h) (o .1))
+          (let b = I .below in omega arith)
 
-        pub gathering-over : (c < day) × ((r .query .k ≤ n) ⊎ ((r .stop < day) ⊎ (above < day))) → n < r .query .k → Gathered tt (guess xs) (r .lo) (r .stop) c u (length d) above moved tail end ws
-        gathering-over o few =
-            gathered-stop tt (guess xs) (r .lo) (r .stop) soon above-most (G .kept) j from gap (λ i a k. let e = day-is in let y = R .setting .rising j i a k in let z = o .0 in omega arith)
-            (λ i a k. let e = day-is in let y = R .setting .rising j i a k in ⊎-elim (λ h. absurd (omega arith)) (λ h. ⊎-elim (λ z. _⊎_.inl (omega arith)) (λ z. _⊎_.inr (omega arith)) h) (o .1)) (let b = below in omega arith)
+      module _ {xv z n′ above′ more′ : ℕ} (l : it .day ≤ r .stop) (ex : xv ≡ getD xs (it .other) 0) (ez : z ≡ max xv (it .day)) (N : Noting (it .leads) z c n above more n′ above′ more′) where
+        x-is : xv ≡ guess xs (it .other)
+        x-is = ex ∙ sym (guess-at xs (it .other) len (I .small))
 
-        module _ {a e v : ℕ} (ea : a ≡ getD f j 0) (eb : e ≡ getD g j 0) (ev : v ≡ pickOther (eqb a u) a e) where
-          v-is : v ≡ otherOf tt j u
-          v-is = reading-other d f g links (R .sound) (R .shelves) small (G .reading) ee here ej ea eb ev
+        z-is : z ≡ value tt (guess xs) (it .row) u
+        unfolding value
+        z-is =
+            let h : guess xs (otherOf tt (it .row) u) ≡ guess xs (it .other) = ap (guess xs) (sym (I .other)) in let k = x-is in let o = I .day in omega arith
 
-          touch : touches tt j u ≡ true
-          touch = reading-touch d f g links (R .sound) (R .shelves) small (G .reading) ee here ej
+        z-day : (z ≤ r .stop) ⊎ (z ≡ never)
+        z-day = let o = R .setting .fits in ⊎-elim (λ k. _⊎_.inl (omega arith)) (λ k. _⊎_.inr (omega arith)) (D (it .other) (I .small))
 
-          v-small : v < 4096
-          v-small = subst (λ (w : ℕ). w < 4096) (sym v-is) (other-small tt (r .query) (r .start) (r .stop) (r .lo) (R .setting) j u below touch)
+        seen-on : Seen tt (guess xs) (r .lo) (r .stop) c u (it .row + 1) n′ above′ more′
+        seen-on =
+            ⊎-elim
+            (λ h. seen-note tt (r .query) (r .start) (r .stop) (r .lo) (R .setting) (guess xs) (G .seen) (it .row) from gap (sym (I .leads late) ∙ h) (I .touch) z-is z-day (subst (λ (w : Bool). Noting w z c n above more n′ above′ more′) h N))
+            (λ h. seen-idle tt (r .query) (r .start) (r .stop) (r .lo) (R .setting) (guess xs) (G .seen) (it .row) from gap (sym (I .leads late) ∙ h) z-day (subst (λ (w : Bool). Noting w z c n above more n′ above′ more′) h N))
+            (look (it .leads))
 
-          late : r .lo ≤ j
-          late = let h = G .late in let k = from in omega arith
-
-          module _ {y : Bool} {xv z n′ above′ more′ : ℕ} (ey : y ≡ (leb (r .lo) j and leb (getD links (8192 + 2 * length d + j) 0) (r .lo))) (l : day ≤ r .stop) (ex : xv ≡ getD xs v 0) (ez : z ≡ max xv day) (N : Noting y z c n above more n′ above′ more′) where
-            x-is : xv ≡ guess xs v
-            x-is = ex ∙ sym (guess-at xs v len v-small)
-
-            z-is : z ≡ value tt (guess xs) j u
-            unfolding value
-            z-is = let h : guess xs (otherOf tt j u) ≡ guess xs v = ap (guess xs) (sym v-is) in let k = x-is in let o = day-is in omega arith
-
-            z-day : (z ≤ r .stop) ⊎ (z ≡ never)
-            z-day = let o = R .setting .fits in ⊎-elim (λ k. _⊎_.inl (omega arith)) (λ k. _⊎_.inr (omega arith)) (D v v-small)
-
-            fresh-is : y ≡ fresh tt (r .lo) j
-            fresh-is = reading-fresh d f g links (R .sound) (R .shelves) small (G .reading) ee here ej (r .lo) ey
-
-            seen-on : Seen tt (guess xs) (r .lo) (r .stop) c u (j + 1) n′ above′ more′
-            seen-on =
-                ⊎-elim (λ h. seen-note tt (r .query) (r .start) (r .stop) (r .lo) (R .setting) (guess xs) (G .seen) j from gap (sym fresh-is ∙ h) touch z-is z-day (subst (λ (w : Bool). Noting w z c n above more n′ above′ more′) h N))
-                (λ h. seen-idle tt (r .query) (r .start) (r .stop) (r .lo) (R .setting) (guess xs) (G .seen) j from gap (sym fresh-is ∙ h) z-day (subst (λ (w : Bool). Noting w z c n above more n′ above′ more′) h N)) (look y)
-
-            pub gathering-next : {m w : ℕ} {ws′ : List ℕ} → Picked (leb z c) 1 0 m → end < length ws → ws′ ≡ set ws end v → Picked ((leb z c && y) && eqb xv c) 1 0 w → Gathering d f g links r xs u c tail ws₀ (p + 1) n′ above′ more′ (moved + m) (end + w) ws′
-            gathering-next {ws′ = ws′} A room eq B =
-                record {
-                  b = j + 1;
-                  within = let h = below in omega arith;
-                  late = let h = late in omega arith;
-                  reading = reading-next d f g links (R .sound) (R .shelves) small (G .reading) ee here ej;
-                  seen = seen-on;
-                  kept = gathered-next tt (guess xs) (r .lo) (r .stop) soon above-most (G .kept) j from gap late touch v-is v-small x-is z-is fresh-is N A room eq B;
-                  behind = record { long = ap length eq ∙ (length-set ws end v ∙ G .behind .long); front = λ i h. in-list i eq ∙ (getD-set-other ws end i v 0 (λ o. let k = G .kept .grows in omega arith) ∙ G .behind .front i h) };
-                }
+        pub gathering-next : {m w : ℕ} {ws′ : List ℕ} → Picked (leb z c) 1 0 m → end < length ws → ws′ ≡ set ws end (it .other) → Picked ((leb z c && it .leads) && eqb xv c) 1 0 w
+            → Gathering d f g links r xs u c tail ws₀ (p + 1) n′ above′ more′ (moved + m) (end + w) ws′
+        gathering-next {ws′ = ws′} A room eq B =
+            record {
+              b = it .row + 1;
+              within = let h = I .below in omega arith;
+              late = let h = late in omega arith;
+              reading = reading-next d f g links (R .sound) (R .shelves) small (G .reading) ee here (I .row);
+              seen = seen-on;
+              kept = gathered-next tt (guess xs) (r .lo) (r .stop) soon above-most (G .kept) (it .row) from gap late (I .touch) (I .other) (I .small) x-is z-is (I .leads late) N A room eq B;
+              behind = record { long = ap length eq ∙ (length-set ws end (it .other) ∙ G .behind .long); front = λ i h. in-list i eq ∙ (getD-set-other ws end i (it .other) 0 (λ o. let k = G .kept .grows in omega arith) ∙ G .behind .front i h) };
+            }
 
 -- ---- who is listed loses a supporter
 

@@ -4,9 +4,9 @@
 --     few-start, look-next, look-found, look-never, look-near, short-start, short-next     a look rises from day to day, and stops at the first with k supporters
 --     noted                   what `note` computes without a branch
 --     both, not-first, not-second, bit-is         two tests at once
---     Glance, glance-start, glance-out, glance-over, glance-mark, glance-few, glance-late, glance-most, glance-small     the walk of `look_at` in the book
+--     Glance, glance-start, glance-out, glance-over, glance-mark, glance-few, glance-most     the walk of `look_at` in the book
 -- Assumes nothing.
-use Prim.Native.Nat.{ℕ, zero, suc, max, _+_, _-_, _*_, _≤_, _<_}
+use Prim.Native.Nat.{ℕ, zero, suc, max, _+_, _-_, _≤_, _<_}
 use native.Mathlib.Nat.{le-refl, le-trans, le-antisymm, eq-or-lt-of-le}
 use native.Mathlib.Numerals.{add-one}
 use native.Mathlib.Omega.{arith}
@@ -17,15 +17,17 @@ use mathlib.Core.List.{List}
 use lib.ListN.{length, getD}
 use lib.Dec.{leb, ltb, eqb}
 use borrow.Author.Tests.{leb-true, leb-false, ltb-true, ltb-false, eqb-true, le-leb}
-use Rattle.rings.specs.Words.{_and_, at, tally, count}
+use Rattle.rings.specs.Words.{_and_, tally, count}
 use Rattle.rings.specs.Table.{Table, tableOf, size, dayOf}
 use Rattle.rings.specs.Ring.{joins, names, touches, query}
 use Rattle.rings.specs.CoreTimes.{never}
 use Rattle.rings.specs.Inner.Choice.{Picked}
-use Rattle.rings.specs.Inner.Links.{pickOther, otherOf, fresh, Reading, Every}
+use Rattle.rings.specs.Inner.Links.{otherOf, fresh, Reading, Every}
+use Rattle.rings.specs.Inner.Incident.{RowRead}
 use Rattle.rings.specs.Inner.Support.{supports, supporters}
 use Rattle.rings.specs.Inner.Peeling.{Setting, Open, guess}
 use Rattle.rings.specs.declared.frame.Frame.{Frame}
+use Rattle.rings.specs.declared.incident.Incident.{Incident}
 use Rattle.rings.specs.Inner.Settling.{value, backing, backers, Days, Seen, Noting, Glanced, Short, Spared, Looked}
 use Rattle.rings.specs.declared.Query.{Query}
 use Rattle.rings.proofs.WordLaws.{look, clash, and-i, and-l, and-r, count-mono, count-none, tally-yes, tally-no}
@@ -34,8 +36,8 @@ use Rattle.rings.proofs.PairLaws.{count-inject, joins-other, joins-same
 use Rattle.rings.proofs.LeadLaws.{fresh-from, fresh-one, lead-opens, open-lead}
 use Rattle.rings.proofs.FixpointLaws.{supports-e, supports-i, enough}
 use Rattle.rings.proofs.OthersLaws.{touch-named}
-use Rattle.rings.proofs.FallLaws.{guess-at, other-small}
-use Rattle.rings.proofs.ShelfLaws.{reading-out, reading-row, reading-touch, reading-from, reading-gap, reading-next, reading-fresh, reading-other}
+use Rattle.rings.proofs.FallLaws.{guess-at}
+use Rattle.rings.proofs.ShelfLaws.{reading-out, reading-from, reading-gap, reading-next}
 
 -- ---- rows and supporters
 
@@ -428,64 +430,71 @@ module _ (d f g links : List ℕ) (r : Frame) (R : Open d f g links r) (xs : Lis
     pub glance-out : end ≤ p → Glanced tt (guess xs) (r .lo) (r .stop) c u (length d) (r .query .k) n above more
     glance-out h = Glanced.seen (seen-out tt (r .query) (r .start) (r .stop) (r .lo) (R .setting) (guess xs) (G .seen) (G .within) (reading-out d f g links (R .sound) (R .shelves) small (G .reading) ee E h))
 
-    module _ (here : p < end) {j : ℕ} (ej : j ≡ getD links (8192 + p) 0) where
-      below : j < length d
-      below = reading-row d f g links (R .sound) (R .shelves) small (G .reading) ee here ej
+    module _ (here : p < end) {it : Incident} (I : RowRead tt links (r .lo) u p it) where
+      from : G .b ≤ it .row
+      from = reading-from d f g links (R .sound) (R .shelves) small (G .reading) ee here (I .row)
 
-      from : G .b ≤ j
-      from = reading-from d f g links (R .sound) (R .shelves) small (G .reading) ee here ej
-
-      gap : (i : ℕ) → G .b ≤ i → i < j → touches tt i u ≡ true → (i < r .lo) ⊎ (guess xs (otherOf tt i u) ≡ never)
-      gap = reading-gap d f g links (R .sound) (R .shelves) small (G .reading) ee here ej E
+      gap : (i : ℕ) → G .b ≤ i → i < it .row → touches tt i u ≡ true → (i < r .lo) ⊎ (guess xs (otherOf tt i u) ≡ never)
+      gap = reading-gap d f g links (R .sound) (R .shelves) small (G .reading) ee here (I .row) E
 
       pub glance-few : (n < 16384) × (more < 16384) × (c < above)
-      glance-few = let a = glance-count in let b = below in let c = from in let h = R .sound .most in (omega arith, omega arith, G .seen .rises)
+      glance-few = let a = glance-count in let b = I .below in let c = from in let h = R .sound .most in (omega arith, omega arith, G .seen .rises)
 
       -- the walk began at lo
-      pub glance-late : r .lo ≤ j
+      glance-late : r .lo ≤ it .row
       glance-late = let a = G .late in let b = from in omega arith
 
-      stop-here : ((i : ℕ) → j ≤ i → i < length d → (r .stop < dayOf tt i) ⊎ (above ≤ dayOf tt i)) → Seen tt (guess xs) (r .lo) (r .stop) c u (length d) n above more
-      stop-here late = seen-stop tt (r .query) (r .start) (r .stop) (r .lo) (R .setting) (guess xs) (G .seen) j from gap top late (let b = below in omega arith)
+      stop-here : ((i : ℕ) → it .row ≤ i → i < length d → (r .stop < dayOf tt i) ⊎ (above ≤ dayOf tt i))
+          → Seen tt (guess xs) (r .lo) (r .stop) c u (length d) n above more
+      stop-here late = seen-stop tt (r .query) (r .start) (r .stop) (r .lo) (R .setting) (guess xs) (G .seen) (it .row) from gap top late (let b = I .below in omega arith)
 
-      module _ {day : ℕ} (ed : day ≡ getD d j 0) where
-        day-is : day ≡ dayOf tt j
-        unfolding dayOf at
-        day-is = ed
+      pub glance-over : (c < it .day) × ((r .query .k ≤ n) ⊎ ((r .stop < it .day) ⊎ (above < it .day)))
+          → Glanced tt (guess xs) (r .lo) (r .stop) c u (length d) (r .query .k) n above more
+      glance-over o =
+          ⊎-elim (λ h. Glanced.full h (let z = all in omega arith))
+          (λ h.
+          Glanced.seen
+          (stop-here (λ i a k. let e = I .day in let y = R .setting .rising (it .row) i a k in ⊎-elim (λ z. _⊎_.inl (omega arith)) (λ z. _⊎_.inr (omega arith)) h)))
+          (o .1)
+        where
+          all : n ≡ backers tt (guess xs) (r .lo) c u (length d)
+          all =
+              seen-count tt (r .query) (r .start) (r .stop) (r .lo) (R .setting) (guess xs) (G .seen) (it .row) from gap
+              (λ i a k. let e = I .day in let y = R .setting .rising (it .row) i a k in let z = o .0 in omega arith) (let b = I .below in omega arith)
 
-        pub glance-over : (c < day) × ((r .query .k ≤ n) ⊎ ((r .stop < day) ⊎ (above < day))) → Glanced tt (guess xs) (r .lo) (r .stop) c u (length d) (r .query .k) n above more
-        glance-over o =
-            ⊎-elim (λ h. Glanced.full h (let z = all in omega arith))
-            (λ h. Glanced.seen (stop-here (λ i a k. let e = day-is in let y = R .setting .rising j i a k in ⊎-elim (λ z. _⊎_.inl (omega arith)) (λ z. _⊎_.inr (omega arith)) h))) (o .1)
-          where
-            all : n ≡ backers tt (guess xs) (r .lo) c u (length d)
-            all = seen-count tt (r .query) (r .start) (r .stop) (r .lo) (R .setting) (guess xs) (G .seen) j from gap (λ i a k. let e = day-is in let y = R .setting .rising j i a k in let z = o .0 in omega arith) (let b = below in omega arith)
+      glance-skip : {n′ above′ more′ : ℕ} → it .leads ≡ false → Noting true never c n above more n′ above′ more′
+          → Glance d f g links r xs u c (p + 1) n′ above′ more′
+      glance-skip h N =
+          record {
+            b = it .row + 1;
+            within = let b = I .below in omega arith;
+            late = let b = glance-late in omega arith;
+            reading = reading-next d f g links (R .sound) (R .shelves) small (G .reading) ee here (I .row);
+            seen = seen-stale tt (r .query) (r .start) (r .stop) (r .lo) (R .setting) (guess xs) (G .seen) (it .row) from gap (sym (I .leads glance-late) ∙ h) N;
+          }
 
-        glance-skip : {y : Bool} {n′ above′ more′ : ℕ} → y ≡ (leb (r .lo) j and leb (getD links (8192 + 2 * length d + j) 0) (r .lo)) → y ≡ false → Noting true never c n above more n′ above′ more′ → Glance d f g links r xs u c (p + 1) n′ above′ more′
-        glance-skip ey h N =
-            record { b = j + 1; within = let b = below in omega arith; late = let b = glance-late in omega arith; reading = reading-next d f g links (R .sound) (R .shelves) small (G .reading) ee here ej; seen = seen-stale tt (r .query) (r .start) (r .stop) (r .lo) (R .setting) (guess xs) (G .seen) j from gap (sym (reading-fresh d f g links (R .sound) (R .shelves) small (G .reading) ee here ej (r .lo) ey) ∙ h) N }
+      glance-note : {z n′ above′ more′ : ℕ} → it .leads ≡ true → it .day ≤ r .stop → z ≡ max (getD xs (it .other) 0) (it .day)
+          → Noting true z c n above more n′ above′ more′ → Glance d f g links r xs u c (p + 1) n′ above′ more′
+      unfolding value
+      glance-note {z} h l ez N =
+          record {
+            b = it .row + 1;
+            within = let b = I .below in omega arith;
+            late = let b = glance-late in omega arith;
+            reading = reading-next d f g links (R .sound) (R .shelves) small (G .reading) ee here (I .row);
+            seen = seen-note tt (r .query) (r .start) (r .stop) (r .lo) (R .setting) (guess xs) (G .seen) (it .row) from gap (sym (I .leads glance-late) ∙ h) (I .touch) is-value in-range N;
+          }
+        where
+          is-value : z ≡ max (guess xs (otherOf tt (it .row) u)) (dayOf tt (it .row))
+          is-value =
+              let e : guess xs (otherOf tt (it .row) u) ≡ getD xs (it .other) 0 = ap (guess xs) (sym (I .other)) ∙ guess-at xs (it .other) len (I .small) in
+              let o = I .day in omega arith
 
-        module _ {a e v : ℕ} (ea : a ≡ getD f j 0) (eb : e ≡ getD g j 0) (ev : v ≡ pickOther (eqb a u) a e) where
-          v-is : v ≡ otherOf tt j u
-          v-is = reading-other d f g links (R .sound) (R .shelves) small (G .reading) ee here ej ea eb ev
+          in-range : (z ≤ r .stop) ⊎ (z ≡ never)
+          in-range = let o = R .setting .fits in ⊎-elim (λ k. _⊎_.inl (omega arith)) (λ k. _⊎_.inr (omega arith)) (D (it .other) (I .small))
 
-          touch : touches tt j u ≡ true
-          touch = reading-touch d f g links (R .sound) (R .shelves) small (G .reading) ee here ej
-
-          pub glance-small : v < 4096
-          glance-small = subst (λ (w : ℕ). w < 4096) (sym v-is) (other-small tt (r .query) (r .start) (r .stop) (r .lo) (R .setting) j u below touch)
-
-          glance-note : {y : Bool} {z n′ above′ more′ : ℕ} → y ≡ (leb (r .lo) j and leb (getD links (8192 + 2 * length d + j) 0) (r .lo)) → y ≡ true → day ≤ r .stop → z ≡ max (getD xs v 0) day → Noting true z c n above more n′ above′ more′ → Glance d f g links r xs u c (p + 1) n′ above′ more′
-          unfolding value
-          glance-note {y} {z} ey h l ez N =
-              record { b = j + 1; within = let b = below in omega arith; late = let b = glance-late in omega arith; reading = reading-next d f g links (R .sound) (R .shelves) small (G .reading) ee here ej; seen = seen-note tt (r .query) (r .start) (r .stop) (r .lo) (R .setting) (guess xs) (G .seen) j from gap (sym (reading-fresh d f g links (R .sound) (R .shelves) small (G .reading) ee here ej (r .lo) ey) ∙ h) touch is-value in-range N }
-            where
-              is-value : z ≡ max (guess xs (otherOf tt j u)) (dayOf tt j)
-              is-value = let e : guess xs (otherOf tt j u) ≡ getD xs v 0 = ap (guess xs) (sym v-is) ∙ guess-at xs v len glance-small in let o = day-is in omega arith
-
-              in-range : (z ≤ r .stop) ⊎ (z ≡ never)
-              in-range = let o = R .setting .fits in ⊎-elim (λ k. _⊎_.inl (omega arith)) (λ k. _⊎_.inr (omega arith)) (D v glance-small)
-
-          pub glance-mark : {y : Bool} {z w n′ above′ more′ : ℕ} → y ≡ (leb (r .lo) j and leb (getD links (8192 + 2 * length d + j) 0) (r .lo)) → day ≤ r .stop → z ≡ max (getD xs v 0) day → Picked y z never w → Noting true w c n above more n′ above′ more′ → Glance d f g links r xs u c (p + 1) n′ above′ more′
-          glance-mark {y} {n′ = n′} {above′ = above′} {more′ = more′} ey l ez B N =
-              ⊎-elim (λ h. glance-note ey h l ez (subst (λ (i : ℕ). Noting true i c n above more n′ above′ more′) (B .yes h) N)) (λ h. glance-skip ey h (subst (λ (i : ℕ). Noting true i c n above more n′ above′ more′) (B .no h) N)) (look y)
+      pub glance-mark : {z w n′ above′ more′ : ℕ} → it .day ≤ r .stop → z ≡ max (getD xs (it .other) 0) (it .day) → Picked (it .leads) z never w
+          → Noting true w c n above more n′ above′ more′ → Glance d f g links r xs u c (p + 1) n′ above′ more′
+      glance-mark {n′ = n′} {above′ = above′} {more′ = more′} l ez B N =
+          ⊎-elim (λ h. glance-note h l ez (subst (λ (i : ℕ). Noting true i c n above more n′ above′ more′) (B .yes h) N))
+          (λ h. glance-skip h (subst (λ (i : ℕ). Noting true i c n above more n′ above′ more′) (B .no h) N)) (look (it .leads))

@@ -11,11 +11,10 @@ ghost use Rattle.rings.specs.Inner.Settling.{Over, Noting, ScanOn, RoomB
 use crate::choice::one;
 use crate::choice::pick;
 use crate::frame::Frame;
+use crate::incident::row_at;
 use crate::links::entry;
-use crate::links::other;
 use crate::links::put;
 use crate::links::wide;
-use crate::peel::is_first;
 use crate::times::greater;
 
 // A scan of an account's rows: where they begin in the book, the day that is asked about, and the rows that may be passed before it is given up.
@@ -106,16 +105,14 @@ fn look_at(
         let t = tableOf (now (days .entry)) (now (first .entry)) (now (second .entry)) in
         Scanned t frame (now (times .entry)) scan (r .count) (r .above) (r .more) (r .walked)) ⌝ }
 {
-    let n = days.len();
     let last = entry(links, scan.account);
     let mut p = scan.from;
     let mut count = 0;
     let mut above = 65535;
     let mut more = 0;
     while p < last {
-        let j = entry(links, 8192 + p);
-        let day = days[j];
-        if is_over(day, scan.day, frame.stop, above, frame.query.k, count) {
+        let here = row_at(days, first, second, links, frame.lo, scan.account, p);
+        if is_over(here.day, scan.day, frame.stop, above, frame.query.k, count) {
             return Found {
                 count: count,
                 above: above,
@@ -124,12 +121,16 @@ fn look_at(
             };
         }
         p += 1;
-        let fresh = is_first(links, n, frame.lo, j);
-        let a = entry(first, j);
-        let b = entry(second, j);
-        let v = other(a, b, scan.account);
-        let z = greater(times[v], day);
-        let seen = note(pick(fresh, z, 65535), true, scan.day, count, above, more);
+        let v = here.other;
+        let z = greater(times[v], here.day);
+        let seen = note(
+            pick(here.leads, z, 65535),
+            true,
+            scan.day,
+            count,
+            above,
+            more,
+        );
         count = seen.count;
         above = seen.above;
         more = seen.more;
@@ -160,7 +161,6 @@ pub(crate) fn gather(
         let t = tableOf (now (days .entry)) (now (first .entry)) (now (second .entry)) in
         ScannedForRise t frame (now (times .entry)) scan tail (now (queue .entry)) (now (queue .exit)) r) ⌝ }
 {
-    let n = days.len();
     let last = entry(links, scan.account);
     let mut p = scan.from;
     let mut count = 0;
@@ -169,9 +169,8 @@ pub(crate) fn gather(
     let mut moved = 0;
     let mut end = tail;
     while p < last {
-        let j = entry(links, 8192 + p);
-        let day = days[j];
-        if is_over(day, scan.day, frame.stop, above, frame.query.k, count) {
+        let here = row_at(days, first, second, links, frame.lo, scan.account, p);
+        if is_over(here.day, scan.day, frame.stop, above, frame.query.k, count) {
             return Harvest {
                 count: count,
                 above: above,
@@ -182,17 +181,14 @@ pub(crate) fn gather(
             };
         }
         p += 1;
-        let fresh = is_first(links, n, frame.lo, j);
-        let a = entry(first, j);
-        let b = entry(second, j);
-        let v = other(a, b, scan.account);
+        let v = here.other;
         let x = times[v];
-        let z = greater(x, day);
+        let z = greater(x, here.day);
         let within = z <= scan.day;
         put(queue, end, v);
-        end += wide(one(within & fresh & (x == scan.day)));
+        end += wide(one(within & here.leads & (x == scan.day)));
         moved = moved + one(within);
-        let seen = note(z, fresh, scan.day, count, above, more);
+        let seen = note(z, here.leads, scan.day, count, above, more);
         count = seen.count;
         above = seen.above;
         more = seen.more;
