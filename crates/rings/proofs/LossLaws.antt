@@ -1,11 +1,11 @@
 -- Who loses a supporter (src/loss.rt), and who waits for a look by that.
 --     at-place, in-list         equal places, equal lists
 --     under, losing, losing-on, losing-less, queued-start, queued-losing, queued-then     a loss, and the queue after it
---     Wave, wave-start, wave-out, wave-late, wave-stop, wave-small, wave-next      the walk of `lose_others` in the book
+--     Wave, wave-start, wave-out, wave-late, wave-stop, wave-next      the walk of `lose_others` in the book
 --     leaving-start, leaving-row, leaving-last                          the rows that leave
 --     first-is, second-is, day-of, first-small, second-small             what the code reads of a row
 -- Assumes nothing.
-use Prim.Native.Nat.{ℕ, suc, min, max, _+_, _-_, _*_, _≤_, _<_}
+use Prim.Native.Nat.{ℕ, suc, min, max, _+_, _-_, _≤_, _<_}
 use native.Mathlib.Nat.{le-refl, le-trans, le-antisymm, eq-or-lt-of-le}
 use native.Mathlib.Numerals.{add-one}
 use native.Mathlib.Omega.{arith}
@@ -23,9 +23,11 @@ use Rattle.rings.specs.Ring.{touches, query}
 use Rattle.rings.specs.CoreTimes.{never}
 use Rattle.rings.specs.Sound.{Sound}
 use Rattle.rings.specs.Inner.Choice.{Picked}
-use Rattle.rings.specs.Inner.Links.{pickOther, otherOf, fresh, Reading, Every}
+use Rattle.rings.specs.Inner.Links.{otherOf, fresh, Reading, Every}
+use Rattle.rings.specs.Inner.Incident.{RowRead}
 use Rattle.rings.specs.Inner.Peeling.{Setting, Open, Place, guess}
 use Rattle.rings.specs.declared.frame.Frame.{Frame}
+use Rattle.rings.specs.declared.incident.Incident.{Incident}
 use Rattle.rings.specs.Inner.Settling.{value, backing, backers, Days, Losing, Lessened, Leaving, Queued}
 use Rattle.rings.specs.declared.Query.{Query}
 use Rattle.rings.proofs.WordLaws.{look, clash, and-l, count-none, same-or}
@@ -33,7 +35,7 @@ use Rattle.rings.proofs.RingLaws.{touch-cases}
 use Rattle.rings.proofs.PairLaws.{other-first, other-second}
 use Rattle.rings.proofs.LeadLaws.{fresh-from}
 use Rattle.rings.proofs.FallLaws.{guess-at, other-small}
-use Rattle.rings.proofs.ShelfLaws.{reading-out, reading-row, reading-touch, reading-gap, reading-next, reading-fresh, reading-other}
+use Rattle.rings.proofs.ShelfLaws.{reading-out, reading-gap, reading-next}
 use Rattle.rings.proofs.ChoiceLaws.{picked-most}
 use Rattle.rings.proofs.LookLaws.{both, not-first, backing-e, backers-yes, backers-no}
 
@@ -202,24 +204,25 @@ module _ (d f g links : List ℕ) (r : Frame) (R : Open d f g links r) (xs : Lis
     pub wave-out : last ≤ p → Lessened tw (guess xs) (r .lo) u (length d) old new sp₀ sp × Queued tail sp₀ ws₀ end sp ws
     wave-out h = (lessened-all tw (guess xs) (r .lo) u old new sp₀ (W .done) (length d) (λ i a k z y p o. over (reading-out d f g links (R .sound) (R .shelves) small (W .reading) ee E h i a k y) z o), W .queued)
 
-    module _ (more : p < last) {j : ℕ} (ej : j ≡ getD links (8192 + p) 0) {day : ℕ} (ed : day ≡ getD d j 0) where
-      w-below : j < length d
-      w-below = reading-row d f g links (R .sound) (R .shelves) small (W .reading) ee more ej
-
-      w-gap : (i : ℕ) → b ≤ i → i < j → touches tw i u ≡ true → (i < r .lo) ⊎ (guess xs (otherOf tw i u) ≡ never)
-      w-gap = reading-gap d f g links (R .sound) (R .shelves) small (W .reading) ee more ej E
-
-      w-day : day ≡ dayOf tw j
-      unfolding dayOf at
-      w-day = ed
+    module _ (more : p < last) {it : Incident} (I : RowRead tw links (r .lo) u p it) where
+      w-gap : (i : ℕ) → b ≤ i → i < it .row → touches tw i u ≡ true → (i < r .lo) ⊎ (guess xs (otherOf tw i u) ≡ never)
+      w-gap = reading-gap d f g links (R .sound) (R .shelves) small (W .reading) ee more (I .row) E
 
       -- a row of u from there on takes none: it was passed over, or is dated on the new time or later, or behind the range
-      pub wave-late : {until : ℕ} → until ≡ min new (r .stop + 1) → until ≤ day → (i : ℕ) → b ≤ i → i < length d → touches tw i u ≡ true → ((i < r .lo) ⊎ (guess xs (otherOf tw i u) ≡ never)) ⊎ ((new ≤ dayOf tw i) ⊎ (r .stop < dayOf tw i))
+      pub wave-late : {until : ℕ} → until ≡ min new (r .stop + 1) → until ≤ it .day → (i : ℕ) → b ≤ i → i < length d → touches tw i u ≡ true
+          → ((i < r .lo) ⊎ (guess xs (otherOf tw i u) ≡ never)) ⊎ ((new ≤ dayOf tw i) ⊎ (r .stop < dayOf tw i))
       wave-late eu h i a k y =
-          ⊎-elim (λ z. let o = R .setting .rising j i (leb-true j i z) k in let e = w-day in _⊎_.inr (⊎-elim (λ m. let c = leb-true new (dayOf tw i) m in _⊎_.inl c) (λ m. let c = leb-false new (dayOf tw i) m in _⊎_.inr (omega arith)) (look (leb new (dayOf tw i)))))
-          (λ z. _⊎_.inl (w-gap i a (leb-false j i z) y)) (look (leb j i))
+          ⊎-elim
+          (λ z.
+          let o = R .setting .rising (it .row) i (leb-true (it .row) i z) k in
+          let e = I .day in
+          _⊎_.inr
+          (⊎-elim (λ m. let c = leb-true new (dayOf tw i) m in _⊎_.inl c) (λ m. let c = leb-false new (dayOf tw i) m in _⊎_.inr (omega arith))
+          (look (leb new (dayOf tw i)))))
+          (λ z. _⊎_.inl (w-gap i a (leb-false (it .row) i z) y)) (look (leb (it .row) i))
 
-      pub wave-stop : {until : ℕ} → until ≡ min new (r .stop + 1) → until ≤ day → Lessened tw (guess xs) (r .lo) u (length d) old new sp₀ sp × Queued tail sp₀ ws₀ end sp ws
+      pub wave-stop : {until : ℕ} → until ≡ min new (r .stop + 1) → until ≤ it .day
+          → Lessened tw (guess xs) (r .lo) u (length d) old new sp₀ sp × Queued tail sp₀ ws₀ end sp ws
       wave-stop eu h = (
         lessened-all tw (guess xs) (r .lo) u old new sp₀ (W .done) (length d)
             (λ i a k z y p o.
@@ -229,26 +232,23 @@ module _ (d f g links : List ℕ) (r : Frame) (R : Open d f g links r) (xs : Lis
         W .queued,
       )
 
-      module _ {a e v : ℕ} (ea : a ≡ getD f j 0) (eb : e ≡ getD g j 0) (ev : v ≡ pickOther (eqb a u) a e) where
-        w-other : v ≡ otherOf tw j u
-        w-other = reading-other d f g links (R .sound) (R .shelves) small (W .reading) ee more ej ea eb ev
+      pub wave-next : {w : Bool} {z own end′ : ℕ} {sp′ ws′ : List ℕ} → end < 4352 → z ≡ getD xs (it .other) 0 → own ≡ max old (it .day) → w ≡ (leb own z && ltb z new)
+          → Losing (it .leads && w) (it .other) end sp ws sp′ ws′ end′ → Wave d f g links r xs u old new tail sp₀ ws₀ (it .row + 1) (p + 1) end′ sp′ ws′
+      wave-next {w} {z} {own} room ez eo ew L =
+          record {
+            reading = reading-next d f g links (R .sound) (R .shelves) small (W .reading) ee more (I .row);
+            done = lessened-next tw (guess xs) (r .lo) u old new sp₀ (W .done) (it .row) (λ i a k z y o. over (w-gap i a k y) z o) (I .other) (I .small) lost L;
+            queued = queued-losing (I .small) room (W .done .long) (W .queued) L;
+          }
+        where
+          time : z ≡ guess xs (it .other)
+          time = ez ∙ sym (guess-at xs (it .other) len (I .small))
 
-        pub wave-small : v < 4096
-        wave-small = subst (λ (w : ℕ). w < 4096) (sym w-other) (other-small tw (r .query) (r .start) (r .stop) (r .lo) (R .setting) j u w-below (reading-touch d f g links (R .sound) (R .shelves) small (W .reading) ee more ej))
-
-        pub wave-next : {y w : Bool} {z own end′ : ℕ} {sp′ ws′ : List ℕ} → end < 4352 → y ≡ (leb (r .lo) j and leb (getD links (8192 + 2 * length d + j) 0) (r .lo)) → z ≡ getD xs v 0 → own ≡ max old day → w ≡ (leb own z && ltb z new) → Losing (y && w) v end sp ws sp′ ws′ end′ → Wave d f g links r xs u old new tail sp₀ ws₀ (j + 1) (p + 1) end′ sp′ ws′
-        wave-next {y} {w} {z} {own} room ey ez eo ew L =
-            record {
-              reading = reading-next d f g links (R .sound) (R .shelves) small (W .reading) ee more ej;
-              done = lessened-next tw (guess xs) (r .lo) u old new sp₀ (W .done) j (λ i a k z y o. over (w-gap i a k y) z o) w-other wave-small lost L;
-              queued = queued-losing wave-small room (W .done .long) (W .queued) L;
-            }
-          where
-            time : z ≡ guess xs v
-            time = ez ∙ sym (guess-at xs v len wave-small)
-
-            lost : fresh tw (r .lo) j ≡ true → old ≤ guess xs v → dayOf tw j ≤ guess xs v → guess xs v < new → (y && w) ≡ true
-            lost h a c n = let t = time in let e = w-day in both (reading-fresh d f g links (R .sound) (R .shelves) small (W .reading) ee more ej (r .lo) ey ∙ h) (ew ∙ both (le-leb own z (omega arith)) (lt-ltb z new (omega arith)))
+          lost : fresh tw (r .lo) (it .row) ≡ true → old ≤ guess xs (it .other) → dayOf tw (it .row) ≤ guess xs (it .other) → guess xs (it .other) < new → (it .leads && w) ≡ true
+          lost h a c n =
+              let t = time in
+              let e = I .day in
+              both (I .leads (fresh-from tw (r .lo) (it .row) h) ∙ h) (ew ∙ both (le-leb own z (omega arith)) (lt-ltb z new (omega arith)))
 
 -- ---- who loses one by a row that leaves
 

@@ -1,8 +1,8 @@
 -- The loop of lose_others (src/loss.rt): the rows of an account that rises. Who is lost by it waits (LossLaws.Wave), and the day counts go along (ShiftLaws.Shift).
---     Surge, surge-start, surge-out, surge-late, surge-stop, surge-asks, surge-next    the state of the loop, and its ways
+--     Surge, surge-start, surge-out, surge-stop, surge-asks, surge-next    the state of the loop, and its ways
 --     Owed, surge-pays     what is still to be counted at the end
 -- Assumes nothing.
-use Prim.Native.Nat.{ℕ, max, min, _+_, _*_, _≤_, _<_}
+use Prim.Native.Nat.{ℕ, max, min, _+_, _≤_, _<_}
 use native.Mathlib.Nat.{le-refl}
 use native.Mathlib.Omega.{arith}
 use mathlib.Core.Path.{_≡_, refl, sym, _∙_, ap}
@@ -10,22 +10,23 @@ use mathlib.Core.Logic.{_⊎_, ⊎-elim}
 use mathlib.Core.Bool.{Bool, true, false, _&&_}
 use mathlib.Core.List.{List}
 use lib.ListN.{length, getD}
-use lib.Dec.{leb, ltb, eqb}
+use lib.Dec.{leb, ltb}
 use borrow.Author.Tests.{ltb-true, ltb-false}
-use Rattle.rings.specs.Words.{_and_, at}
-use Rattle.rings.specs.Table.{Table, tableOf, dayOf}
+use Rattle.rings.specs.Table.{Table, tableOf}
 use Rattle.rings.specs.CoreTimes.{never}
-use Rattle.rings.specs.Inner.Links.{pickOther, otherOf, Reading, Every}
-use Rattle.rings.specs.Ring.{query}
+use Rattle.rings.specs.Inner.Links.{otherOf, Reading, Every}
+use Rattle.rings.specs.Inner.Incident.{RowRead}
+use Rattle.rings.specs.Ring.{touches, query}
 use Rattle.rings.specs.Inner.Peeling.{Open, guess}
 use Rattle.rings.specs.declared.frame.Frame.{Frame}
+use Rattle.rings.specs.declared.incident.Incident.{Incident}
 use Rattle.rings.specs.Inner.Settling.{Days, Losing, Lessened, Queued}
 use Rattle.rings.specs.Inner.Counting.{timeBy, WhereCounted, Owing, Taking, Raised, AddAsks, TakeAsks}
 use Rattle.rings.specs.declared.Query.{Query}
 use Rattle.rings.proofs.FallLaws.{guess-at}
-use Rattle.rings.proofs.ShelfLaws.{reading-out, reading-row, reading-touch, reading-from, reading-gap, reading-other}
+use Rattle.rings.proofs.ShelfLaws.{reading-out, reading-from, reading-gap}
 use Rattle.rings.proofs.CountingLaws.{counted-so, counted-then, owing-room}
-use Rattle.rings.proofs.LossLaws.{Wave, new-most, wave-start, wave-out, wave-stop, wave-late, wave-small, wave-next}
+use Rattle.rings.proofs.LossLaws.{Wave, new-most, wave-start, wave-out, wave-stop, wave-late, wave-next}
 use Rattle.rings.proofs.ShiftLaws.{Shift, rise-start, rise-all, rise-asks, rise-row}
 
 pub record Surge (d f g links : List ℕ) (r : Frame) (xs : List ℕ) (u old new tail : ℕ) (sp₀ ws₀ : List ℕ) (counting : Bool) (counts₀ : List ℕ) (p end m : ℕ) (sp ws counts : List ℕ) : Type 0 where
@@ -65,57 +66,52 @@ module _ (d f g links : List ℕ) (r : Frame) (R : Open d f g links r) (xs : Lis
       counted-so (λ y. rise-all tt q (r .start) (r .stop) (r .lo) (R .setting) u old new xs small y (λ i a k o. keeps (reading-out d f g links (R .sound) (R .shelves) small (Z .wave .reading) ee E h i a k o))) (Z .shift),
     )
 
-    -- the walk began at lo
-    pub surge-late : (more : p < last) {j : ℕ} → j ≡ getD links (8192 + p) 0 → r .lo ≤ j
-    surge-late more ej = let a = Z .late in let c = reading-from d f g links (R .sound) (R .shelves) small (Z .wave .reading) ee more ej in omega arith
-
-    module _ (more : p < last) {j : ℕ} (ej : j ≡ getD links (8192 + p) 0) {day : ℕ} (ed : day ≡ getD d j 0) {until : ℕ} (eu : until ≡ min new (r .stop + 1)) where
-      pub surge-stop : until ≤ day → (Lessened tt (guess xs) (r .lo) u (length d) old new sp₀ sp × Queued tail sp₀ ws₀ end sp ws) × WhereCounted counting (Owed d f g r xs new m counts) counts₀ counts
+    module _ (more : p < last) {it : Incident} (I : RowRead tt links (r .lo) u p it) {until : ℕ} (eu : until ≡ min new (r .stop + 1)) where
+      pub surge-stop : until ≤ it .day
+          → (Lessened tt (guess xs) (r .lo) u (length d) old new sp₀ sp × Queued tail sp₀ ws₀ end sp ws) × WhereCounted counting (Owed d f g r xs new m counts) counts₀ counts
       surge-stop h = (
-        wave-stop d f g links r R xs len small E D old new en tail sp₀ ws₀ (Z .wave) ee more ej ed eu h,
-        counted-so (λ y. rise-all tt q (r .start) (r .stop) (r .lo) (R .setting) u old new xs small y (λ i a k o. ⊎-elim keeps (λ z. _⊎_.inr (_⊎_.inr z)) (wave-late d f g links r R xs len small E D old new en tail sp₀ ws₀ (Z .wave) ee more ej ed eu h i a k o))) (Z .shift),
+        wave-stop d f g links r R xs len small E D old new en tail sp₀ ws₀ (Z .wave) ee more I eu h,
+        counted-so (λ y. rise-all tt q (r .start) (r .stop) (r .lo) (R .setting) u old new xs small y (λ i a k o. ⊎-elim keeps (λ z. _⊎_.inr (_⊎_.inr z)) (wave-late d f g links r R xs len small E D old new en tail sp₀ ws₀ (Z .wave) ee more I eu h i a k o))) (Z .shift),
       )
 
-      module _ (before : day < until) {a e v z : ℕ} (ea : a ≡ getD f j 0) (eb : e ≡ getD g j 0) (ev : v ≡ pickOther (eqb a u) a e) (ez : z ≡ getD xs v 0) {own time : ℕ} (eo : own ≡ max old day) (et : time ≡ max own z) where
-        w-day : day ≡ dayOf tt j
-        unfolding dayOf at
-        w-day = ed
-
-        v-small : v < 4096
-        v-small = wave-small d f g links r R xs len small E D old new en tail sp₀ ws₀ (Z .wave) ee more ej ed ea eb ev
-
-        z-is : z ≡ guess xs (otherOf tt j u)
-        z-is = ez ∙ (sym (guess-at xs v len v-small) ∙ ap (guess xs) (reading-other d f g links (R .sound) (R .shelves) small (Z .wave .reading) ee more ej ea eb ev))
+      module _ (before : it .day < until) {z : ℕ} (ez : z ≡ getD xs (it .other) 0) {own time : ℕ} (eo : own ≡ max old (it .day)) (et : time ≡ max own z) where
+        z-is : z ≡ guess xs (otherOf tt (it .row) u)
+        z-is = ez ∙ (sym (guess-at xs (it .other) len (I .small)) ∙ ap (guess xs) (I .other))
 
         z-day : (z ≤ r .stop) ⊎ (z ≡ never)
-        z-day = ⊎-elim (λ y. _⊎_.inl (omega arith)) (λ y. _⊎_.inr (ez ∙ y)) (D v v-small)
+        z-day = ⊎-elim (λ y. _⊎_.inl (omega arith)) (λ y. _⊎_.inr (ez ∙ y)) (D (it .other) (I .small))
 
-        from : Z .b ≤ j
-        from = reading-from d f g links (R .sound) (R .shelves) small (Z .wave .reading) ee more ej
+        from : Z .b ≤ it .row
+        from = reading-from d f g links (R .sound) (R .shelves) small (Z .wave .reading) ee more (I .row)
+
+        gap : (i : ℕ) → Z .b ≤ i → i < it .row → touches tt i u ≡ true → (i < r .lo) ⊎ (new ≤ guess xs (otherOf tt i u))
+        gap i a k o = over (reading-gap d f g links (R .sound) (R .shelves) small (Z .wave .reading) ee more (I .row) E i a k o)
 
         module _ {test : Bool} (y : test ≡ ltb z new) where
-          yes : test ≡ true → (r .lo ≤ j) × (z < new)
+          yes : test ≡ true → (r .lo ≤ it .row) × (z < new)
           yes h = let a = Z .late in let c = from in (omega arith, ltb-true z new (sym y ∙ h))
 
-          not : test ≡ false → (j < r .lo) ⊎ (new ≤ z)
+          not : test ≡ false → (it .row < r .lo) ⊎ (new ≤ z)
           not h = _⊎_.inr (ltb-false z new (sym y ∙ h))
 
           pub surge-asks : counting ≡ true → TakeAsks test time m counts
           surge-asks h =
-              let dd = w-day in
-              rise-asks tt q (r .start) (r .stop) (r .lo) (R .setting) u old new xs small (Z .shift .counted h) from (reading-row d f g links (R .sound) (R .shelves) small (Z .wave .reading) ee more ej)
-              (reading-touch d f g links (R .sound) (R .shelves) small (Z .wave .reading) ee more ej) (λ i a k o. over (reading-gap d f g links (R .sound) (R .shelves) small (Z .wave .reading) ee more ej E i a k o)) (omega arith) (omega arith) z-is (omega arith) yes not z-day new-day (R .sound .most)
+              let dd = I .day in
+              rise-asks tt q (r .start) (r .stop) (r .lo) (R .setting) u old new xs small (Z .shift .counted h) from (I .below)
+              (I .touch) gap (omega arith) (omega arith) z-is (omega arith) yes not z-day new-day (R .sound .most)
 
-          pub surge-next : {fr lost : Bool} {end′ m′ : ℕ} {sp′ ws′ counts′ : List ℕ} → end < 4352 → fr ≡ (leb (r .lo) j and leb (getD links (8192 + 2 * length d + j) 0) (r .lo)) → lost ≡ (leb own z && ltb z new) → Losing (fr && lost) v end sp ws sp′ ws′ end′ → WhereCounted counting (Taking test time m counts counts′ m′) counts counts′ → Surge d f g links r xs u old new tail sp₀ ws₀ counting counts₀ (p + 1) end′ m′ sp′ ws′ counts′
-          surge-next room ef el L T =
-              let dd = w-day in
+          pub surge-next : {lost : Bool} {end′ m′ : ℕ} {sp′ ws′ counts′ : List ℕ} → end < 4352 → lost ≡ (leb own z && ltb z new) → Losing (it .leads && lost) (it .other) end sp ws sp′ ws′ end′
+              → WhereCounted counting (Taking test time m counts counts′ m′) counts counts′
+              → Surge d f g links r xs u old new tail sp₀ ws₀ counting counts₀ (p + 1) end′ m′ sp′ ws′ counts′
+          surge-next room el L T =
+              let dd = I .day in
               record {
-                b = j + 1;
+                b = it .row + 1;
                 late = let a = Z .late in let c = from in omega arith;
-                wave = wave-next d f g links r R xs len small E D old new en tail sp₀ ws₀ (Z .wave) ee more ej ed ea eb ev room ef ez eo el L;
+                wave = wave-next d f g links r R xs len small E D old new en tail sp₀ ws₀ (Z .wave) ee more I room ez eo el L;
                 shift = counted-then (Z .shift) (record {
-                  counted = λ h. rise-row tt q (r .start) (r .stop) (r .lo) (R .setting) u old new xs small (Z .shift .counted h) from (reading-row d f g links (R .sound) (R .shelves) small (Z .wave .reading) ee more ej)
-                      (reading-touch d f g links (R .sound) (R .shelves) small (Z .wave .reading) ee more ej) (λ i a k o. over (reading-gap d f g links (R .sound) (R .shelves) small (Z .wave .reading) ee more ej E i a k o)) (omega arith) (omega arith) z-is (omega arith) yes not z-day new-day (T .counted h);
+                  counted = λ h. rise-row tt q (r .start) (r .stop) (r .lo) (R .setting) u old new xs small (Z .shift .counted h) from (I .below)
+                      (I .touch) gap (omega arith) (omega arith) z-is (omega arith) yes not z-day new-day (T .counted h);
                   same = T .same;
                 });
               }

@@ -13,11 +13,10 @@ use crate::choice::one;
 use crate::counts::pay_counts;
 use crate::counts::take_count;
 use crate::frame::Frame;
+use crate::incident::row_at;
 use crate::links::entry;
-use crate::links::other;
 use crate::links::put;
 use crate::links::wide;
-use crate::peel::is_first;
 use crate::times::greater;
 
 // Where a queue's end is asked for and it has no place left: one more than it has places.
@@ -90,16 +89,14 @@ pub(crate) fn lose_others(
         let left = arrays (now (times .entry)) (now (spare .exit)) (now (queue .exit)) (now (counts .exit)) in
         RiseLeft t frame rise counting tail lent left r) ⌝ }
 {
-    let n = days.len();
     let last = entry(links, rise.account);
     let until = lesser(rise.new, frame.stop + 1);
     let mut p = rise.from;
     let mut end = tail;
     let mut moved = 0;
     while p < last {
-        let j = entry(links, 8192 + p);
-        let day = days[j];
-        if until <= day {
+        let here = row_at(days, first, second, links, frame.lo, rise.account, p);
+        if until <= here.day {
             pay_counts(counting, counts, rise.new, moved);
             return end;
         }
@@ -107,15 +104,12 @@ pub(crate) fn lose_others(
             return FULL;
         }
         p += 1;
-        let fresh = is_first(links, n, frame.lo, j);
-        let a = entry(first, j);
-        let b = entry(second, j);
-        let v = other(a, b, rise.account);
+        let v = here.other;
         let z = times[v];
-        let own = greater(rise.old, day);
+        let own = greater(rise.old, here.day);
         let moves = z < rise.new;
         let lost = (own <= z) & moves;
-        end = lose(spare, queue, end, v, fresh & lost);
+        end = lose(spare, queue, end, v, here.leads & lost);
         let time = greater(own, z);
         moved = take_count(counting, counts, moves, time, moved);
     }
