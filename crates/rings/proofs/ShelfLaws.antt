@@ -1,11 +1,10 @@
 -- A walk over a book that may lack rows (specs/Inner/Links.antt, Shelf, Reading).
 --     Seeking, seeking-start, seeking-next, seeking-found, seeking-out     where the rows from lo on begin
 --     reading-start                  a walk begins at the head
---     reading-place, reading-few     a place before the end lies in the book
---     reading-row, reading-touch, reading-from    the row there is one of u's, from b on
+--     reading-few                a place before the end lies in the book
+--     reading-row, reading-from    the row there is one of the table's, from b on
 --     reading-gap, reading-out   a row of u that is passed over is below lo, or its other account has no time
 --     reading-next               and the walk goes on behind it
---     reading-fresh, reading-fresh-place, reading-ends, reading-other    what the code reads of that row
 --     shelf-stands, reading-stands    what `row_at` asks of a place
 --     every-rise, covered-rise   times only rise, and rows only leave
 --     linked-shelves, linked-covered, linked-every, none-missing     the whole book is such a book, and lacks nothing
@@ -15,21 +14,18 @@ use native.Mathlib.Nat.{eq-or-lt-of-le}
 use native.Mathlib.Omega.{arith}
 use mathlib.Core.Path.{_≡_, refl, sym, _∙_, ap, subst}
 use mathlib.Core.Logic.{_⊎_, ⊎-elim}
-use mathlib.Core.Bool.{Bool, true}
+use mathlib.Core.Bool.{true}
 use mathlib.Core.List.{List}
 use lib.ListN.{length, getD}
-use lib.Dec.{leb, eqb}
+use lib.Dec.{leb}
 use borrow.Author.Tests.{leb-true, leb-false}
-use Rattle.rings.specs.Words.{_and_}
 use Rattle.rings.specs.Table.{Table, tableOf, size, dayOf}
 use Rattle.rings.specs.Ring.{touches}
 use Rattle.rings.specs.CoreTimes.{never}
 use Rattle.rings.specs.Sound.{Sound}
-use Rattle.rings.specs.Inner.Links.{pickOther, otherOf, rank, placeOf, fresh, Linked, Shelf, Shelves, Stands, Reading, Every, Covered}
-use Rattle.rings.specs.Inner.Peeling.{EarlierStands}
+use Rattle.rings.specs.Inner.Links.{otherOf, rank, placeOf, Linked, Shelf, Shelves, Stands, Reading, Every, Covered}
 use Rattle.rings.specs.Inner.Incident.{RowStands}
 use Rattle.rings.proofs.WordLaws.{look}
-use Rattle.rings.proofs.AlongLaws.{fresh-reads, fresh-place, row-ends, row-other}
 use Rattle.rings.proofs.LinkLaws.{rank-less, nth-row, places-most, place-step, entry-below}
 
 -- ---- to lo
@@ -108,18 +104,12 @@ module _ (d f s links : List ℕ) (S : Sound d f s) (L : Shelves (tableOf d f s)
         (λ z. _⊎_.inl (leb-false lo i z)) (look (leb lo i))
 
     module _ (more : p < end) where
-      pub reading-place : 8192 + p < length links
-      reading-place = let a = L .shelf u small .to in let c = L .long in omega arith
-
       pub reading-few : p < 32768
       reading-few = let a = L .shelf u small .to in let c = S .most in omega arith
 
       module _ {j : ℕ} (ej : j ≡ getD links (8192 + p) 0) where
         pub reading-row : j < length d
         reading-row = let a = L .shelf u small .row p (A .from) (omega arith) in omega arith
-
-        pub reading-touch : touches t j u ≡ true
-        reading-touch = subst (λ (c : ℕ). touches t c u ≡ true) (sym ej) (L .shelf u small .touch p (A .from) (omega arith))
 
         pub reading-from : b ≤ j
         reading-from = let a = A .after p (omega arith) (omega arith) in omega arith
@@ -143,21 +133,6 @@ module _ (d f s links : List ℕ) (S : Sound d f s) (L : Shelves (tableOf d f s)
                   (λ o. let m = A .before r h o in let n = reading-from in omega arith) (eq-or-lt-of-le (let z : r ≤ p = omega arith in z));
               after = λ r h k. let m = L .shelf u small .rising p r (A .from) (omega arith) k in omega arith;
             }
-
-        -- what `is_fresh` answers, and what it reads
-        pub reading-fresh : (lo : ℕ) {y : Bool} → y ≡ (leb lo j and leb (getD links (8192 + 2 * length d + j) 0) lo) → y ≡ fresh t lo j
-        reading-fresh lo h = fresh-reads d f s S reading-row lo links (L .pairs) h
-
-        pub reading-fresh-place : EarlierStands links (length d) j
-        reading-fresh-place = fresh-place d f s S reading-row links (L .long)
-
-        -- u is one of its accounts
-        pub reading-ends : {a c : ℕ} → a ≡ getD f j 0 → c ≡ getD s j 0 → (a < 4096) × (c < 4096) × ((a ≡ u) ⊎ (c ≡ u))
-        reading-ends ea ec = row-ends d f s S reading-row u reading-touch ea ec
-
-        -- the other
-        pub reading-other : {a c v : ℕ} → a ≡ getD f j 0 → c ≡ getD s j 0 → v ≡ pickOther (eqb a u) a c → v ≡ otherOf t j u
-        reading-other ea ec ev = row-other d f s S reading-row u reading-touch ea ec ev
 
 -- ---- times only rise, and rows only leave
 

@@ -2,7 +2,6 @@
 // times: 0 while an account has not fallen, then its core time; left: its neighbours left; queue: who fell and is still to be walked.
 // Each account is walked once, from its head on, and each row leaves once, so the work is linear in the rows of the window.
 ghost use mathlib.Core.Path.{_≡_};
-ghost use Prim.Native.Nat.{_≤_};
 ghost use Rattle.rings.specs.Table.{tableOf};
 ghost use Rattle.rings.specs.Inner.Peeling.{EarlierStands, freshBy, PeelBuffers, Losable, Lost, Ready, Span, Counted, CoreTimesAre};
 ghost use Rattle.rings.specs.Inner.Peeling.{allRows, Falling, Continues, HeadWaits, HeadWalked, QueueEmpty, Fade, RowLeaves, RowLeft};
@@ -31,16 +30,6 @@ pub(crate) fn is_fresh(links: &[u16], n: usize, lo: usize, j: usize) -> bool
 {
     let earlier = entry(links, ADJACENCY + 2 * n + j);
     (lo <= j) & (earlier <= lo)
-}
-
-// The same for a row that is known to be at lo or later.
-pub(crate) fn is_first(links: &[u16], n: usize, lo: usize, j: usize) -> bool
-    requires { ⌜ EarlierStands (now links) n j ⌝ }
-    requires { ⌜ lo ≤ j ⌝ }
-    ensures { λ r. ⌜ r ≡ freshBy (now (links .entry)) n lo j ⌝ }
-{
-    let earlier = entry(links, ADJACENCY + 2 * n + j);
-    earlier <= lo
 }
 
 // Account v loses a neighbour; with the k-th it falls, dated e, and waits in the queue. Who fell before has fewer left,
