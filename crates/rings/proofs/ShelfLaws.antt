@@ -5,6 +5,7 @@
 --     reading-row, reading-from    the row there is one of the table's, from b on
 --     reading-gap, reading-out   a row of u that is passed over is below lo, or its other account has no time
 --     reading-next               and the walk goes on behind it
+--     reading-behind             it does so where the scratch changes behind the adjacency
 --     shelf-stands, reading-stands    what `row_at` asks of a place
 --     every-rise, covered-rise   times only rise, and rows only leave
 --     linked-shelves, linked-covered, linked-every, none-missing     the whole book is such a book, and lacks nothing
@@ -16,7 +17,8 @@ use mathlib.Core.Path.{_≡_, refl, sym, _∙_, ap, subst}
 use mathlib.Core.Logic.{_⊎_, ⊎-elim}
 use mathlib.Core.Bool.{true}
 use mathlib.Core.List.{List}
-use lib.ListN.{length, getD}
+use lib.ListN.{length, getD, set}
+use lib.Seq.{getD-set-other}
 use lib.Dec.{leb}
 use borrow.Author.Tests.{leb-true, leb-false}
 use Rattle.rings.specs.Table.{Table, tableOf, size, dayOf}
@@ -133,6 +135,29 @@ module _ (d f s links : List ℕ) (S : Sound d f s) (L : Shelves (tableOf d f s)
                   (λ o. let m = A .before r h o in let n = reading-from in omega arith) (eq-or-lt-of-le (let z : r ≤ p = omega arith in z));
               after = λ r h k. let m = L .shelf u small .rising p r (A .from) (omega arith) k in omega arith;
             }
+
+-- the scratch changes at a place behind the adjacency
+pub reading-behind : {t : Table} {sc sc′ : List ℕ} {u b p : ℕ} (q x : ℕ) → u < 4096 → Shelf t u sc → 8192 + 2 * size t ≤ q → sc′ ≡ set sc q x
+    → Reading sc u b p → Reading sc′ u b p
+reading-behind {sc = sc} {sc′} {u} q x small K far e A =
+    record {
+      from = let h = same (4096 + u) (omega arith) in let a = A .from in omega arith;
+      to = let l = same u (omega arith) in let a = A .to in omega arith;
+      before = λ r h k.
+          let i = same (4096 + u) (omega arith) in
+          let c = A .to in
+          let m = K .to in
+          let g = same (8192 + r) (omega arith) in
+          let a = A .before r (omega arith) k in omega arith;
+      after = λ r h k.
+          let l = same u (omega arith) in
+          let m = K .to in
+          let g = same (8192 + r) (omega arith) in
+          let a = A .after r h (omega arith) in omega arith;
+    }
+  where
+    same : (r : ℕ) → r < q → getD sc′ r 0 ≡ getD sc r 0
+    same r h = ap (λ (ys : List ℕ). getD ys r 0) e ∙ getD-set-other sc q r x 0 (λ z. omega arith)
 
 -- ---- times only rise, and rows only leave
 
