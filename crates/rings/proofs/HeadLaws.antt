@@ -25,7 +25,6 @@ use Rattle.rings.specs.Inner.Links.{rank, placeOf, Book, Head, Linked, H
 use Rattle.rings.proofs.WordLaws.{look, same-or}
 use Rattle.rings.proofs.RingLaws.{touch-first, touch-second}
 use Rattle.rings.proofs.LinkLaws.{first-small, second-small, rank-less, places-most, place-step, entry-below}
-use Rattle.rings.proofs.AlongLaws.{ahead-of}
 
 -- what lies outside the heads is as before
 pub record Else (sc₀ sc : List ℕ) : Type 0 where
@@ -124,6 +123,19 @@ pub record Moving (t : Table) (sc₀ : List ℕ) (j : ℕ) (sc : List ℕ) : Typ
   pub else : Else sc₀ sc
   pub heads : (u : ℕ) → u < 4096 → Ahead t u j (getD sc (4096 + u) 0)
 
+-- lo and the rows after it are not dated before the day of the heads
+ahead-of : {t : Table} {day u lo : ℕ} {sc : List ℕ} → Linked t day sc → u < 4096 → ((j : ℕ) → j < size t → lo ≤ j → day ≤ dayOf t j)
+    → Ahead t u lo (getD sc (4096 + u) 0)
+ahead-of {u = u} {lo} L small late =
+    let H = L .heads u small in
+    record {
+      from = H .from;
+      to = H .to;
+      before = λ i l k h.
+          ⊎-elim (λ y. let a = late i l (leb-true lo i y) in let b = H .before i l k h in absurd (omega arith)) (λ y. leb-false lo i y)
+          (look (leb lo i));
+    }
+
 -- row j is one of u's: the head passes a row, which is j or an earlier one
 ahead-pass : (t : Table) (u j p : ℕ) → j < size t → touches t j u ≡ true → Ahead t u j p → Ahead t u (j + 1) (p + 1)
 ahead-pass t u j p l y A =
@@ -150,7 +162,7 @@ module _ (d f g : List ℕ) (S : Sound d f g) where
 
   pub moving-start : {s lo : ℕ} {sc : List ℕ} → Linked t s sc → Split d s lo → Moving t sc lo sc
   unfolding dayOf at
-  moving-start {sc = sc} L N = record { else = else-none sc; heads = λ u l. ahead-of d f g sc S L l (λ j k h. N .after j h k) refl }
+  moving-start {sc = sc} L N = record { else = else-none sc; heads = λ u l. ahead-of L l (λ j k h. N .after j h k) }
 
   module _ {sc₀ sc : List ℕ} {j : ℕ} (M : Moving t sc₀ j sc) (l : j < length d) where
     moving-few : (u : ℕ) → u < 4096 → getD sc (4096 + u) 0 < 65535

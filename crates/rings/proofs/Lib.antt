@@ -16,7 +16,7 @@ pub mod LinkLaws
 pub mod SlotLaws
 pub mod BookLaws
 pub mod FallLaws
-pub mod AlongLaws
+pub mod IncidentLaws
 pub mod HeadLaws
 pub mod ShelfLaws
 pub mod TrimLaws

@@ -24,7 +24,7 @@ use Rattle.rings.specs.declared.incident.Incident.{Incident}
 use Rattle.rings.specs.declared.peel.Removal.{Removal}
 use Rattle.rings.proofs.WordLaws.{look}
 use Rattle.rings.proofs.LeadLaws.{fresh-from}
-use Rattle.rings.proofs.AlongLaws.{row-leads}
+use Rattle.rings.proofs.IncidentLaws.{row-leads}
 use Rattle.rings.proofs.ShelfLaws.{reading-start, reading-out, reading-stands, reading-few, reading-from, reading-gap, reading-next}
 use Rattle.rings.proofs.ShelfLaws.{linked-shelves, linked-every, none-missing}
 use Rattle.rings.proofs.FallLaws.{walk-start, walk-small, walk-to, walk-losable, walk-lost, walk-skip, walk-end}

@@ -1,4 +1,4 @@
-use Rattle.rings.proofs.AlongLaws.{stands-ends, row-read}
+use Rattle.rings.proofs.IncidentLaws.{stands-ends, row-read}
 use mathlib.Core.Path.{refl}
 use borrow.Author.Needs.{needs}
 use Rattle.rings.proofs.incident.row_at.Statement.{statement}

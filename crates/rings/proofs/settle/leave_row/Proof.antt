@@ -1,4 +1,4 @@
-use Rattle.rings.proofs.AlongLaws.{fresh-reads}
+use Rattle.rings.proofs.IncidentLaws.{fresh-reads}
 use Rattle.rings.proofs.LossLaws.{losing-less, queued-start, queued-losing, losing-on, leaving-row, first-is, second-is, day-of, first-small, second-small}
 use mathlib.Core.Path.{refl}
 use native.Mathlib.Omega.{arith}
