@@ -144,10 +144,19 @@ put-requires c κs =
     let row-at = c .before .before .before .before .before .before .row-at in
     let loop-test = c .before .before .before .before .before .before .before .loop-test in
     let loop = c .before .before .before .before .before .before .before .before .loop in
-    let pre = c .before .before .before .before .before .before .before .before .before .before .before .before .before .before .before .before .pre in (
-      omega (arith, pre .1 .long, pre .1 .room, loop .inv .cursor, loop .inv .gathering .behind .long, loop .inv .room, loop-test .taken),
-      omega (arith, row-at .ensures .small),
-    )
+    let pre = c .before .before .before .before .before .before .before .before .before .before .before .before .before .before .before .before .pre in
+    record {
+      place = omega (
+        arith,
+        pre .1 .long,
+        pre .1 .room,
+        loop .inv .cursor,
+        loop .inv .gathering .behind .long,
+        loop .inv .room,
+        loop-test .taken,
+      );
+      number = omega (arith, row-at .ensures .small);
+    }
 
 one-requires : tie.Need-one-requires Inv-loop μ-loop
 one-requires c κs = search needs

@@ -92,7 +92,8 @@ put-requires c κs =
     let ready = pre .0 in
     let span = pre .1 .0 in
     let first = count-first _ _ _ _ _ ready (loop .inv) (loop-test .taken) span (entry .ensures)
-    (entry3 .ensures) in (first .0, omega (arith, first .1))
+    (entry3 .ensures) in
+    record { place = first .0; number = omega (arith, first .1) }
 
 entry-requires-4 : tie.Need-entry-requires-4 Inv-loop μ-loop
 entry-requires-4 c κs =
@@ -155,7 +156,8 @@ put-requires-2 c κs =
     let ready = pre .0 in
     let span = pre .1 .0 in
     let second = count-second _ _ _ _ _ ready (loop .inv) (loop-test .taken) span (entry .ensures)
-    (entry2 .ensures) (entry3 .ensures) (put .ensures) (entry4 .ensures) in (second .0, omega (arith, second .1))
+    (entry2 .ensures) (entry3 .ensures) (put .ensures) (entry4 .ensures) in
+    record { place = second .0; number = omega (arith, second .1) }
 
 add-j : tie.Need-add-j Inv-loop μ-loop
 add-j c =

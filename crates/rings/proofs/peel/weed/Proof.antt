@@ -51,7 +51,7 @@ put-requires c κs =
     let pre =
     c .before .before .before .before .before .before .before .before .before .before .before .before
     .before .pre in
-    (weed-room _ _ _ _ _ (pre .0) (loop .inv) (loop-test .taken) .1, omega arith)
+    record { place = weed-room _ _ _ _ _ (pre .0) (loop .inv) (loop-test .taken) .1; number = omega arith }
 
 -- src/peel.rt:281:13
 put-requires-2 : tie.Need-put-requires-2 Inv-loop μ-loop
@@ -61,7 +61,7 @@ put-requires-2 c κs =
     let pre =
     c .before .before .before .before .before .before .before .before .before .before .before .before .before
     .before .before .before .before .pre in
-    (weed-room _ _ _ _ _ (pre .0) (loop .inv) (loop-test .taken) .0, omega (arith, loop-test .taken))
+    record { place = weed-room _ _ _ _ _ (pre .0) (loop .inv) (loop-test .taken) .0; number = omega (arith, loop-test .taken) }
 
 -- src/peel.rt:282:13
 add-tail : tie.Need-add-tail Inv-loop μ-loop

@@ -25,7 +25,10 @@ put-requires : tie.Need-put-requires Inv-loop μ-loop
 put-requires c κs =
     let loop-test = c .before .loop-test in
     let loop = c .before .before .loop in
-    (omega (arith, loop-test .taken, loop .inv .1 .long), omega (arith, loop-test .taken))
+    record {
+      place = omega (arith, loop-test .taken, loop .inv .1 .long);
+      number = omega (arith, loop-test .taken);
+    }
 
 -- src/settle.rt:384:9
 add-u : tie.Need-add-u Inv-loop μ-loop

@@ -140,7 +140,10 @@ put-requires c κs =
     let pre = c .before .before .before .before .before .before .before .before .before .before .before .before .before .before .before .before .pre in
     let w = pre .working in
     let h = pre .at-head in
-    (omega (arith, w .waits, w .within, w .behind, w .queue-long), omega (arith, h .small))
+    record {
+      place = omega (arith, w .waits, w .within, w .behind, w .queue-long);
+      number = omega (arith, h .small);
+    }
 
 -- src/settle.rt:184:9
 lose-others-requires : tie.Need-lose-others-requires

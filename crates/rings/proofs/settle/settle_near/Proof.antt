@@ -236,10 +236,11 @@ put-requires : tie.Need-put-requires
 put-requires c κs =
     let gather = c .before .before .before .before .before .before .before .before .before .gather in
     let pre = c .before .before .before .before .before .before .before .before .before .before .before .before .before .before .before .before .before .before .before .before .before .before .before .before .before .before .pre in
-    let w = pre .working in (
-      omega (arith, (gather .ensures .behind) .long, w .waits, w .within, w .behind),
-      omega (arith, pre .at-head .small),
-    )
+    let w = pre .working in
+    record {
+      place = omega (arith, (gather .ensures .behind) .long, w .waits, w .within, w .behind);
+      number = omega (arith, pre .at-head .small);
+    }
 
 -- src/settle.rt:127:9
 lose-listed-requires : tie.Need-lose-listed-requires

@@ -91,10 +91,12 @@ put-requires c κs =
     let pre = c .before .before .before .before .before .before .before .before .before .before .before .before .before .before .before .pre in
     let loop = c .before .before .before .before .before .loop in
     let loop-test = c .before .before .before .before .loop-test in
-    let row-at = c .before .before .row-at in (
-      sift-place (pre .shelves) (pre .account) (loop .inv .sift) (omega (arith, loop .inv .cursor, loop-test .taken)) (row-at .ensures .row) .1,
-      omega (arith, row-at .ensures .below, pre .sound .most),
-    )
+    let row-at = c .before .before .row-at in
+    record {
+      place = sift-place (pre .shelves) (pre .account) (loop .inv .sift)
+          (omega (arith, loop .inv .cursor, loop-test .taken)) (row-at .ensures .row) .1;
+      number = omega (arith, row-at .ensures .below, pre .sound .most);
+    }
 
 -- src/shelf.rt:77:21
 one-requires : tie.Need-one-requires Inv-loop μ-loop
@@ -149,7 +151,10 @@ put-requires-2 : tie.Need-put-requires-2 Inv-loop μ-loop
 put-requires-2 c κs =
     let loop = c .before .before .loop in
     let pre = c .before .before .before .before .before .before .before .before .before .before .before .before .pre in
-    (omega (arith, loop .inv .sift .long, pre .shelves .long, pre .account), omega (arith, sift-few (pre .shelves) (pre .account) (loop .inv .sift) (pre .sound .most)))
+    record {
+      place = omega (arith, loop .inv .sift .long, pre .shelves .long, pre .account);
+      number = omega (arith, sift-few (pre .shelves) (pre .account) (loop .inv .sift) (pre .sound .most));
+    }
 
 -- src/shelf.rt:57:1
 same-length : tie.Need-same-length Inv-loop μ-loop
