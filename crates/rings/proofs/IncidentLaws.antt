@@ -88,7 +88,9 @@ row-leads {t} {lo = lo} {r = r} R =
     (λ y. ap (λ (b : Bool). b && r .leads) y ∙ sym (not-before y)) (look (leb lo (r .row)))
   where
     not-before : leb lo (r .row) ≡ false → fresh t lo (r .row) ≡ false
-    not-before y = ⊎-elim (λ h. let a = fresh-from t lo (r .row) h in let b = leb-false lo (r .row) y in absurd (omega arith)) (λ h. h) (look (fresh t lo (r .row)))
+    not-before y =
+        ⊎-elim (λ h. let a = fresh-from t lo (r .row) h in let b = leb-false lo (r .row) y in absurd (omega arith)) (λ h. h)
+        (look (fresh t lo (r .row)))
 
 -- what `other` returns
 pub other-sum : {a b u r : ℕ} → (a ≡ u) ⊎ (b ≡ u) → r ≡ a + b - u → r ≡ pickOther (eqb a u) a b

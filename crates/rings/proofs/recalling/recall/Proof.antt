@@ -59,7 +59,9 @@ returns-2 c =
     let clear-marks = c .before .before .before .before .before .before .clear-marks in
     let enum-told = c .before .before .before .before .before .before .before .before .enum-told in
     let check-recall = c .before .before .before .before .before .before .before .before .before .before .check-recall in
-    let args = c .before .before .before .before .before .before .before .before .before .before .before .before .before .before .before .before .before .before .args in (
+    let args =
+    c .before .before .before .before .before .before .before .before .before .before .before .before .before .before
+    .before .before .before .before .args in (
       sym (enum-told .given .1) ∙ check-recall .ensures,
       marks-right (args .days .now) (args .first .now) (args .second .now) (args .rows .now) (args .starts .now)
           (args .ends .now) (args .s) (args .e) (args .marks .now) (sym (enum-told .given .1) ∙ check-recall .ensures)

@@ -109,7 +109,9 @@ wide-requires c κs = search needs
 -- src/shelf.rt:77:9
 add-end : tie.Need-add-end Inv-loop μ-loop
 add-end c =
-    let pre = c .before .before .before .before .before .before .before .before .before .before .before .before .before .before .before .before .before .before .before .before .pre in
+    let pre =
+    c .before .before .before .before .before .before .before .before .before .before .before .before .before .before
+    .before .before .before .before .before .before .pre in
     let loop = c .before .before .before .before .before .before .before .before .before .before .loop in
     let wide = c .wide in
     let one = c .before .one in
@@ -118,7 +120,9 @@ add-end c =
 -- src/shelf.rt:78:9
 add-p : tie.Need-add-p Inv-loop μ-loop
 add-p c =
-    let pre = c .before .before .before .before .before .before .before .before .before .before .before .before .before .before .before .before .before .before .before .before .pre in
+    let pre =
+    c .before .before .before .before .before .before .before .before .before .before .before .before .before .before
+    .before .before .before .before .before .before .pre in
     let loop = c .before .before .before .before .before .before .before .before .before .before .loop in
     omega (arith, sift-few (pre .shelves) (pre .account) (loop .inv .sift) (pre .sound .most))
 
@@ -132,13 +136,17 @@ loop-less c =
 loop-again : tie.Need-loop-again Inv-loop μ-loop
 loop-again c =
     let loop = c .before .before .before .before .before .before .before .before .before .before .loop in
-    let pre = c .before .before .before .before .before .before .before .before .before .before .before .before .before .before .before .before .before .before .before .before .pre in
+    let pre =
+    c .before .before .before .before .before .before .before .before .before .before .before .before .before .before
+    .before .before .before .before .before .before .pre in
     let loop-test = c .before .before .before .before .before .before .before .before .before .loop-test in
     let row-at = c .before .before .before .before .before .before .before .row-at in
     let put = c .before .before .before .before .put in
     let wide = c .wide in
     let one = c .before .one in
-    let args = c .before .before .before .before .before .before .before .before .before .before .before .before .before .before .before .before .before .before .before .before .args in
+    let args =
+    c .before .before .before .before .before .before .before .before .before .before .before .before .before .before
+    .before .before .before .before .before .before .args in
     record {
       cursor = loop .inv .cursor;
       sift = sift-next (pre .shelves) (pre .account) (loop .inv .sift) (omega (arith, loop .inv .cursor, loop-test .taken)) (row-at .ensures .row) (put .ensures)
