@@ -25,7 +25,7 @@ use Rattle.rings.specs.Ring.{touches, query}
 use Rattle.rings.specs.CoreTimes.{never}
 use Rattle.rings.specs.Inner.Links.{fresh}
 use Rattle.rings.specs.Inner.Peeling.{EarlierStands, freshBy, PeelBuffers, Losable, Lost, fallen, Fall, nothing, Ready, Counted, Span, CoreTimesAre}
-use Rattle.rings.specs.Inner.Peeling.{allRows, Falling, Continues, HeadWalked, QueueEmpty, Fade, RowLeaves, RowLeft}
+use Rattle.rings.specs.Inner.Peeling.{allRows, Falling, Continues, HeadWalked, QueueEmpty, Fade, FadedTo, RowLeaves}
 use Rattle.rings.specs.declared.frame.Frame.{Frame}
 use Rattle.rings.specs.declared.peel.Removal.{Removal}
 use Rattle.rings.proofs.WordLaws.{look, clash, and-i, and-l, and-r, no-i, no-e, same-truth, count-same, count-none, count-pos, count-le, same-or}
@@ -72,9 +72,9 @@ pub record Drain (d f s : List ℕ) (q : Frame) (m state : Removal) (x₀ l₀ w
   pub goes-on : Continues d f s q m state x l w
 
 -- fade: the rows from the end of state on have left
-pub record Fading (d f s : List ℕ) (q : Frame) (state : Removal) (x₀ l₀ w₀ x l w : List ℕ) : Type 0 where
+pub record Fading (d f s : List ℕ) (q : Frame) (end tail : ℕ) (x₀ l₀ w₀ x l w : List ℕ) : Type 0 where
   pub lengths : SameLengths x₀ l₀ w₀ x l w
-  pub fade : Fade d f s q state x l w
+  pub faded : FadedTo d f s q end tail x l w
 
 -- count_neighbours: the rows below j have been counted
 pub record Counting (d f s : List ℕ) (q : Frame) (j end : ℕ) (l₀ l : List ℕ) : Type 0 where
@@ -123,32 +123,36 @@ module _ (d f s links : List ℕ) (q : Frame) (R : Ready d f s links q) where
 
   -- ---- leave
 
-  pub leave-row : {m : Removal} {x l w : List ℕ} → RowLeaves d f s q m x l w → m .end - 1 < length d
-  leave-row L = let a = L .some in let b = L .fade .within in omega arith
+  pub leave-row : {end tail : ℕ} {x l w : List ℕ} → RowLeaves d f s q end tail x l w → end - 1 < length d
+  leave-row L = let a = L .some in let b = L .faded .fade .within in omega arith
 
-  module _ {m : Removal} {x l w : List ℕ} (L : RowLeaves d f s q m x l w) {e : ℕ} (day : e ≡ getD d (m .end - 1) 0) where
+  -- by the two numbers alone
+  pub faded-of : {m : Removal} {x l w : List ℕ} → Fade d f s q m x l w → FadedTo d f s q (m .end) (m .tail) x l w
+  faded-of {m} {x} {l} {w} F =
+      record {
+        day = m .day;
+        fade = subst (λ (c : ℕ). Fade d f s q (record { day = m .day; end = m .end; head = c; tail = m .tail }) x l w) (F .idle) F;
+      }
+
+  module _ {end tail : ℕ} {x l w : List ℕ} (L : RowLeaves d f s q end tail x l w) {e : ℕ} (day : e ≡ getD d (end - 1) 0) where
     abbrev j : ℕ
-    j = m .end - 1
-
-    abbrev tail : ℕ
-    tail = m .tail
+    j = end - 1
 
     b : j < length d
     b = leave-row L
 
-    one-more : m .end ≡ suc j
+    one-more : end ≡ suc j
     one-more = let a = L .some in omega arith
 
     -- the state for the day of this row
     G : Falls 4096 e (suc j) tail tail x l w
     unfolding dayOf at
     G =
-        let z = L .fade .dated j (omega (arith, one-more)) in
+        let z = L .faded .fade .dated j (omega (arith, one-more)) in
         subst (λ (c : ℕ). Falls 4096 c (suc j) tail tail x l w) (sym day)
         (next-day t q (R .setting)
-        (subst (λ (c : ℕ). Falls 4096 (m .day) c tail tail x l w) one-more
-        (subst (λ (c : ℕ). Falls 4096 (m .day) (m .end) c tail x l w) (L .fade .idle) (L .fade .state)))
-        b (z .0) (z .1) (L .fade .above j (omega (arith, one-more))))
+        (subst (λ (c : ℕ). Falls 4096 (L .faded .day) c tail tail x l w) one-more (L .faded .fade .state))
+        b (z .0) (z .1) (L .faded .fade .above j (omega (arith, one-more))))
 
     e-day : e ≤ dayOf t j
     unfolding dayOf at
@@ -165,43 +169,44 @@ module _ (d f s links : List ℕ) (q : Frame) (R : Ready d f s links q) where
     leave-accounts ea ec =
         let y = first-small (R .sound) b ea in
         let z = second-small (R .sound) b ec in
-        let n = L .fade .state .buffers .times in (omega arith, omega arith)
+        let n = L .faded .fade .state .buffers .times in (omega arith, omega arith)
 
     -- the row has left: nobody waits after that
-    pub leave-left : {r n : Removal} {x′ l′ w′ : List ℕ} → n .day ≡ e → n .end ≡ j → QueueEmpty d f s q n r x′ l′ w′ → RowLeft d f s q m r x′ l′ w′
+    pub leave-left : {r n : Removal} {x′ l′ w′ : List ℕ} → n .day ≡ e → n .end ≡ j → QueueEmpty d f s q n r x′ l′ w′ → FadedTo d f s q j (r .tail) x′ l′ w′
     unfolding dayOf at
-    leave-left {r} {n} ed en Q =
-        let a = L .fade .within in let o = L .some in let g : r .end ≡ j = Q .goes-on .end ∙ en in
-        record {
-          fade = record {
-            state = Q .goes-on .state;
-            idle = Q .idle;
-            above = λ i k. subst (λ (c : ℕ). getD d i 0 ≤ c) (sym (Q .goes-on .day ∙ (ed ∙ day))) (R .setting .rising i j (omega arith) b);
-            within = omega arith;
-            from = omega arith;
-            dated = λ i k. L .fade .dated i (omega arith);
-          };
-          fewer = omega arith;
-        }
+    leave-left {r} {n} {x′} {l′} {w′} ed en Q =
+        subst (λ (c : ℕ). FadedTo d f s q c (r .tail) x′ l′ w′) (Q .goes-on .end ∙ en) (faded-of (left ed en Q))
+      where
+        left : n .day ≡ e → n .end ≡ j → QueueEmpty d f s q n r x′ l′ w′ → Fade d f s q r x′ l′ w′
+        left ed en Q =
+            let a = L .faded .fade .within in let o = L .some in let g : r .end ≡ j = Q .goes-on .end ∙ en in
+            record {
+              state = Q .goes-on .state;
+              idle = Q .idle;
+              above = λ i k. subst (λ (c : ℕ). getD d i 0 ≤ c) (sym (Q .goes-on .day ∙ (ed ∙ day))) (R .setting .rising i j (omega arith) b);
+              within = omega arith;
+              from = omega arith;
+              dated = λ i k. L .faded .fade .dated i (omega arith);
+            }
 
     -- it has left, and nobody fell
-    gone : Falls 4096 e j tail tail x l w → RowLeft d f s q m (record { day = e; end = j; head = tail; tail = tail }) x l w
+    gone : Falls 4096 e j tail tail x l w → FadedTo d f s q j tail x l w
     gone F =
-        leave-left {n = record { day = e; end = j; head = tail; tail = tail }} refl refl
+        leave-left {r = record { day = e; end = j; head = tail; tail = tail }} {n = record { day = e; end = j; head = tail; tail = tail }} refl refl
         (record { goes-on = record { state = F; day = refl; end = refl }; idle = refl })
 
     pub leave-old : {y : Bool} → y ≡ freshBy links (length d) (q .lo) j → y ≡ false
-        → RowLeft d f s q m (record { day = e; end = j; head = tail; tail = tail }) x l w
+        → FadedTo d f s q j tail x l w
     leave-old h g = gone (leave-stale t q (R .setting) G e-day (fresh-is h ∙ g))
 
     pub leave-a-fell : {a v : ℕ} → a ≡ getD f j 0 → v ≡ getD x a 0 → (v ≡ 0 → ⊥)
-        → RowLeft d f s q m (record { day = e; end = j; head = tail; tail = tail }) x l w
+        → FadedTo d f s q j tail x l w
     unfolding firstOf at
     leave-a-fell {a} {v} ea ev n =
         gone (leave-fell t q (R .setting) G e-day b a (subst (λ (c : ℕ). touches t j c ≡ true) (sym ea) (touch-first t j)) (λ z. n (ev ∙ z)))
 
     pub leave-b-fell : {c v : ℕ} → c ≡ getD s j 0 → v ≡ getD x c 0 → (v ≡ 0 → ⊥)
-        → RowLeft d f s q m (record { day = e; end = j; head = tail; tail = tail }) x l w
+        → FadedTo d f s q j tail x l w
     unfolding secondOf at
     leave-b-fell {c} {v} ec ev n =
         gone (leave-fell t q (R .setting) G e-day b c (subst (λ (g : ℕ). touches t j g ≡ true) (sym ec) (touch-second t j)) (λ z. n (ev ∙ z)))
@@ -241,23 +246,21 @@ module _ (d f s links : List ℕ) (q : Frame) (R : Ready d f s links q) where
 
   -- ---- fade
 
-  pub fading-start : {m : Removal} {x l w : List ℕ} → Fade d f s q m x l w → Fading d f s q m x l w x l w
-  fading-start {x = x} {l} {w} F = record { lengths = same-start x l w; fade = F }
+  pub fading-start : {m : Removal} {x l w : List ℕ} → Fade d f s q m x l w → Fading d f s q (m .end) (m .tail) x l w x l w
+  fading-start {x = x} {l} {w} F = record { lengths = same-start x l w; faded = faded-of F }
 
-  module _ {state : Removal} {x₀ l₀ w₀ x l w : List ℕ} (F : Fading d f s q state x₀ l₀ w₀ x l w) where
-    pub fading-next : {r : Removal} {x′ l′ w′ : List ℕ} → length x′ ≡ length x → length l′ ≡ length l → length w′ ≡ length w → RowLeft d f s q state r x′ l′ w′
-        → Fading d f s q r x₀ l₀ w₀ x′ l′ w′
-    fading-next ex el ew L = record { lengths = same-next (F .lengths) ex el ew; fade = L .fade }
+  module _ {end tail : ℕ} {x₀ l₀ w₀ x l w : List ℕ} (F : Fading d f s q end tail x₀ l₀ w₀ x l w) where
+    pub fading-next : {r : ℕ} {x′ l′ w′ : List ℕ} → length x′ ≡ length x → length l′ ≡ length l → length w′ ≡ length w → FadedTo d f s q (end - 1) r x′ l′ w′
+        → Fading d f s q (end - 1) r x₀ l₀ w₀ x′ l′ w′
+    fading-next ex el ew L = record { lengths = same-next (F .lengths) ex el ew; faded = L }
 
-    pub fading-end : state .end ≤ q .lo → CoreTimesAre d f s q x
+    pub fading-end : end ≤ q .lo → CoreTimesAre d f s q x
     fading-end h =
-        let g : state .end ≡ q .lo = le-antisymm h (F .fade .from) in
+        let now = F .faded .fade in
+        let g : end ≡ q .lo = le-antisymm h (now .from) in
         record {
-          long = F .fade .state .buffers .times;
-          times =
-              λ u k. fall-times t q (R .setting)
-              (subst (λ (c : ℕ). Falls 4096 (state .day) c (state .tail) (state .tail) x l w) g
-              (subst (λ (c : ℕ). Falls 4096 (state .day) (state .end) c (state .tail) x l w) (F .fade .idle) (F .fade .state))) u k;
+          long = now .state .buffers .times;
+          times = λ u k. fall-times t q (R .setting) (subst (λ (c : ℕ). Falls 4096 (F .faded .day) c tail tail x l w) g (now .state)) u k;
         }
 
   -- ---- count_neighbours

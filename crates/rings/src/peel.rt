@@ -2,9 +2,10 @@
 // times: 0 while an account has not fallen, then its core time; left: its neighbours left; queue: who fell and is still to be walked.
 // Each account is walked once, from its head on, and each row leaves once, so the work is linear in the rows of the window.
 ghost use mathlib.Core.Path.{_≡_};
+ghost use Prim.Native.Nat.{_-_, _≤_};
 ghost use Rattle.rings.specs.Table.{tableOf};
 ghost use Rattle.rings.specs.Inner.Peeling.{EarlierStands, freshBy, PeelBuffers, Losable, Lost, Ready, Span, Counted, CoreTimesAre};
-ghost use Rattle.rings.specs.Inner.Peeling.{allRows, Falling, Continues, HeadWaits, HeadWalked, QueueEmpty, Fade, RowLeaves, RowLeft};
+ghost use Rattle.rings.specs.Inner.Peeling.{allRows, Falling, Continues, HeadWaits, HeadWalked, QueueEmpty, Fade, FadedTo, RowLeaves};
 use crate::frame::Frame;
 use crate::incident::row_at;
 use crate::limits::ACCOUNTS;
@@ -128,41 +129,36 @@ fn drain(
     state
 }
 
-// The last row that has not left leaves. Who falls with it has its day for a core time.
+// The last of the rows that have not left, the one before `end`, leaves: the new end of the queue. Who falls by it has its day.
+// The two numbers go in and one comes back: this is done for each row, and a struct would go through memory.
 fn leave(
     days: &[u16],
     first: &[u16],
     second: &[u16],
     links: &[u16],
     frame: Frame,
-    removal: Removal,
+    end: usize,
+    tail: usize,
     times: &mut [u16],
     left: &mut [u16],
     queue: &mut [u16],
-) -> Removal
+) -> usize
     requires { ⌜ Ready (now days) (now first) (now second) (now links) frame ⌝ }
-    requires { ⌜ RowLeaves (now days) (now first) (now second) frame removal (now times) (now left) (now queue) ⌝ }
-    ensures { λ r. ⌜ RowLeft (now (days .entry)) (now (first .entry)) (now (second .entry)) frame removal r
+    requires { ⌜ RowLeaves (now days) (now first) (now second) frame end tail (now times) (now left) (now queue) ⌝ }
+    ensures { λ r. ⌜ FadedTo (now (days .entry)) (now (first .entry)) (now (second .entry)) frame (end - 1) r
         (now (times .exit)) (now (left .exit)) (now (queue .exit)) ⌝ }
 {
     let n = days.len();
-    let j = removal.end - 1;
+    let j = end - 1;
     let e = days[j];
-    let tail = removal.tail;
-    let gone = Removal {
-        day: e,
-        end: j,
-        head: tail,
-        tail: tail,
-    };
     if is_fresh(links, n, frame.lo, j) {
         let a = entry(first, j);
         let b = entry(second, j);
         if entry(times, a) != 0 {
-            return gone;
+            return tail;
         }
         if entry(times, b) != 0 {
-            return gone;
+            return tail;
         }
         let one = lose(frame.query.k, e, tail, a, times, left, queue);
         let two = lose(frame.query.k, e, one, b, times, left, queue);
@@ -172,7 +168,7 @@ fn leave(
             head: tail,
             tail: two,
         };
-        return drain(
+        let idle = drain(
             days,
             first,
             second,
@@ -183,8 +179,9 @@ fn leave(
             left,
             queue,
         );
+        return idle.tail;
     }
-    gone
+    tail
 }
 
 // The rows leave, from the last on: who falls meanwhile has the day of the leaving row for its core time.
@@ -203,9 +200,22 @@ fn fade(
     requires { ⌜ Fade (now days) (now first) (now second) frame removal (now times) (now left) (now queue) ⌝ }
     ensures { λ _. ⌜ CoreTimesAre (now (days .entry)) (now (first .entry)) (now (second .entry)) frame (now (times .exit)) ⌝ }
 {
-    let mut state = removal;
-    while frame.lo < state.end {
-        state = leave(days, first, second, links, frame, state, times, left, queue);
+    let mut end = removal.end;
+    let mut tail = removal.tail;
+    while frame.lo < end {
+        tail = leave(
+            days,
+            first,
+            second,
+            links,
+            frame,
+            end,
+            tail,
+            times,
+            left,
+            queue,
+        );
+        end -= 1;
     }
 }
 

@@ -16,13 +16,14 @@
 --     season, nextFrame    the frame of a start by its numbers, and that of the start after it
 --     allRows      the removal before any row has left
 --     Falling      Fall with the numbers of a removal, for the table of three columns
---     HeadWaits, HeadWalked, Continues, QueueEmpty, RowLeaves, RowLeft    what the functions of src/peel.rt ask and promise beside the buffers
+--     HeadWaits, HeadWalked, Continues, QueueEmpty, RowLeaves    what the functions of src/peel.rt ask and promise beside the buffers
 --     Ready        what peeling works on: an accepted table, its links with the heads at the first day, and the setting
 --     Framed       the same without links
 --     Placed       with the earlier rows alone
 --     Open         with a book that may lack rows
 --     Span         the rows of a window, as a first row and an end
 --     Counted      d holds the fresh rows of each account below a row
+--     FadedTo      the same by the end of the rows left and the end of the queue
 --     Fade         the rows from the removal's end on have left, and nobody waits
 --     CoreTimesAre, TimesKnown     a list holds the core times of the accounts; beside the rows of the window
 use Prim.Native.Nat.{ℕ, _+_, _-_, _*_, _≤_, _<_}
@@ -234,14 +235,15 @@ pub record Fade (d f s : List ℕ) (p : Frame) (m : Removal) (x l w : List ℕ) 
   pub from : p .lo ≤ m .end
   pub dated : (j : ℕ) → j < m .end → (1 ≤ dayOf (tableOf d f s) j) × (dayOf (tableOf d f s) j ≤ p .stop)
 
--- a row is left, and has left
-pub record RowLeaves (d f s : List ℕ) (p : Frame) (m : Removal) (x l w : List ℕ) : Type 0 where
-  pub fade : Fade d f s p m x l w
-  pub some : p .lo < m .end
+-- the same by the two numbers that go on from row to row: the day is that of the row that left last
+pub record FadedTo (d f s : List ℕ) (p : Frame) (end tail : ℕ) (x l w : List ℕ) : Type 0 where
+  pub day : ℕ
+  pub fade : Fade d f s p (record { day = day; end = end; head = tail; tail = tail }) x l w
 
-pub record RowLeft (d f s : List ℕ) (p : Frame) (m r : Removal) (x l w : List ℕ) : Type 0 where
-  pub fade : Fade d f s p r x l w
-  pub fewer : r .end < m .end
+-- a row is left
+pub record RowLeaves (d f s : List ℕ) (p : Frame) (end tail : ℕ) (x l w : List ℕ) : Type 0 where
+  pub faded : FadedTo d f s p end tail x l w
+  pub some : p .lo < end
 
 -- the rows dated by stop are those below end, and lo is among them or their end
 pub record Span (d : List ℕ) (stop lo end : ℕ) : Type 0 where

@@ -17,32 +17,32 @@ use Rattle.rings.proofs.peel.lose.Reads as lose-reads
 
 sub-j : tie.Need-sub-j
 sub-j c =
-    let pre = c .before .before .before .before .before .before .before .before .pre in
+    let pre = c .before .before .before .before .before .before .before .pre in
     omega (arith, pre .1 .some)
 
 mul-e : tie.Need-mul-e
 mul-e c =
-    let pre = c .before .before .before .before .before .before .before .before .pre in
+    let pre = c .before .before .before .before .before .before .before .pre in
     omega (arith, leave-row _ _ _ _ _ (pre .0) (pre .1), pre .0 .sound .most)
 
 shared-slice-read-e : tie.Need-shared-slice-read-e
 shared-slice-read-e c =
-    let pre = c .before .before .before .before .before .before .before .before .before .pre in
+    let pre = c .before .before .before .before .before .before .before .before .pre in
     leave-row _ _ _ _ _ (pre .0) (pre .1)
 
 is-fresh-requires : tie.Need-is-fresh-requires
 is-fresh-requires c κs =
-    let pre = c .before .before .before .before .before .before .before .before .before .pre in
+    let pre = c .before .before .before .before .before .before .before .before .pre in
     leave-place _ _ _ _ _ (pre .0) (pre .1) refl
 
 entry-requires : tie.Need-entry-requires
 entry-requires c κs =
-    let pre = c .before .before .before .before .before .before .before .before .before .before .before .pre in
+    let pre = c .before .before .before .before .before .before .before .before .before .before .pre in
     omega (arith, leave-row _ _ _ _ _ (pre .0) (pre .1), pre .0 .sound .firsts)
 
 entry-requires-2 : tie.Need-entry-requires-2
 entry-requires-2 c κs =
-    let pre = c .before .before .before .before .before .before .before .before .before .before .before .before .pre in
+    let pre = c .before .before .before .before .before .before .before .before .before .before .before .pre in
     omega (arith, leave-row _ _ _ _ _ (pre .0) (pre .1), pre .0 .sound .seconds)
 
 entry-requires-3 : tie.Need-entry-requires-3
@@ -50,8 +50,7 @@ entry-requires-3 c κs =
     let entry2 = c .before .entry2 in
     let entry = c .before .before .entry in
     let pre =
-    c .before .before .before .before .before .before .before .before .before .before .before .before .before
-    .before .pre in
+    c .before .before .before .before .before .before .before .before .before .before .before .before .before .pre in
     leave-accounts _ _ _ _ _ (pre .0) (pre .1) refl (entry .ensures) (entry2 .ensures) .0
 
 same-length : tie.Need-same-length
@@ -62,8 +61,7 @@ returns c =
     let entry3 = c .before .entry3 in
     let entry = c .before .before .before .before .entry in
     let pre =
-    c .before .before .before .before .before .before .before .before .before .before .before .before .before
-    .before .before .before .pre in
+    c .before .before .before .before .before .before .before .before .before .before .before .before .before .before .before .pre in
     let if2 = c .if2 in leave-a-fell _ _ _ _ _ (pre .0) (pre .1) refl (entry .ensures) (entry3 .ensures) (if2 .taken)
 
 entry-requires-4 : tie.Need-entry-requires-4
@@ -71,8 +69,7 @@ entry-requires-4 c κs =
     let entry2 = c .before .before .before .before .entry2 in
     let entry = c .before .before .before .before .before .entry in
     let pre =
-    c .before .before .before .before .before .before .before .before .before .before .before .before .before
-    .before .before .before .before .pre in
+    c .before .before .before .before .before .before .before .before .before .before .before .before .before .before .before .before .pre in
     leave-accounts _ _ _ _ _ (pre .0) (pre .1) refl (entry .ensures) (entry2 .ensures) .1
 
 same-length-2 : tie.Need-same-length-2
@@ -83,8 +80,7 @@ returns-2 c =
     let entry4 = c .before .entry4 in
     let entry2 = c .before .before .before .before .before .before .entry2 in
     let pre =
-    c .before .before .before .before .before .before .before .before .before .before .before .before .before
-    .before .before .before .before .before .before .pre in
+    c .before .before .before .before .before .before .before .before .before .before .before .before .before .before .before .before .before .before .pre in
     let if3 = c .if3 in leave-b-fell _ _ _ _ _ (pre .0) (pre .1) refl (entry2 .ensures) (entry4 .ensures) (if3 .taken)
 
 lose-requires : tie.Need-lose-requires
@@ -99,8 +95,7 @@ lose-requires c κs =
     let is-fresh =
     c .before .before .before .before .before .before .before .before .before .before .before .before .is-fresh in
     let pre =
-    c .before .before .before .before .before .before .before .before .before .before .before .before .before
-    .before .before .before .before .before .before .before .before .before .pre in
+    c .before .before .before .before .before .before .before .before .before .before .before .before .before .before .before .before .before .before .before .before .before .pre in
     leave-room-a _ _ _ _ _ (pre .0) (pre .1) refl (is-fresh .ensures) (if1 .taken) (entry .ensures) (entry2 .ensures)
     (entry3 .ensures) (entry4 .ensures) (if2 .left) (if3 .left)
 
@@ -108,33 +103,23 @@ lose-requires-2 : tie.Need-lose-requires-2
 lose-requires-2 c κs =
     let lose = c .before .before .before .before .before .before .before .before .before .lose in
     let if3 =
-    c .before .before .before .before .before .before .before .before .before .before .before .before
-    .before .if3 in
+    c .before .before .before .before .before .before .before .before .before .before .before .before .before .if3 in
     let entry4 =
-    c .before .before .before .before .before .before .before .before .before .before .before .before .before
-    .before .entry4 in
+    c .before .before .before .before .before .before .before .before .before .before .before .before .before .before .entry4 in
     let if2 =
-    c .before .before .before .before .before .before .before .before .before .before .before .before .before
-    .before .before .before .if2 in
+    c .before .before .before .before .before .before .before .before .before .before .before .before .before .before .before .before .if2 in
     let entry3 =
-    c .before .before .before .before .before .before .before .before .before .before .before .before .before
-    .before .before .before .before .entry3 in
+    c .before .before .before .before .before .before .before .before .before .before .before .before .before .before .before .before .before .entry3 in
     let entry2 =
-    c .before .before .before .before .before .before .before .before .before .before .before .before .before
-    .before .before .before .before .before .before .entry2 in
+    c .before .before .before .before .before .before .before .before .before .before .before .before .before .before .before .before .before .before .before .entry2 in
     let entry =
-    c .before .before .before .before .before .before .before .before .before .before .before .before .before
-    .before .before .before .before .before .before .before .entry in
+    c .before .before .before .before .before .before .before .before .before .before .before .before .before .before .before .before .before .before .before .before .entry in
     let if1 =
-    c .before .before .before .before .before .before .before .before .before .before .before .before .before
-    .before .before .before .before .before .before .before .before .if1 in
+    c .before .before .before .before .before .before .before .before .before .before .before .before .before .before .before .before .before .before .before .before .before .if1 in
     let is-fresh =
-    c .before .before .before .before .before .before .before .before .before .before .before .before .before
-    .before .before .before .before .before .before .before .before .before .is-fresh in
+    c .before .before .before .before .before .before .before .before .before .before .before .before .before .before .before .before .before .before .before .before .before .before .is-fresh in
     let pre =
-    c .before .before .before .before .before .before .before .before .before .before .before .before .before
-    .before .before .before .before .before .before .before .before .before .before .before .before .before .before
-    .before .before .before .before .before .pre in
+    c .before .before .before .before .before .before .before .before .before .before .before .before .before .before .before .before .before .before .before .before .before .before .before .before .before .before .before .before .before .before .before .pre in
     leave-room-b _ _ _ _ _ (pre .0) (pre .1) refl (is-fresh .ensures) (if1 .taken) (entry .ensures) (entry2 .ensures)
     (entry3 .ensures) (entry4 .ensures) (if2 .left) (if3 .left) (lose .ensures)
 
@@ -142,42 +127,25 @@ drain-requires : tie.Need-drain-requires
 drain-requires c κs =
     let lose2 = c .before .before .before .before .before .before .before .before .before .lose2 in
     let lose =
-    c .before .before .before .before .before .before .before .before .before .before .before .before .before
-    .before .before .before .before .before .before .lose in
+    c .before .before .before .before .before .before .before .before .before .before .before .before .before .before .before .before .before .before .before .lose in
     let if3 =
-    c .before .before .before .before .before .before .before .before .before .before .before .before .before
-    .before .before .before .before .before .before .before .before .before .before .if3 in
+    c .before .before .before .before .before .before .before .before .before .before .before .before .before .before .before .before .before .before .before .before .before .before .before .if3 in
     let entry4 =
-    c .before .before .before .before .before .before .before .before .before .before .before .before .before
-    .before .before .before .before .before .before .before .before .before .before .before .entry4 in
+    c .before .before .before .before .before .before .before .before .before .before .before .before .before .before .before .before .before .before .before .before .before .before .before .before .entry4 in
     let if2 =
-    c .before .before .before .before .before .before .before .before .before .before .before .before .before
-    .before .before .before .before .before .before .before .before .before .before .before .before .before .if2 in
+    c .before .before .before .before .before .before .before .before .before .before .before .before .before .before .before .before .before .before .before .before .before .before .before .before .before .before .if2 in
     let entry3 =
-    c .before .before .before .before .before .before .before .before .before .before .before .before .before
-    .before .before .before .before .before .before .before .before .before .before .before .before .before
-    .before .entry3 in
+    c .before .before .before .before .before .before .before .before .before .before .before .before .before .before .before .before .before .before .before .before .before .before .before .before .before .before .before .entry3 in
     let entry2 =
-    c .before .before .before .before .before .before .before .before .before .before .before .before .before
-    .before .before .before .before .before .before .before .before .before .before .before .before .before .before
-    .before .before .entry2 in
+    c .before .before .before .before .before .before .before .before .before .before .before .before .before .before .before .before .before .before .before .before .before .before .before .before .before .before .before .before .before .entry2 in
     let entry =
-    c .before .before .before .before .before .before .before .before .before .before .before .before .before
-    .before .before .before .before .before .before .before .before .before .before .before .before .before .before
-    .before .before .before .entry in
+    c .before .before .before .before .before .before .before .before .before .before .before .before .before .before .before .before .before .before .before .before .before .before .before .before .before .before .before .before .before .before .entry in
     let if1 =
-    c .before .before .before .before .before .before .before .before .before .before .before .before .before
-    .before .before .before .before .before .before .before .before .before .before .before .before .before .before
-    .before .before .before .before .if1 in
+    c .before .before .before .before .before .before .before .before .before .before .before .before .before .before .before .before .before .before .before .before .before .before .before .before .before .before .before .before .before .before .before .if1 in
     let is-fresh =
-    c .before .before .before .before .before .before .before .before .before .before .before .before .before
-    .before .before .before .before .before .before .before .before .before .before .before .before .before .before
-    .before .before .before .before .before .is-fresh in
+    c .before .before .before .before .before .before .before .before .before .before .before .before .before .before .before .before .before .before .before .before .before .before .before .before .before .before .before .before .before .before .before .before .is-fresh in
     let pre =
-    c .before .before .before .before .before .before .before .before .before .before .before .before .before
-    .before .before .before .before .before .before .before .before .before .before .before .before .before .before
-    .before .before .before .before .before .before .before .before .before .before .before .before .before .before
-    .before .pre in (
+    c .before .before .before .before .before .before .before .before .before .before .before .before .before .before .before .before .before .before .before .before .before .before .before .before .before .before .before .before .before .before .before .before .before .before .before .before .before .before .before .before .before .pre in (
       pre .0,
       leave-now _ _ _ _ _ (pre .0) (pre .1) refl (is-fresh .ensures) (if1 .taken) (entry .ensures) (entry2 .ensures)
           (entry3 .ensures) (entry4 .ensures) (if2 .left) (if3 .left) (lose .ensures) (lose2 .ensures),
@@ -195,17 +163,13 @@ same-length-5 c = search needs
 returns-3 : tie.Need-returns-3
 returns-3 c =
     let drain = c .before .before .before .before .before .before .drain in
-    let pre =
-    c .before .before .before .before .before .before .before .before .before .before .before .before .before
-    .before .before .before .before .before .before .before .before .before .before .before .before .before .before
-    .before .before .before .before .before .before .before .before .before .before .before .before .before .before
-    .before .before .before .before .before .before .before .before .pre in
+    let pre = c .before .before .before .before .before .before .before .before .before .before .before .before .before .before .before .before .before .before .before .before .before .before .before .before .before .before .before .before .before .before .before .before .before .before .before .before .before .before .before .before .before .before .before .before .before .before .before .before .pre in
     leave-left _ _ _ _ _ (pre .0) (pre .1) refl refl refl (drain .ensures)
 
 returns-4 : tie.Need-returns-4
 returns-4 c =
     let is-fresh = c .before .is-fresh in
-    let pre = c .before .before .before .before .before .before .before .before .before .before .before .pre in
+    let pre = c .before .before .before .before .before .before .before .before .before .before .pre in
     let if1 = c .if1 in leave-old _ _ _ _ _ (pre .0) (pre .1) refl (is-fresh .ensures) (if1 .left)
 
 pub leave-spec : {M : Type 1} → statement M
