@@ -4,4 +4,5 @@ pub mod Line
 pub mod Reader
 pub mod Table
 pub mod Print
+pub mod Report
 pub mod TextNumbers

@@ -4,6 +4,7 @@ mod layout;
 mod lines;
 mod print;
 pub mod reader;
+mod report;
 mod table;
 
 pub use decimal::Field;
@@ -21,5 +22,8 @@ pub use print::put_line;
 pub use print::put_refused;
 pub use reader::LineReader;
 pub use reader::read_line;
+pub use report::Report;
+pub use report::report_query;
+pub use report::report_table;
 pub use table::TableRead;
 pub use table::read_table;

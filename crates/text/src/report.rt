@@ -1,0 +1,59 @@
+// What a reader tells a host in numbers: 01's refusal number, 0 for none; its line, counted from 1, 0 where there is none; the rows read.
+ghost use mathlib.Core.Path.{_≡_};
+ghost use Rattle.text.specs.Report.{tableReport, queryReport};
+use crate::lines::QueryRead;
+use crate::table::TableRead;
+
+pub struct Report {
+    pub number: u32,
+    pub place: usize,
+    pub count: usize,
+}
+
+// 01's numbers of the reader's refusals.
+const NO_ROOM: u32 = 10;
+
+const LINE_LENGTH: u32 = 11;
+
+const BROKEN_FIELD: u32 = 12;
+
+const LARGE_NUMBER: u32 = 13;
+
+fn refused(number: u32, place: usize) -> Report
+    ensures { λ r. ⌜ r ≡ record { number = number; place = place; count = 0 } ⌝ }
+{
+    Report {
+        number,
+        place,
+        count: 0,
+    }
+}
+
+// Of a table's text.
+pub fn report_table(read: TableRead) -> Report
+    ensures { λ r. ⌜ r ≡ tableReport read ⌝ }
+{
+    match read {
+        TableRead::Rows(n) => Report {
+            number: 0,
+            place: 0,
+            count: n,
+        },
+        TableRead::LineLength(line) => refused(LINE_LENGTH, line),
+        TableRead::BrokenField(line) => refused(BROKEN_FIELD, line),
+        TableRead::LargeNumber(line) => refused(LARGE_NUMBER, line),
+        TableRead::Room => refused(NO_ROOM, 0),
+    }
+}
+
+// Of a query line: it stands in line 1.
+pub fn report_query(read: QueryRead) -> Report
+    ensures { λ r. ⌜ r ≡ queryReport read ⌝ }
+{
+    match read {
+        QueryRead::Query(_, _, _) => refused(0, 0),
+        QueryRead::BadLength => refused(LINE_LENGTH, 1),
+        QueryRead::BadField => refused(BROKEN_FIELD, 1),
+        QueryRead::LargeNumber => refused(LARGE_NUMBER, 1),
+    }
+}
