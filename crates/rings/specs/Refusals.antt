@@ -1,7 +1,9 @@
 -- The numbers, places and counts of document 01 for each case of the answers.
---     numberOf r         a refusal's number
---     placeOf r          its place: a row for 3, 4, 5, a list entry for 14, else 0
---     behindScratch r    the check stands behind 9
+--     Rule, ruleOf r     what 01 says of a refusal: a row for each
+--     numberOf r         its number
+--     placeNumber p, placeOf r     a place as a number; the place of a refusal
+--     behindScratch r    its check stands behind 9
+--     toldOf r           number and place, as the code hands them on
 --     Report             what a call tells its caller in numbers: the refusal's number (0 for none), its place, and the count (0 on a refusal)
 --     done n, refused r  the reports of a success and of a refusal
 --     verdictReport v    the report of Table check, Core times and Recall
@@ -10,49 +12,48 @@ use Prim.Native.Nat.{ℕ}
 use mathlib.Core.Bool.{Bool, true, false}
 use Rattle.rings.specs.declared.refusal.Refusal.{Refusal}
 use Rattle.rings.specs.declared.refusal.Refusal.the-variants.{UnequalColumns, TooManyRows, BadDay, BadAccounts, OutOfOrder, BadK, BadWindow, BadLengths, SmallScratch, NoRoom, BadEntry}
+use Rattle.rings.specs.declared.refusal.Place.{Place}
+use Rattle.rings.specs.declared.refusal.Place.the-variants.{Nowhere, Row, Entry}
+use Rattle.rings.specs.declared.refusal.Told.{Told}
 use Rattle.rings.specs.declared.refusal.Verdict.{Verdict}
 use Rattle.rings.specs.declared.refusal.Counted.{Counted}
 
+-- 01: "A refusal is a number and a place: a row for 3, 4, 5; a list entry from 0 for 14; .. else 0"; "a check that stands behind 9"
+pub record Rule : Type 0 where
+  pub number : ℕ
+  pub place : Place
+  pub behind-scratch : Bool
+
+-- a row for each refusal
+abbrev pub ruleOf : Refusal → Rule
+ruleOf UnequalColumns = record { number = 1; place = Nowhere; behind-scratch = false }
+ruleOf TooManyRows = record { number = 2; place = Nowhere; behind-scratch = false }
+ruleOf (BadDay j) = record { number = 3; place = Row j; behind-scratch = false }
+ruleOf (BadAccounts j) = record { number = 4; place = Row j; behind-scratch = false }
+ruleOf (OutOfOrder j) = record { number = 5; place = Row j; behind-scratch = false }
+ruleOf BadK = record { number = 6; place = Nowhere; behind-scratch = false }
+ruleOf BadWindow = record { number = 7; place = Nowhere; behind-scratch = false }
+ruleOf BadLengths = record { number = 8; place = Nowhere; behind-scratch = false }
+ruleOf SmallScratch = record { number = 9; place = Nowhere; behind-scratch = false }
+ruleOf NoRoom = record { number = 10; place = Nowhere; behind-scratch = true }
+ruleOf (BadEntry i) = record { number = 14; place = Entry i; behind-scratch = false }
+
+abbrev pub placeNumber : Place → ℕ
+placeNumber Nowhere = 0
+placeNumber (Row j) = j
+placeNumber (Entry i) = i
+
 unfoldable pub numberOf : Refusal → ℕ
-numberOf UnequalColumns = 1
-numberOf TooManyRows = 2
-numberOf (BadDay j) = 3
-numberOf (BadAccounts j) = 4
-numberOf (OutOfOrder j) = 5
-numberOf BadK = 6
-numberOf BadWindow = 7
-numberOf BadLengths = 8
-numberOf SmallScratch = 9
-numberOf NoRoom = 10
-numberOf (BadEntry i) = 14
+numberOf r = ruleOf r .number
 
--- 01: "A refusal is a number and a place: a row for 3, 4, 5; a list entry from 0 for 14; .. else 0"
 unfoldable pub placeOf : Refusal → ℕ
-placeOf UnequalColumns = 0
-placeOf TooManyRows = 0
-placeOf (BadDay j) = j
-placeOf (BadAccounts j) = j
-placeOf (OutOfOrder j) = j
-placeOf BadK = 0
-placeOf BadWindow = 0
-placeOf BadLengths = 0
-placeOf SmallScratch = 0
-placeOf NoRoom = 0
-placeOf (BadEntry i) = i
+placeOf r = placeNumber (ruleOf r .place)
 
--- 01: "a check that stands behind 9"
 unfoldable pub behindScratch : Refusal → Bool
-behindScratch UnequalColumns = false
-behindScratch TooManyRows = false
-behindScratch (BadDay j) = false
-behindScratch (BadAccounts j) = false
-behindScratch (OutOfOrder j) = false
-behindScratch BadK = false
-behindScratch BadWindow = false
-behindScratch BadLengths = false
-behindScratch SmallScratch = false
-behindScratch NoRoom = true
-behindScratch (BadEntry i) = false
+behindScratch r = ruleOf r .behind-scratch
+
+unfoldable pub toldOf : Refusal → Told
+toldOf r = record { number = numberOf r; place = ruleOf r .place }
 
 pub record Report : Type 0 where
   pub number : ℕ

@@ -1,4 +1,6 @@
 // The answers of the calls, and why a call refuses.
+ghost use mathlib.Core.Path.{_≡_};
+ghost use Rattle.rings.specs.Refusals.{toldOf};
 
 // Why a call refuses: document 01's refusals, each with its place where it has one. specs/Refusals.antt gives number and place.
 pub enum Refusal {
@@ -36,4 +38,69 @@ pub enum Verdict {
 pub enum Counted {
     Count(usize),
     Refused(Refusal),
+}
+
+// Where a refusal lies: nowhere, at a row of the table, or at an entry of a minimal-window list, both counted from 0.
+pub enum Place {
+    Nowhere,
+    Row(usize),
+    Entry(usize),
+}
+
+// What a caller is told of a refusal: its number and its place.
+pub struct Told {
+    pub number: u32,
+    pub place: Place,
+}
+
+// Number and place of a refusal: a row for each, as in specs/Refusals.antt.
+pub fn tell(r: Refusal) -> Told
+    ensures { λ t. ⌜ t ≡ toldOf r ⌝ }
+{
+    match r {
+        Refusal::UnequalColumns => Told {
+            number: 1,
+            place: Place::Nowhere,
+        },
+        Refusal::TooManyRows => Told {
+            number: 2,
+            place: Place::Nowhere,
+        },
+        Refusal::BadDay(row) => Told {
+            number: 3,
+            place: Place::Row(row),
+        },
+        Refusal::BadAccounts(row) => Told {
+            number: 4,
+            place: Place::Row(row),
+        },
+        Refusal::OutOfOrder(row) => Told {
+            number: 5,
+            place: Place::Row(row),
+        },
+        Refusal::BadK => Told {
+            number: 6,
+            place: Place::Nowhere,
+        },
+        Refusal::BadWindow => Told {
+            number: 7,
+            place: Place::Nowhere,
+        },
+        Refusal::BadLengths => Told {
+            number: 8,
+            place: Place::Nowhere,
+        },
+        Refusal::SmallScratch => Told {
+            number: 9,
+            place: Place::Nowhere,
+        },
+        Refusal::NoRoom => Told {
+            number: 10,
+            place: Place::Nowhere,
+        },
+        Refusal::BadEntry(entry) => Told {
+            number: 14,
+            place: Place::Entry(entry),
+        },
+    }
 }
