@@ -16,7 +16,7 @@ use Rattle.rings.specs.declared.refusal.Verdict.{Verdict}
 use Rattle.rings.specs.declared.refusal.Counted.{Counted}
 use Rattle.text.specs.Table.{filled}
 use Rattle.text.specs.declared.table.TableRead.{TableRead}
-use Rattle.listing.specs.ListingCall.{listingStarts, listingEnds, listingRows, listingScratch, listingReport, listingSum}
+use Rattle.listing.specs.ListingCall.{Columns as RingColumns, listingColumns, listingScratch, listingReport, listingSum}
 use Rattle.listing.specs.Program.{Outcome}
 use Rattle.listing.specs.ProgramText.{listOutput, printedReport}
 use Rattle.listing.specs.declared.Listed.{Listed}
@@ -70,12 +70,13 @@ minimal-told t q ts te old old′ old″ before answer rows starts ends scratch 
     let n = told countedReport answer h in
     (n .number, n .place, n .count, rows ∙ ap (λ v. minimalRows v t q ts te old) answer, starts ∙ ap (λ v. minimalStarts v t q ts te old′) answer, ends ∙ ap (λ v. minimalEnds v t q ts te old″) answer, scratch ∙ ap (λ v. countedScratch v before) answer)
 
-pub listing-told : (t : Table) (q : Query) (ts te : ℕ) (old old′ old″ before : List ℕ) {v a : Listed} {n : Numbers} {sum : ℕ} {starts ends rows scratch : List ℕ}
-    → v ≡ a → starts ≡ listingStarts v t q ts te old → ends ≡ listingEnds v t q ts te old′ → rows ≡ listingRows v t q ts te old″ → scratch ≡ listingScratch v before → n ≡ numbers (listingReport v) → sum ≡ listingSum v
-    → (n .number ≡ listingReport a .number) × (n .place ≡ listingReport a .place) × (n .count ≡ listingReport a .count) × (sum ≡ listingSum a) × (starts ≡ listingStarts a t q ts te old) × (ends ≡ listingEnds a t q ts te old′) × (rows ≡ listingRows a t q ts te old″) × (scratch ≡ listingScratch a before)
-listing-told t q ts te old old′ old″ before answer starts ends rows scratch h sum =
+pub listing-told : (t : Table) (q : Query) (ts te : ℕ) (old : RingColumns (List ℕ)) (before : List ℕ) {v a : Listed} {n : Numbers} {sum : ℕ} {columns : RingColumns (List ℕ)} {scratch : List ℕ}
+    → v ≡ a → columns ≡ listingColumns v t q ts te old → scratch ≡ listingScratch v before → n ≡ numbers (listingReport v) → sum ≡ listingSum v
+    → (n .number ≡ listingReport a .number) × (n .place ≡ listingReport a .place) × (n .count ≡ listingReport a .count)
+    × (sum ≡ listingSum a) × (columns ≡ listingColumns a t q ts te old) × (scratch ≡ listingScratch a before)
+listing-told t q ts te old before answer columns scratch h sum =
     let n = told listingReport answer h in
-    (n .number, n .place, n .count, sum ∙ ap listingSum answer, starts ∙ ap (λ v. listingStarts v t q ts te old) answer, ends ∙ ap (λ v. listingEnds v t q ts te old′) answer, rows ∙ ap (λ v. listingRows v t q ts te old″) answer, scratch ∙ ap (λ v. listingScratch v before) answer)
+    (n .number, n .place, n .count, sum ∙ ap listingSum answer, columns ∙ ap (λ v. listingColumns v t q ts te old) answer, scratch ∙ ap (λ v. listingScratch v before) answer)
 
 pub list-told : (o : Outcome) (old : List ℕ) {v a : Printed} {n : Numbers} {output : List ℕ}
     → v ≡ a → output ≡ listOutput v o old → n ≡ numbers (printedReport v)

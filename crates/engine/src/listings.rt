@@ -2,7 +2,7 @@
 ghost use mathlib.Core.Path.{_≡_};
 ghost use lib.ListN.{length};
 ghost use Rattle.rings.specs.Table.{tableOf};
-ghost use Rattle.listing.specs.ListingCall.{listingAnswer, listingStarts, listingEnds, listingRows, listingScratch, listingReport, listingSum};
+ghost use Rattle.listing.specs.ListingCall.{columnsOf, placesOf, listingAnswer, listingColumns, listingScratch, listingReport, listingSum};
 ghost use Rattle.rings.specs.Ring.{query};
 ghost use Rattle.engine.specs.Numbers.{numbers};
 use crate::numbers::Numbers;
@@ -51,14 +51,13 @@ pub extern "C" fn rumbleog_listing(
 ) -> u32
     ensures { λ r. ⌜ (
         let t = tableOf (now (days .entry)) (now (first .entry)) (now (second .entry)) in
-        let a = listingAnswer t (query k) ts te (length (now (start .entry))) (length (now (end .entry))) (length (now (rows .entry))) (length (now (scratch .entry))) in
+        let old = columnsOf (now (start .entry)) (now (end .entry)) (now (rows .entry)) in
+        let a = listingAnswer t (query k) ts te (placesOf old) (length (now (scratch .entry))) in
         (r ≡ listingReport a .number)
         × (now (place .exit) ≡ listingReport a .place)
         × (now (count .exit) ≡ listingReport a .count)
         × (now (sum .exit) ≡ listingSum a)
-        × (now (start .exit) ≡ listingStarts a t (query k) ts te (now (start .entry)))
-        × (now (end .exit) ≡ listingEnds a t (query k) ts te (now (end .entry)))
-        × (now (rows .exit) ≡ listingRows a t (query k) ts te (now (rows .entry)))
+        × (columnsOf (now (start .exit)) (now (end .exit)) (now (rows .exit)) ≡ listingColumns a t (query k) ts te old)
         × (now (scratch .exit) ≡ listingScratch a (now (scratch .entry)))) ⌝ }
 {
     let answer = list_rings(

@@ -26,10 +26,10 @@ use Rattle.rings.specs.declared.refusal.Verdict.{Verdict}
 use Rattle.rings.specs.declared.refusal.Verdict.the-variants.{Accepted, Refused}
 use Rattle.rings.proofs.CheckLaws.{accepted-right, when-accepted}
 use Rattle.listing.specs.Listing.{ListedRing, listing}
-use Rattle.listing.specs.ListingCall.{listingChecks, summed, listingAnswer, ringColumn, listingStarts, listingEnds, listingRows}
+use Rattle.listing.specs.ListingCall.{Columns, each, withEntries, listingChecks, summed, listingAnswer, listingColumns}
 use Rattle.listing.specs.Program.{Outcome, found, stopped, stoppedBy, fromList, listed}
 use Rattle.listing.specs.ProgramText.{refusedOf, listAnswer, listOutput}
-use Rattle.listing.specs.ProgramSteps.{entriesAt, Rising}
+use Rattle.listing.specs.ProgramSteps.{entriesAt, Rising, Prints}
 use Rattle.listing.specs.declared.Listed.{Listed}
 use Rattle.listing.specs.declared.Printed.{Printed}
 use Rattle.listing.proofs.CountLaws.{listing-is}
@@ -110,40 +110,40 @@ low-room : (n : ℕ) (b : Bool) → Low n (NoRoom when b)
 unfolding placeOf
 low-room n b = low-when n NoRoom b (omega arith)
 
-low-checks : (t : Table) (q : Query) (lo hi a b c d : ℕ) → Low (size t) (listingChecks t q lo hi a b c d)
+low-checks : (t : Table) (q : Query) (lo hi : ℕ) (places : Columns ℕ) (scratch : ℕ) → Low (size t) (listingChecks t q lo hi places scratch)
 unfolding listingChecks
-low-checks t q lo hi a b c d =
+low-checks t q lo hi places scratch =
     let n = size t in
     low-then n _ _ (low-table t)
     (low-then n _ _ (low-query n q)
     (low-then n _ _ (low-range n lo hi)
-    (low-then n _ _ (low-lengths n (no (eqb b a and eqb c a)))
-    (low-then n _ _ (low-scratch n n d) (low-room n (ltb a (length (listing t q lo hi))))))))
+    (low-then n _ _ (low-lengths n (no (eqb (places .ends) (places .starts) and eqb (places .rows) (places .starts))))
+    (low-then n _ _ (low-scratch n n scratch) (low-room n (ltb (places .starts) (length (listing t q lo hi))))))))
 
-pub refused-place : (t : Table) (q : Query) (lo hi a b c d : ℕ) {r : Refusal} → listingAnswer t q lo hi a b c d ≡ Listed.Refused r → placeOf r ≤ size t
+pub refused-place : (t : Table) (q : Query) (lo hi : ℕ) (places : Columns ℕ) (scratch : ℕ) {r : Refusal} → listingAnswer t q lo hi places scratch ≡ Listed.Refused r → placeOf r ≤ size t
 unfolding listingAnswer
-refused-place t q lo hi a b c d {r} e =
-    low-checks t q lo hi a b c d .low r (summed-refused (listingChecks t q lo hi a b c d) (listing t q lo hi) e)
+refused-place t q lo hi places scratch {r} e =
+    low-checks t q lo hi places scratch .low r (summed-refused (listingChecks t q lo hi places scratch) (listing t q lo hi) e)
 
 -- ---- a listing that is answered
 
-rings-room : (t : Table) (q : Query) (lo hi a b c d : ℕ) → listingChecks t q lo hi a b c d ≡ Accepted → length (listing t q lo hi) ≤ a
+rings-room : (t : Table) (q : Query) (lo hi : ℕ) (places : Columns ℕ) (scratch : ℕ) → listingChecks t q lo hi places scratch ≡ Accepted → length (listing t q lo hi) ≤ places .starts
 unfolding listingChecks
-rings-room t q lo hi a b c d e =
+rings-room t q lo hi places scratch e =
     let e₁ = accepted-right (tableCheck t) _ e in
     let e₂ = accepted-right (queryCheck q) _ e₁ in
     let e₃ = accepted-right (rangeCheck lo hi) _ e₂ in
-    let e₄ = accepted-right (BadLengths when no (eqb b a and eqb c a)) _ e₃ in
-    let e₅ = accepted-right (scratchCheck (size t) d) _ e₄ in
-    ltb-false a (length (listing t q lo hi)) (when-accepted NoRoom (ltb a (length (listing t q lo hi))) e₅)
+    let e₄ = accepted-right (BadLengths when no (eqb (places .ends) (places .starts) and eqb (places .rows) (places .starts))) _ e₃ in
+    let e₅ = accepted-right (scratchCheck (size t) scratch) _ e₄ in
+    ltb-false (places .starts) (length (listing t q lo hi)) (when-accepted NoRoom (ltb (places .starts) (length (listing t q lo hi))) e₅)
 
 -- a column has a place for each entry that was written
-column-long : (part : ListedRing → ℕ) (ls : List ListedRing) (old : List ℕ) {now : List ℕ} {n : ℕ} → now ≡ over (map part ls) old → n ≡ length ls → n ≤ length now
+column-long : (part : ListedRing → ℕ) (ls : List ListedRing) (old : List ℕ) {n : ℕ} → n ≡ length ls → n ≤ length (over (map part ls) old)
 unfolding over
-column-long part ls old {now} e c =
-    omega (arith, ap length e, length-append (map part ls) (drop (length (map part ls)) old), length-map ls part)
+column-long part ls old c =
+    omega (arith, length-append (map part ls) (drop (length (map part ls)) old), length-map ls part)
 
-module _ (t : Table) (q : Query) (lo hi : ℕ) {r : Listed} (is : r ≡ listingAnswer t q lo hi 2048 2048 2048 12288) where
+module _ (t : Table) (q : Query) (lo hi : ℕ) {r : Listed} (is : r ≡ listingAnswer t q lo hi (each 2048) 12288) where
   pub listed-rings : {n sum : ℕ} → r ≡ Listed.Rings n sum → listed t q lo hi ≡ found (listing t q lo hi)
   unfolding listed fromList
   listed-rings e = ap (λ (x : Listed). fromList x (listing t q lo hi)) (sym is ∙ e)
@@ -152,49 +152,45 @@ module _ (t : Table) (q : Query) (lo hi : ℕ) {r : Listed} (is : r ≡ listingA
   unfolding listed fromList
   listed-none e = ap (λ (x : Listed). fromList x (listing t q lo hi)) (sym is ∙ e)
 
-  behind : {n sum : ℕ} → r ≡ Listed.Rings n sum → Summed (listingChecks t q lo hi 2048 2048 2048 12288) (listing t q lo hi) n
+  behind : {n sum : ℕ} → r ≡ Listed.Rings n sum → Summed (listingChecks t q lo hi (each 2048) 12288) (listing t q lo hi) n
   unfolding listingAnswer
-  behind e = summed-rings (listingChecks t q lo hi 2048 2048 2048 12288) (listing t q lo hi) (sym is ∙ e)
+  behind e = summed-rings (listingChecks t q lo hi (each 2048) 12288) (listing t q lo hi) (sym is ∙ e)
 
   pub rings-count : {n sum : ℕ} → r ≡ Listed.Rings n sum → n ≡ length (listing t q lo hi)
   rings-count e = behind e .counts
 
   pub rings-most : {n sum : ℕ} → r ≡ Listed.Rings n sum → n ≤ 2048
-  rings-most e = omega (arith, behind e .counts, rings-room t q lo hi 2048 2048 2048 12288 (behind e .accepted))
+  rings-most e = omega (arith, behind e .counts, rings-room t q lo hi (each 2048) 12288 (behind e .accepted))
 
-  module _ (old₁ old₂ old₃ : List ℕ) {starts ends rows : List ℕ} (a : starts ≡ listingStarts r t q lo hi old₁) (b : ends ≡ listingEnds r t q lo hi old₂) (c : rows ≡ listingRows r t q lo hi old₃) where
-    column : {n sum : ℕ} (part : ListedRing → ℕ) (old : List ℕ) {now : List ℕ} → r ≡ Listed.Rings n sum → now ≡ ringColumn r part (listing t q lo hi) old → now ≡ over (map part (listing t q lo hi)) old
-    unfolding ringColumn
-    column part old e w = w ∙ ap (λ (x : Listed). ringColumn x part (listing t q lo hi) old) e
+  module _ (old : Columns (List ℕ)) {c : Columns (List ℕ)} (w : c ≡ listingColumns r t q lo hi old) {n sum : ℕ} (e : r ≡ Listed.Rings n sum) where
+    columns : c ≡ withEntries (listing t q lo hi) old
+    unfolding listingColumns
+    columns = w ∙ ap (λ (x : Listed). listingColumns x t q lo hi old) e
 
-    pub rings-are : {n sum : ℕ} → r ≡ Listed.Rings n sum → entriesAt starts ends rows n ≡ listing t q lo hi
-    unfolding listingStarts listingEnds listingRows
-    rings-are e =
-        entries-are (listing t q lo hi) old₁ old₂ old₃ (column (λ x. x .start) old₁ e a) (column (λ x. x .end) old₂ e b) (column (λ x. x .rows) old₃ e c) (rings-count e)
+    pub rings-are : entriesAt c n ≡ listing t q lo hi
+    rings-are = entries-are (listing t q lo hi) old columns (rings-count e)
 
-    pub rings-rise : {n sum : ℕ} → r ≡ Listed.Rings n sum → Rising starts ends rows n
-    unfolding listingStarts listingEnds listingRows
-    rings-rise {n} e =
-        let x : starts ≡ over (map (λ x. x .start) (listing t q lo hi)) old₁ = column (λ x. x .start) old₁ e a in
-        let y : ends ≡ over (map (λ x. x .end) (listing t q lo hi)) old₂ = column (λ x. x .end) old₂ e b in
-        let z : rows ≡ over (map (λ x. x .rows) (listing t q lo hi)) old₃ = column (λ x. x .rows) old₃ e c in
+    pub rings-rise : Rising c n
+    rings-rise =
+        let list = listing t q lo hi in
+        let long : (part : ListedRing → ℕ) (x : List ℕ) → n ≤ length (over (map part list) x) = λ part x. column-long part list x (rings-count e) in
         record {
           most = rings-most e;
-          in-starts = column-long (λ x. x .start) (listing t q lo hi) old₁ x (rings-count e);
-          in-ends = column-long (λ x. x .end) (listing t q lo hi) old₂ y (rings-count e);
-          in-rows = column-long (λ x. x .rows) (listing t q lo hi) old₃ z (rings-count e);
-          order = λ i h. place-order (listing t q lo hi) old₁ old₂ old₃ x y z (λ l m. listing-is t q lo hi .each l m .order) i (omega (arith, rings-count e));
+          in-starts = omega (arith, long (λ x. x .start) (old .starts), ap (λ (x : Columns (List ℕ)). length (x .starts)) columns);
+          in-ends = omega (arith, long (λ x. x .end) (old .ends), ap (λ (x : Columns (List ℕ)). length (x .ends)) columns);
+          in-rows = omega (arith, long (λ x. x .rows) (old .rows), ap (λ (x : Columns (List ℕ)). length (x .rows)) columns);
+          order = λ i h. place-order list old columns (λ l m. listing-is t q lo hi .each l m .order) i (omega (arith, rings-count e));
         }
 
 -- ---- the text
 
-pub answer-none : (o : Outcome) (output : List ℕ) {n line : ℕ} → o ≡ stopped n line → (Printed.Refused n line ≡ listAnswer o (length output)) × (output ≡ listOutput (Printed.Refused n line) o output)
+pub answer-none : (o : Outcome) (output : List ℕ) {n line : ℕ} → o ≡ stopped n line → Prints o (Printed.Refused n line) output output
 unfolding listAnswer listOutput
-answer-none o output e = (rw e, refl)
+answer-none o output e = record { answer = rw e; output = refl }
 
-pub answer-refused : (o : Outcome) (output : List ℕ) (f : Refusal) {a : Printed} → o ≡ stoppedBy f → a ≡ refusedOf f → (a ≡ listAnswer o (length output)) × (output ≡ listOutput a o output)
+pub answer-refused : (o : Outcome) (output : List ℕ) (f : Refusal) {a : Printed} → o ≡ stoppedBy f → a ≡ refusedOf f → Prints o a output output
 unfolding stoppedBy refusedOf listAnswer listOutput
-answer-refused o output f e h = rw (h, e) (refl, refl)
+answer-refused o output f e h = rw (h, e) (record { answer = refl; output = refl })
 
-pub answer-as : {o o′ : Outcome} (output : List ℕ) {a : Printed} {now : List ℕ} → o ≡ o′ → (a ≡ listAnswer o′ (length output)) × (now ≡ listOutput a o′ output) → (a ≡ listAnswer o (length output)) × (now ≡ listOutput a o output)
-answer-as output {a} {now} e h = (h .0 ∙ ap (λ (x : Outcome). listAnswer x (length output)) (sym e), h .1 ∙ ap (λ (x : Outcome). listOutput a x output) (sym e))
+pub answer-as : {o o′ : Outcome} {a : Printed} {old now : List ℕ} → o ≡ o′ → Prints o′ a old now → Prints o a old now
+answer-as {a = a} {old} {now} e P = subst (λ (x : Outcome). Prints x a old now) (sym e) P

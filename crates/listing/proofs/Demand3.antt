@@ -8,7 +8,7 @@ use native.Mathlib.Omega.{arith}
 use mathlib.Core.Path.{_≡_, refl, sym, _∙_, ap, subst}
 use mathlib.Core.Logic.{_⊎_, ⊎-elim, _↔_}
 use mathlib.Core.Bool.{Bool, true}
-use mathlib.Core.List.{List, map}
+use mathlib.Core.List.{List}
 use lib.ListN.{length, take}
 use lib.Dec.{ltb, eqb}
 use borrow.Author.Tests.{lt-ltb, le-ltb, ltb-true, ltb-false, eq-eqb}
@@ -18,7 +18,7 @@ use Rattle.rings.specs.Ring.{ring}
 use Rattle.rings.specs.CoreTimes.{never}
 use Rattle.rings.specs.Windows.{Archive}
 use Rattle.rings.specs.Checks.{_when_, _then_, queryCheck, rangeCheck, scratchCheck}
-use Rattle.rings.specs.Buffers.{marks, over}
+use Rattle.rings.specs.Buffers.{marks}
 use Rattle.rings.specs.TableCheck.{tableCheck}
 use Rattle.rings.specs.MinimalWindowsCall.{minimalAnswer, minimalRows, minimalStarts, minimalEnds}
 use Rattle.rings.specs.RecallCall.{columnsOf, recallAnswer, recallMarks}
@@ -35,18 +35,16 @@ use Rattle.listing.specs.Tight.{nonempty}
 use Rattle.listing.specs.Listing.{ListedRing, listing, rowSum}
 use Rattle.listing.specs.Distinct.{distinctRings}
 use Rattle.listing.specs.EachRing.{IsListing, ListedOnce, AreRings, ringSum}
-use Rattle.listing.specs.ListingCall.{listingChecks, summed, listingAnswer, ringColumn, listingStarts, listingEnds, listingRows}
+use Rattle.listing.specs.ListingCall.{Columns, OneLength, each, placesOf, withEntries, listingChecks, summed, listingAnswer, listingColumns}
 use Rattle.listing.specs.declared.Listed.{Listed}
 use Rattle.listing.proofs.CountLaws.{distinct-listed, distinct-sum, distinct-are, rings-counted, listing-is, ring-listed}
 
--- of a call of Listing with places enough: the answer, and the three columns, which held starts₀, ends₀ and rows₀
-pub record ListingLeft (t : Table) (q : Query) (lo hi : ℕ) (rings : List (List Bool)) (answer : Listed) (starts₀ ends₀ rows₀ starts ends rows : List ℕ) : Type 0 where
+-- of a call of Listing with places enough: the answer, and the columns, which held what is in old
+pub record ListingLeft (t : Table) (q : Query) (lo hi : ℕ) (rings : List (List Bool)) (answer : Listed) (old new : Columns (List ℕ)) : Type 0 where
   -- the count is that of the distinct rings, the sum that of their rows
   pub answer-so : answer ≡ Listed.Rings (length rings) (ringSum rings)
   -- the columns hold the listing, and behind it what they held
-  pub starts-so : starts ≡ over (map (λ (x : ListedRing). x .start) (listing t q lo hi)) starts₀
-  pub ends-so : ends ≡ over (map (λ (x : ListedRing). x .end) (listing t q lo hi)) ends₀
-  pub rows-so : rows ≡ over (map (λ (x : ListedRing). x .rows) (listing t q lo hi)) rows₀
+  pub columns-so : new ≡ withEntries (listing t q lo hi) old
   -- which has the tightest window of each of its own rings with the number of its rows, by start, then end, and nothing else
   pub is-listing : IsListing t q lo hi (listing t q lo hi)
   -- and as many entries as there are rings
@@ -58,10 +56,10 @@ pub record Demand3 (t : Table) (q : Query) (lo hi : ℕ) : Type 0 where
   pub are-rings : AreRings t q lo hi rings
   pub as-long : (ms : List (List Bool)) → AreRings t q lo hi ms → length ms ≡ length rings
   -- Listing with places in each column: 10 exactly when the rings are more
-  pub full : (places scratch : ℕ) → scratchCheck (size t) scratch ≡ Accepted → (listingAnswer t q lo hi places places places scratch ≡ Listed.Refused NoRoom) ↔ (places < length rings)
+  pub full : (places scratch : ℕ) → scratchCheck (size t) scratch ≡ Accepted → (listingAnswer t q lo hi (each places) scratch ≡ Listed.Refused NoRoom) ↔ (places < length rings)
   -- else the whole listing
-  pub listed : (scratch : ℕ) (starts ends rows : List ℕ) → scratchCheck (size t) scratch ≡ Accepted → length ends ≡ length starts → length rows ≡ length starts → length rings ≤ length starts
-      → (let answer = listingAnswer t q lo hi (length starts) (length ends) (length rows) scratch in ListingLeft t q lo hi rings answer starts ends rows (listingStarts answer t q lo hi starts) (listingEnds answer t q lo hi ends) (listingRows answer t q lo hi rows))
+  pub listed : (scratch : ℕ) (old : Columns (List ℕ)) → scratchCheck (size t) scratch ≡ Accepted → OneLength old → length rings ≤ length (old .starts)
+      → (let answer = listingAnswer t q lo hi (placesOf old) scratch in ListingLeft t q lo hi rings answer old (listingColumns answer t q lo hi old))
   -- in which the ring of each window, if not empty, stands once and only once, by its tightest window, with the number of its rows
   pub each-ring : (s e : ℕ) → lo ≤ s → e ≤ hi → nonempty (ring t q s e) ≡ true → ListedOnce t q lo hi s e
   -- what Minimal windows writes, cut at its count, holds exactly the query's minimal windows, each once, by row, then start
@@ -85,43 +83,55 @@ module _ (t : Table) (q : Query) (lo hi : ℕ) (table : tableCheck t ≡ Accepte
   list = listing t q lo hi
 
   -- with equal columns and scratch enough only the places are left to judge
-  checks : (places ends rows scratch : ℕ) → ends ≡ places → rows ≡ places → scratchCheck (size t) scratch ≡ Accepted → listingChecks t q lo hi places ends rows scratch ≡ NoRoom when ltb places (length list)
+  checks : (places : Columns ℕ) (scratch : ℕ) → places .ends ≡ places .starts → places .rows ≡ places .starts → scratchCheck (size t) scratch ≡ Accepted
+      → listingChecks t q lo hi places scratch ≡ NoRoom when ltb (places .starts) (length list)
   unfolding listingChecks
-  checks places ends rows scratch ee er es =
+  checks places scratch ee er es =
       then-accepted (queryCheck q then (rangeCheck lo hi then (lengths then (scratchCheck (size t) scratch then room)))) table
       ∙ (then-accepted (rangeCheck lo hi then (lengths then (scratchCheck (size t) scratch then room))) query
       ∙ (then-accepted (lengths then (scratchCheck (size t) scratch then room)) range
-      ∙ (then-accepted (scratchCheck (size t) scratch then room) (passes BadLengths (and-i (eq-eqb ends places ee) (eq-eqb rows places er)))
+      ∙ (then-accepted (scratchCheck (size t) scratch then room) (passes BadLengths (and-i (eq-eqb (places .ends) (places .starts) ee) (eq-eqb (places .rows) (places .starts) er)))
       ∙ then-accepted room es)))
     where
       lengths : Verdict
-      lengths = BadLengths when no (eqb ends places and eqb rows places)
+      lengths = BadLengths when no (eqb (places .ends) (places .starts) and eqb (places .rows) (places .starts))
 
       room : Verdict
-      room = NoRoom when ltb places (length list)
+      room = NoRoom when ltb (places .starts) (length list)
 
-  refused : (places scratch : ℕ) → scratchCheck (size t) scratch ≡ Accepted → places < length list → listingAnswer t q lo hi places places places scratch ≡ Listed.Refused NoRoom
+  refused : (places scratch : ℕ) → scratchCheck (size t) scratch ≡ Accepted → places < length list → listingAnswer t q lo hi (each places) scratch ≡ Listed.Refused NoRoom
   unfolding listingAnswer summed _when_
-  refused places scratch es h = ap (λ (v : Verdict). summed v list) (checks places places places scratch refl refl es ∙ ap (λ (b : Bool). NoRoom when b) (lt-ltb places (length list) h))
+  refused places scratch es h =
+      ap (λ (v : Verdict). summed v list) (checks (each places) scratch refl refl es ∙ ap (λ (b : Bool). NoRoom when b) (lt-ltb places (length list) h))
 
-  found : (places ends rows scratch : ℕ) → ends ≡ places → rows ≡ places → scratchCheck (size t) scratch ≡ Accepted → length list ≤ places → listingAnswer t q lo hi places ends rows scratch ≡ Listed.Rings (length list) (rowSum list)
+  found : (places : Columns ℕ) (scratch : ℕ) → places .ends ≡ places .starts → places .rows ≡ places .starts → scratchCheck (size t) scratch ≡ Accepted → length list ≤ places .starts
+      → listingAnswer t q lo hi places scratch ≡ Listed.Rings (length list) (rowSum list)
   unfolding listingAnswer summed _when_
-  found places ends rows scratch ee er es h = ap (λ (v : Verdict). summed v list) (checks places ends rows scratch ee er es ∙ ap (λ (b : Bool). NoRoom when b) (le-ltb places (length list) h))
+  found places scratch ee er es h =
+      ap (λ (v : Verdict). summed v list) (checks places scratch ee er es ∙ ap (λ (b : Bool). NoRoom when b) (le-ltb (places .starts) (length list) h))
 
-  only-full : (places scratch : ℕ) → scratchCheck (size t) scratch ≡ Accepted → listingAnswer t q lo hi places places places scratch ≡ Listed.Refused NoRoom → places < length list
+  only-full : (places scratch : ℕ) → scratchCheck (size t) scratch ≡ Accepted → listingAnswer t q lo hi (each places) scratch ≡ Listed.Refused NoRoom → places < length list
   unfolding isRings
-  only-full places scratch es h = ⊎-elim (λ y. ltb-true places (length list) y) (λ y. absurd (subst isRings (sym (found places places places scratch refl refl es (ltb-false places (length list) y)) ∙ h) tt)) (look (ltb places (length list)))
+  only-full places scratch es h =
+      ⊎-elim (λ y. ltb-true places (length list) y) (λ y. absurd (subst isRings (sym (found (each places) scratch refl refl es (ltb-false places (length list) y)) ∙ h) tt))
+      (look (ltb places (length list)))
 
   pub demand-3 : Demand3 t q lo hi
-  unfolding listingStarts listingEnds listingRows ringColumn
+  unfolding listingColumns
   demand-3 =
       record {
         rings = distinctRings t q lo hi;
         are-rings = distinct-are t q lo hi;
         as-long = λ ms A. rings-counted t q lo hi fits ms A ∙ sym many;
         full = λ places scratch es. (λ h. subst (λ (n : ℕ). places < n) (sym many) (only-full places scratch es h), λ h. refused places scratch es (subst (λ (n : ℕ). places < n) many h));
-        listed = λ scratch starts ends rows es ee er h. let e = found (length starts) (length ends) (length rows) scratch ee er es (subst (λ (n : ℕ). n ≤ length starts) many h) in
-            record { answer-so = e ∙ (λ i. Listed.Rings (sym many i) (sym (distinct-sum t q lo hi fits) i)); starts-so = ap (λ (a : Listed). listingStarts a t q lo hi starts) e; ends-so = ap (λ (a : Listed). listingEnds a t q lo hi ends) e; rows-so = ap (λ (a : Listed). listingRows a t q lo hi rows) e; is-listing = listing-is t q lo hi; as-many = sym many };
+        listed = λ scratch old es alike h.
+            let e = found (placesOf old) scratch (alike .ends) (alike .rows) es (subst (λ (n : ℕ). n ≤ length (old .starts)) many h) in
+            record {
+              answer-so = e ∙ (λ i. Listed.Rings (sym many i) (sym (distinct-sum t q lo hi fits) i));
+              columns-so = ap (λ (a : Listed). listingColumns a t q lo hi old) e;
+              is-listing = listing-is t q lo hi;
+              as-many = sym many;
+            };
         each-ring = ring-listed t q lo hi fits;
         written = λ rowPlaces startPlaces endPlaces scratch count rows starts ends h. archive-written t q lo hi rows starts ends rowPlaces startPlaces endPlaces scratch h;
         recalls = λ rows starts ends old s e A l from order to.

@@ -2,7 +2,12 @@ pub mod TightLaws
 pub mod CountLaws
 pub mod ReachedLaws
 pub mod StartLaws
+pub mod ColumnLaws
 pub mod ProgressLaws
+pub mod EndsLaws
+pub mod RangeLaws
+pub mod PassLaws
+pub mod FoundLaws
 pub mod ReadingLaws
 pub mod InputLaws
 pub mod PrintingLaws

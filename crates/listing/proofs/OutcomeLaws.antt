@@ -26,7 +26,7 @@ use Rattle.rings.specs.declared.Query.{Query}
 use Rattle.rings.specs.declared.refusal.Refusal.{Refusal}
 use Rattle.rings.specs.declared.refusal.Refusal.the-variants.{UnequalColumns, TooManyRows, BadDay, BadAccounts, OutOfOrder, BadK, BadWindow, BadLengths, SmallScratch, NoRoom, BadEntry}
 use Rattle.listing.specs.Listing.{ListedRing, listing}
-use Rattle.listing.specs.ListingCall.{listingAnswer}
+use Rattle.listing.specs.ListingCall.{each, listingAnswer}
 use Rattle.listing.specs.Program.{Outcome, found, stopped, inputLine, stoppedBy, unlessRefused, tableOf, fromList, listed, fromRows, badQuery, fromQuery, unlessLong, outcome}
 use Rattle.listing.specs.ProgramText.{lineOf, listText, outcomeText, fitted, listAnswer, listOutput}
 use Rattle.listing.specs.declared.Listed.{Listed}
@@ -83,12 +83,12 @@ line-most SmallScratch = omega arith
 line-most NoRoom = omega arith
 line-most (BadEntry i) = omega arith
 
-by-list : (t : Table) (q : Query) (lo hi : ℕ) (a : Listed) → listingAnswer t q lo hi 2048 2048 2048 12288 ≡ a → size t ≤ mostInput → Bounded (fromList a (listing t q lo hi))
+by-list : (t : Table) (q : Query) (lo hi : ℕ) (a : Listed) → listingAnswer t q lo hi (each 2048) 12288 ≡ a → size t ≤ mostInput → Bounded (fromList a (listing t q lo hi))
 unfolding fromList stoppedBy ringsIn numberIn lineIn
 by-list t q lo hi (Listed.Rings n sum) e h =
     record { rings = omega (arith, rings-count t q lo hi (sym e) refl, rings-most t q lo hi (sym e) refl); number = omega arith; line = omega arith }
 by-list t q lo hi (Listed.Refused r) e h =
-    stops (numberOf r) (inputLine r) (number-most r) (omega (arith, line-most r, refused-place t q lo hi 2048 2048 2048 12288 e))
+    stops (numberOf r) (inputLine r) (number-most r) (omega (arith, line-most r, refused-place t q lo hi (each 2048) 12288 e))
 
 rows-most : (text : List ℕ) → size (tableOf text) ≤ length text
 unfolding tableOf daysOf
@@ -97,7 +97,7 @@ rows-most text = omega (arith, lines-most text, length-map (linesOf text) (λ (l
 by-rows : (text : List ℕ) (q : Query) (lo hi : ℕ) (r : TableRead) → r ≡ tableReadOf text 1024 1024 1024 → length text ≤ mostInput → Bounded (fromRows r (tableOf text) q lo hi)
 unfolding fromRows unlessRefused listed
 by-rows text q lo hi (TableRead.Rows n) e h =
-    by-list (tableOf text) q lo hi (listingAnswer (tableOf text) q lo hi 2048 2048 2048 12288) refl (omega (arith, rows-most text))
+    by-list (tableOf text) q lo hi (listingAnswer (tableOf text) q lo hi (each 2048) 12288) refl (omega (arith, rows-most text))
 by-rows text q lo hi (TableRead.LineLength n) e h = stops _ _ (omega arith) (omega (arith, reader-most n, place-lines text 1024 1024 1024 e))
 by-rows text q lo hi (TableRead.BrokenField n) e h = stops _ _ (omega arith) (omega (arith, reader-most n, place-lines text 1024 1024 1024 e))
 by-rows text q lo hi (TableRead.LargeNumber n) e h = stops _ _ (omega arith) (omega (arith, reader-most n, place-lines text 1024 1024 1024 e))

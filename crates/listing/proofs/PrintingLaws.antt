@@ -23,9 +23,10 @@ use Rattle.rings.specs.Buffers.{over}
 use Rattle.rings.specs.Refusals.{numberOf}
 use Rattle.rings.proofs.WordLaws.{length-run}
 use Rattle.listing.specs.Listing.{ListedRing, span}
+use Rattle.listing.specs.ListingCall.{Columns, withEntries}
 use Rattle.listing.specs.Program.{found, inputLine}
 use Rattle.listing.specs.ProgramText.{lineOf, listText, outcomeText, refusedOf, fitted, listAnswer, listOutput}
-use Rattle.listing.specs.ProgramSteps.{entryAt, entriesAt, ringLines}
+use Rattle.listing.specs.ProgramSteps.{entryAt, entriesAt, ringLines, Prints}
 use Rattle.listing.specs.declared.Printed.{Printed}
 
 -- ---- a line an entry
@@ -50,76 +51,76 @@ lines-length (x ∷ ls) =
     length-append (listingLine (x .start) (x .end) (span x) (x .rows)) (ringLines ls)
     ∙ omega (arith, line-length (x .start) (x .end) (span x) (x .rows), lines-length ls)
 
-module _ (starts ends rows : List ℕ) where
-  entries-length : (n : ℕ) → length (entriesAt starts ends rows n) ≡ n
+module _ (c : Columns (List ℕ)) where
+  entries-length : (n : ℕ) → length (entriesAt c n) ≡ n
   unfolding entriesAt
-  entries-length n = length-run (entryAt starts ends rows) 0 n
+  entries-length n = length-run (entryAt c) 0 n
 
-  lines-next : (i : ℕ) → ringLines (entriesAt starts ends rows (i + 1)) ≡ ringLines (entriesAt starts ends rows i) ++ line (entryAt starts ends rows i)
+  lines-next : (i : ℕ) → ringLines (entriesAt c (i + 1)) ≡ ringLines (entriesAt c i) ++ line (entryAt c i)
   unfolding entriesAt
   lines-next i =
-      ap (λ (k : ℕ). ringLines (run (entryAt starts ends rows) 0 k)) (add-one i)
-      ∙ ap ringLines (run-more (entryAt starts ends rows) 0 i ∙ ap (λ (k : ℕ). run (entryAt starts ends rows) 0 i ++ entryAt starts ends rows k ∷ []) (zero-add i))
-      ∙ lines-more (run (entryAt starts ends rows) 0 i) (entryAt starts ends rows i)
+      ap (λ (k : ℕ). ringLines (run (entryAt c) 0 k)) (add-one i)
+      ∙ ap ringLines (run-more (entryAt c) 0 i ∙ ap (λ (k : ℕ). run (entryAt c) 0 i ++ entryAt c k ∷ []) (zero-add i))
+      ∙ lines-more (run (entryAt c) 0 i) (entryAt c i)
 
 -- the first i lines stand behind the header
-pub record Printing (starts ends rows : List ℕ) (old now : List ℕ) (at i : ℕ) : Type 0 where
+pub record Printing (c : Columns (List ℕ)) (old now : List ℕ) (at i : ℕ) : Type 0 where
   pub next : at ≡ 22 * (i + 1)
   pub long : length now ≡ length old
-  pub is : now ≡ pasted old 22 (ringLines (entriesAt starts ends rows i))
+  pub is : now ≡ pasted old 22 (ringLines (entriesAt c i))
 
 pub put-wrote : (out : List ℕ) (at : ℕ) (bytes : List ℕ) {r : Put} {now : List ℕ} → at + length bytes ≤ length out → r ≡ putOf out at bytes → now ≡ written r out at bytes → now ≡ pasted out at bytes
 unfolding putOf
 put-wrote out at bytes {r} h e q =
     q ∙ ap (λ (p : Put). written p out at bytes) (e ∙ pick-true _ _ _ (le-leb (at + length bytes) (length out) h))
 
-module _ (starts ends rows : List ℕ) where
-  pub print-start : (old : List ℕ) → Printing starts ends rows old old 22 0
+module _ (c : Columns (List ℕ)) where
+  pub print-start : (old : List ℕ) → Printing c old old 22 0
   unfolding entriesAt run ringLines entryLines pasted
   print-start old = record { next = refl; long = refl; is = sym (ap (λ (l : List ℕ). l ++ drop 22 old) (append-nil (take 22 old)) ∙ take-append-drop 22 old) }
 
-  pub print-next : {old now now′ : List ℕ} {at i n : ℕ} {r : Put} → Printing starts ends rows old now at i → i < n → 22 * (n + 1) ≤ length old
-      → r ≡ putOf now at (line (entryAt starts ends rows i)) → now′ ≡ written r now at (line (entryAt starts ends rows i))
-      → Printing starts ends rows old now′ (at + 22) (i + 1)
+  pub print-next : {old now now′ : List ℕ} {at i n : ℕ} {r : Put} → Printing c old now at i → i < n → 22 * (n + 1) ≤ length old
+      → r ≡ putOf now at (line (entryAt c i)) → now′ ≡ written r now at (line (entryAt c i))
+      → Printing c old now′ (at + 22) (i + 1)
   print-next {old} {now} {now′} {at} {i} {n} p h room e q =
-      let x = entryAt starts ends rows i in
-      let es = entriesAt starts ends rows i in
+      let x = entryAt c i in
+      let es = entriesAt c i in
       let one : length (line x) ≡ 22 = line-length (x .start) (x .end) (span x) (x .rows) in
-      let all : length (ringLines es) ≡ 22 * i = lines-length es ∙ ap (λ (k : ℕ). 22 * k) (entries-length starts ends rows i) in
+      let all : length (ringLines es) ≡ 22 * i = lines-length es ∙ ap (λ (k : ℕ). 22 * k) (entries-length c i) in
       let fits : at + length (line x) ≤ length now = omega (arith, p .next, p .long) in
       let w : now′ ≡ pasted now at (line x) = put-wrote now at (line x) fits e q in
       let place : at ≡ 22 + length (ringLines es) = omega (arith, p .next) in
       record {
         next = omega (arith, p .next);
         long = ap length w ∙ pasted-length now at (line x) fits ∙ p .long;
-        is = w ∙ ap (λ (b : List ℕ). pasted b at (line x)) (p .is) ∙ ap (λ (k : ℕ). pasted (pasted old 22 (ringLines es)) k (line x)) place ∙ pasted-pasted old 22 (ringLines es) (line x) (omega arith) ∙ ap (pasted old 22) (sym (lines-next starts ends rows i));
+        is = w ∙ ap (λ (b : List ℕ). pasted b at (line x)) (p .is) ∙ ap (λ (k : ℕ). pasted (pasted old 22 (ringLines es)) k (line x)) place ∙ pasted-pasted old 22 (ringLines es) (line x) (omega arith) ∙ ap (pasted old 22) (sym (lines-next c i));
       }
 
-  pub print-end : {old now : List ℕ} {at i n : ℕ} → Printing starts ends rows old now at i → i ≤ n → n ≤ i → now ≡ pasted old 22 (ringLines (entriesAt starts ends rows n))
-  print-end {old} {now} {at} {i} {n} p a b = let e : i ≡ n = omega arith in subst (λ (k : ℕ). now ≡ pasted old 22 (ringLines (entriesAt starts ends rows k))) e (p .is)
+  pub print-end : {old now : List ℕ} {at i n : ℕ} → Printing c old now at i → i ≤ n → n ≤ i → now ≡ pasted old 22 (ringLines (entriesAt c n))
+  print-end {old} {now} {at} {i} {n} p a b = let e : i ≡ n = omega arith in subst (λ (k : ℕ). now ≡ pasted old 22 (ringLines (entriesAt c k))) e (p .is)
 
   -- ---- the text
 
-  text-size : (n : ℕ) → length (listText (entriesAt starts ends rows n)) ≡ 22 * (n + 1)
+  text-size : (n : ℕ) → length (listText (entriesAt c n)) ≡ 22 * (n + 1)
   unfolding listText
   text-size n =
-      listing-length (map lineOf (entriesAt starts ends rows n))
-      ∙ omega (arith, length-map (entriesAt starts ends rows n) lineOf, entries-length starts ends rows n)
+      listing-length (map lineOf (entriesAt c n))
+      ∙ omega (arith, length-map (entriesAt c n) lineOf, entries-length c n)
 
   pub text-none : (output : List ℕ) (n : ℕ) → length output < 22 * (n + 1)
-      → (Printed.Refused 10 0 ≡ listAnswer (found (entriesAt starts ends rows n)) (length output)) × (output ≡ listOutput (Printed.Refused 10 0) (found (entriesAt starts ends rows n)) output)
+      → Prints (found (entriesAt c n)) (Printed.Refused 10 0) output output
   unfolding listAnswer listOutput fitted refusedOf numberOf inputLine
-  text-none output n h = (rw (text-size n, lt-leb (22 * (n + 1)) (length output) h), refl)
+  text-none output n h = record { answer = rw (text-size n, lt-leb (22 * (n + 1)) (length output) h); output = refl }
 
   pub text-done : (output : List ℕ) (n : ℕ) {r : Put} {o₁ o₂ : List ℕ} → 22 * (n + 1) ≤ length output
-      → r ≡ putOf output 0 header → o₁ ≡ written r output 0 header → o₂ ≡ pasted o₁ 22 (ringLines (entriesAt starts ends rows n))
-      → (Printed.Text (22 * (n + 1)) ≡ listAnswer (found (entriesAt starts ends rows n)) (length output)) × (o₂ ≡ listOutput (Printed.Text (22 * (n + 1))) (found (entriesAt starts ends rows n)) output)
+      → r ≡ putOf output 0 header → o₁ ≡ written r output 0 header → o₂ ≡ pasted o₁ 22 (ringLines (entriesAt c n))
+      → Prints (found (entriesAt c n)) (Printed.Text (22 * (n + 1))) output o₂
   unfolding listAnswer listOutput fitted outcomeText over listText listingText ringLines
   text-done output n {r} {o₁} {o₂} h e q w =
-      let es = entriesAt starts ends rows n in
+      let es = entriesAt c n in
       let a : o₁ ≡ pasted output 0 header = put-wrote output 0 header (omega arith) e q in
       let b : o₂ ≡ pasted output 0 (listText es) = w ∙ ap (λ (x : List ℕ). pasted x 22 (ringLines es)) a ∙ pasted-pasted output 0 header (ringLines es) (omega arith) in
-      (rw (text-size n, le-leb (22 * (n + 1)) (length output) h), b ∙ pasted-start output (listText es) (length (listText es)) refl)
+      record { answer = rw (text-size n, le-leb (22 * (n + 1)) (length output) h); output = b ∙ pasted-start output (listText es) (length (listText es)) refl }
 
 -- ---- the columns that Listing wrote
 
@@ -146,19 +147,17 @@ mem-getD [] d j h = absurd (not-suc-le-zero h)
 mem-getD (x ∷ ls) d zero h = here refl
 mem-getD (x ∷ ls) d (suc j) h = there (mem-getD ls d j (le-of-suc-le-suc h))
 
-module _ (ls : List ListedRing) (old₁ old₂ old₃ : List ℕ) {starts ends rows : List ℕ} (a : starts ≡ over (map (λ x. x .start) ls) old₁) (b : ends ≡ over (map (λ x. x .end) ls) old₂) (c : rows ≡ over (map (λ x. x .rows) ls) old₃) where
-  entry-is : (j : ℕ) → j < length ls → entryAt starts ends rows j ≡ getD ls j nothing
+module _ (ls : List ListedRing) (old : Columns (List ℕ)) {c : Columns (List ℕ)} (e : c ≡ withEntries ls old) where
+  entry-is : (j : ℕ) → j < length ls → entryAt c j ≡ getD ls j nothing
   unfolding entryAt nothing
   entry-is j h =
-      let p : getD starts j 0 ≡ getD ls j nothing .start = ap (λ (l : List ℕ). getD l j 0) a ∙ cell (λ x. x .start) refl ls old₁ j h in
-      let q : getD ends j 0 ≡ getD ls j nothing .end = ap (λ (l : List ℕ). getD l j 0) b ∙ cell (λ x. x .end) refl ls old₂ j h in
-      let r : getD rows j 0 ≡ getD ls j nothing .rows = ap (λ (l : List ℕ). getD l j 0) c ∙ cell (λ x. x .rows) refl ls old₃ j h in
-      λ i. record { start = p i; end = q i; rows = r i }
+      ap (λ (x : Columns (List ℕ)). entryAt x j) e
+      ∙ (λ i. record { start = cell (λ x. x .start) refl ls (old .starts) j h i; end = cell (λ x. x .end) refl ls (old .ends) j h i; rows = cell (λ x. x .rows) refl ls (old .rows) j h i })
 
-  pub entries-are : {n : ℕ} → n ≡ length ls → entriesAt starts ends rows n ≡ ls
+  pub entries-are : {n : ℕ} → n ≡ length ls → entriesAt c n ≡ ls
   unfolding entriesAt
-  entries-are e = ap (run (entryAt starts ends rows) 0) e ∙ run-list (entryAt starts ends rows) nothing 0 ls (λ j h. ap (entryAt starts ends rows) (zero-add j) ∙ entry-is j h)
+  entries-are m = ap (run (entryAt c) 0) m ∙ run-list (entryAt c) nothing 0 ls (λ j h. ap (entryAt c) (zero-add j) ∙ entry-is j h)
 
-  pub place-order : ((x : ListedRing) → Mem x ls → x .start ≤ x .end) → (j : ℕ) → j < length ls → getD starts j 0 ≤ getD ends j 0
+  pub place-order : ((x : ListedRing) → Mem x ls → x .start ≤ x .end) → (j : ℕ) → j < length ls → getD (c .starts) j 0 ≤ getD (c .ends) j 0
   unfolding entryAt
   place-order o j h = subst (λ (x : ListedRing). x .start ≤ x .end) (sym (entry-is j h)) (o (getD ls j nothing) (mem-getD ls nothing j h))

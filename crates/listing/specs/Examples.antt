@@ -35,7 +35,7 @@ use Rattle.rings.proofs.CoreTimeLaws.{times-absent}
 use Rattle.listing.specs.Tight.{memberDays, lowest, firstDay, lastDay, nonempty, tightest, tight}
 use Rattle.listing.specs.Listing.{ListedRing, entryOf, listing, rowSum}
 use Rattle.listing.specs.Distinct.{sameMark, sameRows, distinct, ringsOf, distinctRings}
-use Rattle.listing.specs.ListingCall.{listingChecks, summed, listingAnswer, ringColumn, listingStarts, listingEnds, listingRows, listingScratch, listingReport, listingSum}
+use Rattle.listing.specs.ListingCall.{columnsOf, each, listingChecks, summed, listingAnswer, listingColumns, listingScratch, listingReport, listingSum}
 use Rattle.listing.specs.LongestList.{longest, daysOf, longestAnswer}
 use Rattle.listing.specs.declared.Listed.{Listed}
 
@@ -97,28 +97,27 @@ pub record StarredRows : Type 0 where
   pub seven-scratch : countedScratch (minimalAnswer season two 1 6 7 7 7 8216) (replicate 8216 9) ≡ replicate 8216 0
   -- "The five rings above, sum 21"
   pub five-rings : listing season two 1 6 ≡ listed 1 2 3 ∷ listed 1 4 4 ∷ listed 1 6 6 ∷ listed 2 4 3 ∷ listed 2 6 5 ∷ []
-  pub five-answer : listingAnswer season two 1 6 2048 2048 2048 8216 ≡ Listed.Rings 5 21
-  pub five-places : listingAnswer season two 1 6 5 5 5 8216 ≡ Listed.Rings 5 21
+  pub five-answer : listingAnswer season two 1 6 (each 2048) 8216 ≡ Listed.Rings 5 21
+  pub five-places : listingAnswer season two 1 6 (each 5) 8216 ≡ Listed.Rings 5 21
   -- six places: the one past the count keeps its contents
-  pub listed-starts : listingStarts (listingAnswer season two 1 6 6 6 6 8216) season two 1 6 (replicate 6 9) ≡ 1 ∷ 1 ∷ 1 ∷ 2 ∷ 2 ∷ 9 ∷ []
-  pub listed-ends : listingEnds (listingAnswer season two 1 6 6 6 6 8216) season two 1 6 (replicate 6 9) ≡ 2 ∷ 4 ∷ 6 ∷ 4 ∷ 6 ∷ 9 ∷ []
-  pub listed-rows : listingRows (listingAnswer season two 1 6 6 6 6 8216) season two 1 6 (replicate 6 9) ≡ 3 ∷ 4 ∷ 6 ∷ 3 ∷ 5 ∷ 9 ∷ []
+  pub listed-columns : listingColumns (listingAnswer season two 1 6 (each 6) 8216) season two 1 6 (each (replicate 6 9))
+      ≡ columnsOf (1 ∷ 1 ∷ 1 ∷ 2 ∷ 2 ∷ 9 ∷ []) (2 ∷ 4 ∷ 6 ∷ 4 ∷ 6 ∷ 9 ∷ []) (3 ∷ 4 ∷ 6 ∷ 3 ∷ 5 ∷ 9 ∷ [])
   -- four places give 10 too: columns kept, scratch 0
-  pub four-column : listingRows (listingAnswer season two 1 6 4 4 4 8216) season two 1 6 (replicate 4 9) ≡ replicate 4 9
-  pub four-scratch : listingScratch (listingAnswer season two 1 6 4 4 4 8216) (replicate 8216 9) ≡ replicate 8216 0
-  pub four-places : listingAnswer season two 1 6 4 4 4 8216 ≡ Listed.Refused Refusal.NoRoom
+  pub four-columns : listingColumns (listingAnswer season two 1 6 (each 4) 8216) season two 1 6 (each (replicate 4 9)) ≡ each (replicate 4 9)
+  pub four-scratch : listingScratch (listingAnswer season two 1 6 (each 4) 8216) (replicate 8216 9) ≡ replicate 8216 0
+  pub four-places : listingAnswer season two 1 6 (each 4) 8216 ≡ Listed.Refused Refusal.NoRoom
   -- the same five, found without tightest windows
   pub five-distinct : distinctRings season two 1 6 ≡ map (λ (x : ListedRing). ring season two (x .start) (x .end)) (listing season two 1 6)
   -- "k = 3: none"
-  pub k-3 : listingAnswer season three 1 6 2048 2048 2048 8216 ≡ Listed.Rings 0 0
+  pub k-3 : listingAnswer season three 1 6 (each 2048) 8216 ≡ Listed.Rings 0 0
   -- "k = 1: 15 rings"
-  pub k-1 : listingAnswer season one 1 6 2048 2048 2048 8216 ≡ Listed.Rings 15 43
+  pub k-1 : listingAnswer season one 1 6 (each 2048) 8216 ≡ Listed.Rings 15 43
   pub k-1-distinct : length (distinctRings season one 1 6) ≡ 15
   -- "No rows: no ring"
-  pub no-rows : listingAnswer empty one 1 6 2048 2048 2048 8192 ≡ Listed.Rings 0 0
+  pub no-rows : listingAnswer empty one 1 6 (each 2048) 8192 ≡ Listed.Rings 0 0
   -- "Rows 1 1 2 and 2 1 2, k = 2: none; k = 1: [1,1], [1,2], [2,2]"
-  pub pair-k-2 : listingAnswer pair two 1 2 2048 2048 2048 8200 ≡ Listed.Rings 0 0
-  pub pair-k-1-answer : listingAnswer pair one 1 2 2048 2048 2048 8200 ≡ Listed.Rings 3 4
+  pub pair-k-2 : listingAnswer pair two 1 2 (each 2048) 8200 ≡ Listed.Rings 0 0
+  pub pair-k-1-answer : listingAnswer pair one 1 2 (each 2048) 8200 ≡ Listed.Rings 3 4
   pub pair-k-1 : listing pair one 1 2 ≡ listed 1 1 1 ∷ listed 1 2 2 ∷ listed 2 2 1 ∷ []
   -- Window ring and Recall: the ring of [1, 4], and the same from the eight entries
   pub ring-count : ringAnswer season two 1 4 6 8216 ≡ Counted.Count 4
@@ -166,7 +165,7 @@ accepted = (refl, refl)
 pub starred-rows-hold : StarredRows
 unfolding
     compute memberDays lowest firstDay lastDay nonempty tightest tight entryOf listing rowSum sameMark sameRows distinct ringsOf distinctRings
-    listingChecks summed listingAnswer ringColumn listingStarts listingEnds listingRows listingScratch listingReport listingSum
+    listingChecks summed listingAnswer listingColumns listingScratch listingReport listingSum
     longest daysOf longestAnswer
 starred-rows-hold = record {
   start-1-accounts = column 1 _ (accepted .0) (from-start-1 4091);
@@ -186,10 +185,8 @@ starred-rows-hold = record {
   five-rings = refl;
   five-answer = refl;
   five-places = refl;
-  listed-starts = refl;
-  listed-ends = refl;
-  listed-rows = refl;
-  four-column = refl;
+  listed-columns = refl;
+  four-columns = refl;
   four-scratch = refl;
   four-places = refl;
   five-distinct = refl;

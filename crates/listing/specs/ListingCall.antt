@@ -1,12 +1,18 @@
 -- Listing (k, Ts, Te): the answer, and each lent buffer at exit. Lent buffers go into the checks by their lengths.
+--     Columns A          an A for each column of a listing: its starts, its ends, its rows
+--     columnsOf x y z    these three
+--     each x             the same x for each column
+--     placesOf c         the places of each column
+--     withEntries ls c       the columns c with the entries ls written from place 0 on
+--     OneLength c        the columns have as many places each
 --     listingChecks      what stops the call, in order
 --     summed v ls        the answer for a listing: its count and its sum where no check refuses
 --     listingAnswer      the answer: the count and the sum of rows
---     ringColumn         a column at exit, for the part of an entry that it holds
---     listingStarts, listingEnds, listingRows    the three columns at exit
+--     listingColumns     the columns at exit
 --     listingScratch     the scratch at exit
 --     listingReport a, listingSum a    the answer in numbers
 use Prim.Native.Nat.{ℕ}
+use mathlib.Core.Path.{_≡_}
 use mathlib.Core.List.{List, map}
 use lib.ListN.{length}
 use lib.Dec.{ltb, eqb}
@@ -22,37 +28,50 @@ use Rattle.rings.specs.declared.refusal.Verdict.{Verdict}
 use Rattle.listing.specs.Listing.{ListedRing, listing, rowSum}
 use Rattle.listing.specs.declared.Listed.{Listed}
 
+-- 01: "columns start, end, rows"
+pub record Columns (A : Type 0) : Type 0 where
+  pub starts : A
+  pub ends : A
+  pub rows : A
+
+abbrev pub columnsOf : {A : Type 0} → A → A → A → Columns A
+columnsOf x y z = record { starts = x; ends = y; rows = z }
+
+abbrev pub each : {A : Type 0} → A → Columns A
+each x = columnsOf x x x
+
+abbrev pub placesOf : Columns (List ℕ) → Columns ℕ
+placesOf c = columnsOf (length (c .starts)) (length (c .ends)) (length (c .rows))
+
+abbrev pub withEntries : List ListedRing → Columns (List ℕ) → Columns (List ℕ)
+withEntries ls c =
+    columnsOf (over (map (λ x. x .start) ls) (c .starts)) (over (map (λ x. x .end) ls) (c .ends)) (over (map (λ x. x .rows) ls) (c .rows))
+
+pub record OneLength (c : Columns (List ℕ)) : Type 0 where
+  pub ends : length (c .ends) ≡ length (c .starts)
+  pub rows : length (c .rows) ≡ length (c .starts)
+
 -- 01: "6, 7, 8, 9, 10 likewise", that is as in Minimal windows
-unfoldable pub listingChecks : Table → Query → ℕ → ℕ → ℕ → ℕ → ℕ → ℕ → Verdict
-listingChecks t q lo hi startPlaces endPlaces rowPlaces scratch =
+unfoldable pub listingChecks : Table → Query → ℕ → ℕ → Columns ℕ → ℕ → Verdict
+listingChecks t q lo hi places scratch =
     tableCheck t
     then queryCheck q
     then rangeCheck lo hi
-    then BadLengths when no (eqb endPlaces startPlaces and eqb rowPlaces startPlaces)
+    then BadLengths when no (eqb (places .ends) (places .starts) and eqb (places .rows) (places .starts))
     then scratchCheck (size t) scratch
-    then NoRoom when ltb startPlaces (length (listing t q lo hi))
+    then NoRoom when ltb (places .starts) (length (listing t q lo hi))
 
 unfoldable pub summed : Verdict → List ListedRing → Listed
 summed Verdict.Accepted ls = Listed.Rings (length ls) (rowSum ls)
 summed (Verdict.Refused r) ls = Listed.Refused r
 
 -- 01: "the count, and the sum of rows"
-unfoldable pub listingAnswer : Table → Query → ℕ → ℕ → ℕ → ℕ → ℕ → ℕ → Listed
-listingAnswer t q lo hi startPlaces endPlaces rowPlaces scratch =
-    summed (listingChecks t q lo hi startPlaces endPlaces rowPlaces scratch) (listing t q lo hi)
+unfoldable pub listingAnswer : Table → Query → ℕ → ℕ → Columns ℕ → ℕ → Listed
+listingAnswer t q lo hi places scratch = summed (listingChecks t q lo hi places scratch) (listing t q lo hi)
 
-unfoldable pub ringColumn : Listed → (ListedRing → ℕ) → List ListedRing → List ℕ → List ℕ
-ringColumn (Listed.Rings n sum) part ls old = over (map part ls) old
-ringColumn (Listed.Refused r) part ls old = old
-
-unfoldable pub listingStarts : Listed → Table → Query → ℕ → ℕ → List ℕ → List ℕ
-listingStarts a t q lo hi old = ringColumn a (λ x. x .start) (listing t q lo hi) old
-
-unfoldable pub listingEnds : Listed → Table → Query → ℕ → ℕ → List ℕ → List ℕ
-listingEnds a t q lo hi old = ringColumn a (λ x. x .end) (listing t q lo hi) old
-
-unfoldable pub listingRows : Listed → Table → Query → ℕ → ℕ → List ℕ → List ℕ
-listingRows a t q lo hi old = ringColumn a (λ x. x .rows) (listing t q lo hi) old
+unfoldable pub listingColumns : Listed → Table → Query → ℕ → ℕ → Columns (List ℕ) → Columns (List ℕ)
+listingColumns (Listed.Rings n sum) t q lo hi old = withEntries (listing t q lo hi) old
+listingColumns (Listed.Refused r) t q lo hi old = old
 
 unfoldable pub listingScratch : Listed → List ℕ → List ℕ
 listingScratch (Listed.Rings n sum) scratch = cleared scratch

@@ -10,7 +10,7 @@ use lib.ListN.{replicate}
 use Rattle.text.specs.TextNumbers.{row, short, broken, large, mixed, TextNumbers, text-numbers-hold}
 use Rattle.rings.specs.Refusals.{Report, countedReport}
 use Rattle.rings.specs.CheckRows.{says, CallNumbers, call-numbers-hold}
-use Rattle.listing.specs.ListingCall.{listingAnswer, listingReport}
+use Rattle.listing.specs.ListingCall.{each, listingAnswer, listingReport}
 use Rattle.listing.specs.LongestList.{longest, daysOf, longestAnswer}
 use Rattle.listing.specs.Program.{outcome}
 use Rattle.listing.specs.ProgramText.{listAnswer, printedReport}
@@ -26,7 +26,7 @@ pub record NumberRows : Type 0 where
   -- 10 to 13, by the calls of text: "a line counted from 1 for 11, 12, 13"
   pub reading : TextNumbers
   -- Listing, "more entries than the columns hold"; Longest list
-  pub listing-10 : listingReport (listingAnswer season two 1 6 4 4 4 8216) ≡ says 10 0
+  pub listing-10 : listingReport (listingAnswer season two 1 6 (each 4) 8216) ≡ says 10 0
   pub longest-7 : countedReport (longestAnswer 6 1) ≡ says 7 0
   -- the program: "Over 18,448 bytes: refusal 2, place 0, before any line is read"
   pub program-2 : program (replicate 18449 32) ≡ says 2 0

@@ -30,7 +30,7 @@ use Rattle.rings.specs.declared.Query.{Query}
 use Rattle.rings.specs.declared.refusal.Refusal.{Refusal}
 use Rattle.rings.specs.declared.refusal.Refusal.the-variants.{UnequalColumns, TooManyRows, BadDay, BadAccounts, OutOfOrder, BadK, BadWindow, BadLengths, SmallScratch, NoRoom, BadEntry}
 use Rattle.listing.specs.Listing.{ListedRing, listing}
-use Rattle.listing.specs.ListingCall.{listingAnswer}
+use Rattle.listing.specs.ListingCall.{each, listingAnswer}
 use Rattle.listing.specs.declared.Listed.{Listed}
 
 pub data Outcome : Type 0 where
@@ -76,7 +76,7 @@ fromList (Listed.Refused r) ls = stoppedBy r
 
 -- 01: "then lists into columns of 2,048". 12,288 numbers of scratch are enough for 1,024 rows
 unfoldable pub listed : Table → Query → ℕ → ℕ → Outcome
-listed t q lo hi = fromList (listingAnswer t q lo hi 2048 2048 2048 12288) (listing t q lo hi)
+listed t q lo hi = fromList (listingAnswer t q lo hi (each 2048) 12288) (listing t q lo hi)
 
 unfoldable pub fromRows : TableRead → Table → Query → ℕ → ℕ → Outcome
 fromRows a t q lo hi = unlessRefused stopped (number a) (readerLine (place a)) (listed t q lo hi)

@@ -3,9 +3,10 @@
 --     rowsOf a           how many rows an input has
 --     asked a d f s      the outcome of what is asked, the rows standing in front of the columns d, f, s
 --     Asks o a d f s     an input of the outcome o asks for a
---     entryAt, entriesAt    the entry at a place of three columns, and the first n
+--     entryAt, entriesAt    the entry at a place of a listing's columns, and the first n
 --     ringLines ls       the lines of a listing, without the header
---     Rising             the columns have n entries, and each starts by its end
+--     Rising c n         the columns have n entries, and each starts by its end
+--     Prints o a old now    the answer to an input of the outcome o, and the output, which held old
 use Prim.Native.Nat.{ℕ, _≤_, _<_}
 use mathlib.Core.Path.{_≡_}
 use mathlib.Core.List.{List, map}
@@ -17,8 +18,10 @@ use Rattle.rings.specs.Words.{run}
 use Rattle.rings.specs.Table.{tableOf}
 use Rattle.rings.specs.Ring.{query}
 use Rattle.listing.specs.Listing.{ListedRing}
+use Rattle.listing.specs.ListingCall.{Columns}
 use Rattle.listing.specs.Program.{Outcome, stopped, readerLine, unlessRefused, listed}
-use Rattle.listing.specs.ProgramText.{lineOf}
+use Rattle.listing.specs.ProgramText.{lineOf, listAnswer, listOutput}
+use Rattle.listing.specs.declared.Printed.{Printed}
 use Rattle.listing.specs.declared.program.Asked.{Asked}
 
 unfoldable pub askedBy : TableRead → ℕ → ℕ → ℕ → Asked
@@ -36,18 +39,22 @@ pub record Asks (o : Outcome) (a : Asked) (d f s : List ℕ) : Type 0 where
   pub most : rowsOf a ≤ 1024
   pub is : o ≡ asked a d f s
 
-unfoldable pub entryAt : List ℕ → List ℕ → List ℕ → ℕ → ListedRing
-entryAt starts ends rows i = record { start = getD starts i 0; end = getD ends i 0; rows = getD rows i 0 }
+unfoldable pub entryAt : Columns (List ℕ) → ℕ → ListedRing
+entryAt c i = record { start = getD (c .starts) i 0; end = getD (c .ends) i 0; rows = getD (c .rows) i 0 }
 
-unfoldable pub entriesAt : List ℕ → List ℕ → List ℕ → ℕ → List ListedRing
-entriesAt starts ends rows n = run (entryAt starts ends rows) 0 n
+unfoldable pub entriesAt : Columns (List ℕ) → ℕ → List ListedRing
+entriesAt c n = run (entryAt c) 0 n
 
 unfoldable pub ringLines : List ListedRing → List ℕ
 ringLines ls = entryLines (map lineOf ls)
 
-pub record Rising (starts ends rows : List ℕ) (n : ℕ) : Type 0 where
+pub record Rising (c : Columns (List ℕ)) (n : ℕ) : Type 0 where
   pub most : n ≤ 2048
-  pub in-starts : n ≤ length starts
-  pub in-ends : n ≤ length ends
-  pub in-rows : n ≤ length rows
-  pub order : (i : ℕ) → i < n → getD starts i 0 ≤ getD ends i 0
+  pub in-starts : n ≤ length (c .starts)
+  pub in-ends : n ≤ length (c .ends)
+  pub in-rows : n ≤ length (c .rows)
+  pub order : (i : ℕ) → i < n → getD (c .starts) i 0 ≤ getD (c .ends) i 0
+
+pub record Prints (o : Outcome) (a : Printed) (old now : List ℕ) : Type 0 where
+  pub answer : a ≡ listAnswer o (length old)
+  pub output : now ≡ listOutput a o old

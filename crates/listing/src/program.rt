@@ -10,7 +10,8 @@ ghost use Rattle.text.specs.Table.{place, tableReadOf};
 ghost use Rattle.text.specs.Print.{pasted};
 ghost use Rattle.listing.specs.Program.{found, rowLine, readerLine, tableOf, listed, fromRows, outcome};
 ghost use Rattle.listing.specs.ProgramText.{refusedOf, listAnswer, listOutput};
-ghost use Rattle.listing.specs.ProgramSteps.{askedBy, Asks, Rising, entriesAt, ringLines};
+ghost use Rattle.listing.specs.ListingCall.{columnsOf};
+ghost use Rattle.listing.specs.ProgramSteps.{askedBy, Asks, Rising, entriesAt, ringLines, Prints};
 use crate::Listed;
 use crate::Printed;
 use crate::list::list_rings;
@@ -156,9 +157,11 @@ fn read_input(input: &[u8], days: &mut [u16], first: &mut [u16], second: &mut [u
 
 // The lines of the first `count` entries, behind the header's 22 bytes.
 fn write_lines(starts: &[u16], ends: &[u16], rows: &[u16], count: usize, output: &mut [u8])
-    requires { ⌜ Rising (now starts) (now ends) (now rows) count ⌝ }
+    requires { ⌜ Rising (columnsOf (now starts) (now ends) (now rows)) count ⌝ }
     requires { ⌜ 22 * (count + 1) ≤ length (now output) ⌝ }
-    ensures { λ _. ⌜ now (output .exit) ≡ pasted (now (output .entry)) 22 (ringLines (entriesAt (now (starts .entry)) (now (ends .entry)) (now (rows .entry)) count)) ⌝ }
+    ensures { λ _. ⌜ (
+        let c = columnsOf (now (starts .entry)) (now (ends .entry)) (now (rows .entry)) in
+        now (output .exit) ≡ pasted (now (output .entry)) 22 (ringLines (entriesAt c count))) ⌝ }
 {
     let mut at: usize = 22;
     let mut i: usize = 0;
@@ -179,9 +182,10 @@ fn write_listing(
     count: usize,
     output: &mut [u8],
 ) -> Printed
-    requires { ⌜ Rising (now starts) (now ends) (now rows) count ⌝ }
-    ensures { λ r. ⌜ r ≡ listAnswer (found (entriesAt (now (starts .entry)) (now (ends .entry)) (now (rows .entry)) count)) (length (now (output .entry))) ⌝ }
-    ensures { λ r. ⌜ now (output .exit) ≡ listOutput r (found (entriesAt (now (starts .entry)) (now (ends .entry)) (now (rows .entry)) count)) (now (output .entry)) ⌝ }
+    requires { ⌜ Rising (columnsOf (now starts) (now ends) (now rows)) count ⌝ }
+    ensures { λ r. ⌜ (
+        let o = found (entriesAt (columnsOf (now (starts .entry)) (now (ends .entry)) (now (rows .entry))) count) in
+        Prints o r (now (output .entry)) (now (output .exit))) ⌝ }
 {
     let size = 22 * (count + 1);
     if output.len() < size {
@@ -206,8 +210,9 @@ fn print_rings(
     output: &mut [u8],
 ) -> Printed
     requires { ⌜ length (now days) ≤ 1024 ⌝ }
-    ensures { λ r. ⌜ r ≡ listAnswer (listed (columns (now (days .entry)) (now (first .entry)) (now (second .entry))) (query k) ts te) (length (now (output .entry))) ⌝ }
-    ensures { λ r. ⌜ now (output .exit) ≡ listOutput r (listed (columns (now (days .entry)) (now (first .entry)) (now (second .entry))) (query k) ts te) (now (output .entry)) ⌝ }
+    ensures { λ r. ⌜ (
+        let o = listed (columns (now (days .entry)) (now (first .entry)) (now (second .entry))) (query k) ts te in
+        Prints o r (now (output .entry)) (now (output .exit))) ⌝ }
 {
     let mut starts = [0u16; 2048];
     let mut ends = [0u16; 2048];

@@ -30,8 +30,8 @@ returns : tie.Need-returns
 returns c =
     let of-listed = c .before .of-listed in
     let list-rings = c .before .before .before .before .before .before .before .before .before .before .list-rings in
-    listing-told _ _ _ _ _ _ _ _ (list-rings .ensures .0) (list-rings .ensures .1 .0) (list-rings .ensures .1 .1 .0)
-    (list-rings .ensures .1 .1 .1 .0) (list-rings .ensures .1 .1 .1 .1) (of-listed .ensures) (c .sum-of .ensures)
+    listing-told _ _ _ _ _ _ (list-rings .ensures .0) (list-rings .ensures .1 .0) (list-rings .ensures .1 .1)
+    (of-listed .ensures) (c .sum-of .ensures)
 
 pub rumbleog-listing-spec : {M : Type 1} → statement M
 rumbleog-listing-spec =

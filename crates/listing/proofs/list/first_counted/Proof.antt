@@ -1,7 +1,7 @@
-use Prim.Native.Nat.{_+_, _-_, _≤_}
-use native.Mathlib.Omega.{arith}
+use Rattle.listing.proofs.EndsLaws.{uncounted-start, uncounted-next, counted-one, counted-none}
 use Rattle.listing.specs.Inner.{Uncounted}
-use Rattle.listing.proofs.ProgressLaws.{uncounted-start, uncounted-next, counted-one, counted-none}
+use native.Mathlib.Omega.{arith}
+use Prim.Native.Nat.{_+_, _-_, _≤_}
 use Rattle.listing.proofs.list.first_counted.Statement.{statement}
 use Rattle.listing.proofs.list.first_counted.Tie as tie
 use Rattle.listing.proofs.list.first_counted.Reads as reads
@@ -13,57 +13,57 @@ Inv-loop counts low te day₀ day = Uncounted counts low day × (day ≤ te + 1)
 abbrev μ-loop : tie.MeasureT-loop
 μ-loop counts low te day₀ day = te + 1 - day
 
--- src/list.rt:212:5
+-- src/list.rt:123:5
 loop-holds : tie.Need-loop-holds Inv-loop μ-loop
-loop-holds c = (uncounted-start _ _, omega (arith, c .pre .0))
+loop-holds c = (uncounted-start _ _, omega (arith, c .pre .order))
 
--- src/list.rt:213:19
+-- src/list.rt:124:19
 cast-if1 : tie.Need-cast-if1 Inv-loop μ-loop
 cast-if1 c =
     let pre = c .before .before .pre in
-    omega (arith, c .loop-test .taken, pre .1)
+    omega (arith, c .loop-test .taken, pre .last)
 
--- src/list.rt:213:12
+-- src/list.rt:124:12
 mul-if1 : tie.Need-mul-if1 Inv-loop μ-loop
 mul-if1 c =
     let pre = c .before .before .pre in
-    omega (arith, c .loop-test .taken, pre .1)
+    omega (arith, c .loop-test .taken, pre .last)
 
--- src/list.rt:213:12
+-- src/list.rt:124:12
 shared-slice-read-if1 : tie.Need-shared-slice-read-if1 Inv-loop μ-loop
 shared-slice-read-if1 c =
     let loop-test = c .before .loop-test in
     let pre = c .before .before .before .pre in
-    omega (arith, loop-test .taken, pre .1, pre .2)
+    omega (arith, loop-test .taken, pre .last, pre .long)
 
--- src/list.rt:214:13
+-- src/list.rt:125:13
 returns : tie.Need-returns Inv-loop μ-loop
 returns c =
     let loop-test = c .before .before .loop-test in
     let loop = c .before .before .before .loop in
     counted-one (loop .inv .0) (loop-test .taken) (c .if1 .taken)
 
--- src/list.rt:216:15
+-- src/list.rt:127:15
 add-day : tie.Need-add-day Inv-loop μ-loop
 add-day c =
     let loop-test = c .before .before .loop-test in
     let pre = c .before .before .before .before .pre in
-    omega (arith, loop-test .taken, pre .1)
+    omega (arith, loop-test .taken, pre .last)
 
--- src/list.rt:212:5
+-- src/list.rt:123:5
 loop-less : tie.Need-loop-less Inv-loop μ-loop
 loop-less c =
     let loop-test = c .before .before .loop-test in
     omega (arith, loop-test .taken)
 
--- src/list.rt:212:5
+-- src/list.rt:123:5
 loop-again : tie.Need-loop-again Inv-loop μ-loop
 loop-again c =
     let loop-test = c .before .before .loop-test in
     let loop = c .before .before .before .loop in
     (uncounted-next (loop .inv .0) (c .if1 .left), omega (arith, loop-test .taken))
 
--- src/list.rt:207:1
+-- src/list.rt:118:1
 returns-2 : tie.Need-returns-2 Inv-loop μ-loop
 returns-2 c =
     let loop = c .before .loop in

@@ -1,6 +1,5 @@
-use Rattle.listing.proofs.ProgressLaws.{room-most, room-counted}
-use mathlib.Core.Path.{refl}
 use native.Mathlib.Omega.{arith}
+use Rattle.listing.proofs.FoundLaws.{room-most, room-counted}
 use borrow.Author.Needs.{needs}
 use Rattle.listing.proofs.list.has_room.Statement.{statement}
 use Rattle.listing.proofs.list.has_room.Tie as tie
@@ -9,83 +8,65 @@ use Rattle.listing.proofs.list.has_room.Lts as lts
 use Rattle.listing.proofs.list.pass.Reads as pass-reads
 use Rattle.listing.proofs.longest.most.Reads as most-reads
 
--- src/list.rt:327:25
+-- src/list.rt:232:25
 add-most : tie.Need-add-most
 add-most c = search needs
 
--- src/list.rt:327:25
+-- src/list.rt:232:25
 sub-most : tie.Need-sub-most
 sub-most c = search needs
 
--- src/list.rt:327:24
+-- src/list.rt:232:24
 cast-most : tie.Need-cast-most
 cast-most c = search needs
 
--- src/list.rt:327:19
+-- src/list.rt:232:19
 most-requires : tie.Need-most-requires
 most-requires c κs =
-    let pre = c .before .before .before .before .before .before .before .before .before .before .before .pre in
-    omega (arith, pre .1 .1 .1 .0, pre .1 .1 .0 .1, pre .1 .1 .0 .2)
+    let pre = c .before .before .before .before .before .before .before .pre in
+    omega (arith, (pre) .asked .from, (pre) .asked .order, (pre) .asked .to)
 
--- src/list.rt:327:19
+-- src/list.rt:232:19
 cast-longest : tie.Need-cast-longest
 cast-longest c = search needs
 
--- src/list.rt:329:9
+-- src/list.rt:234:9
 returns : tie.Need-returns
 returns c =
     let most = c .before .most in
-    let pre = c .before .before .before .before .before .before .before .before .before .before .before .before .before .pre in
-    ((room-most _ _ _ _ (most .ensures) (c .if1 .taken), refl, refl, refl), pre .1 .0)
+    let pre = c .before .before .before .before .before .before .before .before .before .pre in
+    room-most _ _ _ _ _ ((pre) .prepared) ((most) .ensures) (c .if1 .taken)
 
--- src/list.rt:331:9
+-- src/list.rt:236:9
 pass-requires : tie.Need-pass-requires
-pass-requires c κs =
-    let pre = c .before .before .before .before .before .before .before .before .before .before .before .before .before .before .before .before .before .before .before .before .before .pre in
-    (pre .0, (pre .1 .0, (pre .1 .1 .0, (omega arith, pre .1 .1 .1 .1, pre .1 .1 .1 .2))))
+pass-requires c κs = search needs
 
--- src/list.rt:304:1
+-- src/list.rt:211:1
 same-length : tie.Need-same-length
 same-length c = search needs
 
--- src/list.rt:304:1
+-- src/list.rt:211:1
 same-length-2 : tie.Need-same-length-2
 same-length-2 c = search needs
 
--- src/list.rt:304:1
+-- src/list.rt:211:1
 same-length-3 : tie.Need-same-length-3
 same-length-3 c = search needs
 
--- src/list.rt:304:1
+-- src/list.rt:211:1
 same-length-4 : tie.Need-same-length-4
 same-length-4 c = search needs
 
--- src/list.rt:304:1
-same-length-5 : tie.Need-same-length-5
-same-length-5 c = search needs
-
--- src/list.rt:304:1
-same-length-6 : tie.Need-same-length-6
-same-length-6 c = search needs
-
--- src/list.rt:304:1
-same-length-7 : tie.Need-same-length-7
-same-length-7 c = search needs
-
--- src/list.rt:304:1
-same-length-8 : tie.Need-same-length-8
-same-length-8 c = search needs
-
--- src/list.rt:304:1
+-- src/list.rt:211:1
 returns-2 : tie.Need-returns-2
 returns-2 c =
-    let pass = c .before .before .before .before .before .before .before .before .before .before .before .before .before .before .before .before .before .pass in
-    (room-counted _ _ _ _ (pass .ensures .0), pass .ensures .1)
+    let pass = c .before .before .before .before .before .before .before .before .before .pass in
+    room-counted _ _ _ _ ((pass) .ensures)
 
 pub has-room-spec : {M : Type 1} → statement M
 has-room-spec =
     tie.close
     (
     tie.spec add-most sub-most cast-most most-requires cast-longest returns pass-requires same-length same-length-2
-    same-length-3 same-length-4 same-length-5 same-length-6 same-length-7 same-length-8 returns-2
+    same-length-3 same-length-4 returns-2
     )

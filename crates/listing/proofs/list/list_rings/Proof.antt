@@ -1,7 +1,7 @@
-use Rattle.listing.proofs.ProgressLaws.{list-refused, list-done}
-use Rattle.rings.proofs.AcceptedLaws.{call-sound, call-k, call-window, call-lengths, call-scratch, window-e, lengths-e}
-use lib.ListN.{length}
 use mathlib.Core.Path.{sym, _∙_}
+use Rattle.rings.specs.Table.{tableOf}
+use Rattle.listing.specs.ListingCall.{columnsOf}
+use Rattle.listing.proofs.FoundLaws.{list-checked, list-refused, list-done}
 use borrow.Author.Needs.{needs}
 use Rattle.listing.proofs.list.list_rings.Statement.{statement}
 use Rattle.listing.proofs.list.list_rings.Tie as tie
@@ -12,54 +12,39 @@ use Rattle.rings.proofs.checks.are_equal.Reads as are-equal-reads
 use Rattle.rings.proofs.checks.check_call.Reads as check-call-reads
 use Rattle.rings.proofs.checks.is_window.Reads as is-window-reads
 
--- src/list.rt:432:9
+-- src/list.rt:334:9
 is-window-requires : tie.Need-is-window-requires
 is-window-requires c κs = search needs
 
--- src/list.rt:433:9
+-- src/list.rt:335:9
 are-equal-requires : tie.Need-are-equal-requires
 are-equal-requires c κs = search needs
 
--- src/list.rt:434:9
+-- src/list.rt:336:9
 check-call-requires : tie.Need-check-call-requires
 check-call-requires c κs = search needs
 
--- src/list.rt:436:26
+-- src/list.rt:338:26
 enum-known-found : tie.Need-enum-known-found
 enum-known-found c = search needs
 
--- src/list.rt:438:17
+-- src/list.rt:347:17
 enum-told : tie.Need-enum-told
 enum-told c = search needs
 
--- src/list.rt:439:13
+-- src/list.rt:340:13
 find-rings-requires : tie.Need-find-rings-requires
 find-rings-requires c κs =
     let enum-told = c .before .before .before .before .enum-told in
     let check-call = c .before .before .before .before .before .before .check-call in
     let are-equal = c .before .before .before .before .before .before .before .are-equal in
     let is-window = c .before .before .before .before .before .before .before .before .is-window in
-    let args = c .before .before .before .before .before .before .before .before .before .before .before .before .before .before .before .before .args in (
-      call-sound _ _ _ _ _ _ _ (sym (check-call .ensures) ∙ enum-told .given .1),
-      (
-        call-k _ _ _ _ _ _ _ (sym (check-call .ensures) ∙ enum-told .given .1) .0,
-        window-e (args .ts) (args .te) (is-window .ensures)
-            (call-window _ _ _ _ _ _ _ (sym (check-call .ensures) ∙ enum-told .given .1)) .0,
-        window-e (args .ts) (args .te) (is-window .ensures)
-            (call-window _ _ _ _ _ _ _ (sym (check-call .ensures) ∙ enum-told .given .1)) .1,
-        window-e (args .ts) (args .te) (is-window .ensures)
-            (call-window _ _ _ _ _ _ _ (sym (check-call .ensures) ∙ enum-told .given .1)) .2,
-        lengths-e (length (args .ends .now)) (length (args .starts .now)) (length (args .rows .now))
-            (length (args .starts .now)) (are-equal .ensures)
-            (call-lengths _ _ _ _ _ _ _ (sym (check-call .ensures) ∙ enum-told .given .1)) .0,
-        lengths-e (length (args .ends .now)) (length (args .starts .now)) (length (args .rows .now))
-            (length (args .starts .now)) (are-equal .ensures)
-            (call-lengths _ _ _ _ _ _ _ (sym (check-call .ensures) ∙ enum-told .given .1)) .1,
-        call-scratch _ _ _ _ _ _ _ (sym (check-call .ensures) ∙ enum-told .given .1),
-      ),
-    )
+    let args = c .before .before .before .before .before .before .before .before .before .before .before .before .before .before .before .before .args in
+    list-checked (tableOf ((args) .days .now) ((args) .first .now) ((args) .second .now)) ((args) .query) ((args) .ts)
+    ((args) .te) (columnsOf ((args) .starts .now) ((args) .ends .now) ((args) .rows .now)) ((args) .scratch .now)
+    ((is-window) .ensures) ((are-equal) .ensures) (sym ((check-call) .ensures) ∙ (enum-told) .given .1)
 
--- src/list.rt:414:1
+-- src/list.rt:312:1
 returns : tie.Need-returns
 returns c =
     let found = c .before .found in
@@ -67,26 +52,27 @@ returns c =
     let are-equal = c .before .before .before .before .are-equal in
     let is-window = c .before .before .before .before .before .is-window in
     let args = c .before .before .before .before .before .before .before .before .before .before .before .before .before .args in
-    list-refused _ _ _ _ (args .starts .now) (args .ends .now) (args .rows .now) (args .scratch .now)
-    (is-window .ensures) (are-equal .ensures) (sym (check-call .ensures) ∙ found .given .1)
+    list-refused _ _ _ _ (columnsOf ((args) .starts .now) ((args) .ends .now) ((args) .rows .now))
+    ((args) .scratch .now) ((is-window) .ensures) ((are-equal) .ensures)
+    (sym ((check-call) .ensures) ∙ (found) .given .1)
 
--- src/list.rt:414:1
+-- src/list.rt:312:1
 same-length : tie.Need-same-length
 same-length c = search needs
 
--- src/list.rt:414:1
+-- src/list.rt:312:1
 same-length-2 : tie.Need-same-length-2
 same-length-2 c = search needs
 
--- src/list.rt:414:1
+-- src/list.rt:312:1
 same-length-3 : tie.Need-same-length-3
 same-length-3 c = search needs
 
--- src/list.rt:414:1
+-- src/list.rt:312:1
 same-length-4 : tie.Need-same-length-4
 same-length-4 c = search needs
 
--- src/list.rt:414:1
+-- src/list.rt:312:1
 returns-2 : tie.Need-returns-2
 returns-2 c =
     let find-rings = c .before .before .before .before .before .before .before .before .find-rings in
@@ -95,8 +81,9 @@ returns-2 c =
     let are-equal = c .before .before .before .before .before .before .before .before .before .before .before .before .before .before .before .before .are-equal in
     let is-window = c .before .before .before .before .before .before .before .before .before .before .before .before .before .before .before .before .before .is-window in
     let args = c .before .before .before .before .before .before .before .before .before .before .before .before .before .before .before .before .before .before .before .before .before .before .before .before .before .args in
-    list-done _ _ _ _ (args .starts .now) (args .ends .now) (args .rows .now) (args .scratch .now) (is-window .ensures)
-    (are-equal .ensures) (sym (check-call .ensures) ∙ enum-told .given .1) (find-rings .ensures)
+    list-done _ _ _ _ (columnsOf ((args) .starts .now) ((args) .ends .now) ((args) .rows .now)) ((args) .scratch .now)
+    ((is-window) .ensures) ((are-equal) .ensures) (sym ((check-call) .ensures) ∙ (enum-told) .given .1)
+    ((find-rings) .ensures)
 
 pub list-rings-spec : {M : Type 1} → statement M
 list-rings-spec =

@@ -12,8 +12,9 @@ use Rattle.listing.proofs.program.list_text.Tie as tie
 
 returns : tie.Need-returns
 returns c =
-    let args = c .before .before .before .args in
-    let a = args in answer-none (outcome (a .input .now)) (a .output .now) (too-long (a .input .now) (c .if1 .taken))
+    let a = c .before .before .before .args in
+    let prints = answer-none (outcome (a .input .now)) (a .output .now) (too-long (a .input .now) (c .if1 .taken)) in
+    (prints .answer, prints .output)
 
 slice-aggregate-read-input : tie.Need-slice-aggregate-read-input
 slice-aggregate-read-input c = search needs
@@ -37,7 +38,8 @@ returns-2 c =
     let args = c .before .before .before .before .before .before .before .before .before .before .before .before .before .args in
     let a = args in
     let read-input = read-input′ in
-    answer-none (outcome (a .input .now)) (a .output .now) (asked-none (read-input .ensures) (asked .given .1))
+    let prints = answer-none (outcome (a .input .now)) (a .output .now) (asked-none (read-input .ensures) (asked .given .1)) in
+    (prints .answer, prints .output)
 
 enum-known-asked-2 : tie.Need-enum-known-asked-2
 enum-known-asked-2 c = search needs
@@ -109,7 +111,8 @@ returns-3 c =
     let a = args in
     let read-input = read-input′ in
     let asked2 = asked2′ in
-    answer-as (a .output .now) (asked-rows (read-input .ensures) (asked2 .given .1)) (print-rings .ensures)
+    let prints = answer-as (asked-rows (read-input .ensures) (asked2 .given .1)) (print-rings .ensures) in
+    (prints .answer, prints .output)
 
 pub list-text-spec : {M : Type 1} → statement M
 list-text-spec =

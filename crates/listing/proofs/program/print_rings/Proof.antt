@@ -5,6 +5,7 @@ use native.Mathlib.Omega.{arith}
 use lib.ListN.{replicate}
 use borrow.Author.Needs.{needs}
 use Rattle.rings.specs.Table.{tableOf}
+use Rattle.listing.specs.ListingCall.{each}
 use Rattle.listing.specs.Program.{listed}
 use Rattle.rings.specs.Ring.{query}
 use Rattle.listing.specs.Program.{found}
@@ -48,8 +49,7 @@ write-listing-requires c κs =
     let list-rings = list-rings′ in
     let rings = rings′ in
     rings-rise (tableOf (a .days .now) (a .first .now) (a .second .now)) (query (a .k)) (a .ts) (a .te)
-    (list-rings .ensures .0) (replicate 2048 0) (replicate 2048 0) (replicate 2048 0) (list-rings .ensures .1 .0)
-    (list-rings .ensures .1 .1 .0) (list-rings .ensures .1 .1 .1 .0) (rings .given .1)
+    (list-rings .ensures .0) (each (replicate 2048 0)) (list-rings .ensures .1 .0) (rings .given .1)
 
 same-length : tie.Need-same-length
 same-length c = search needs
@@ -63,7 +63,7 @@ returns c =
     let a = args in
     let list-rings = list-rings′ in
     let rings = rings′ in
-    answer-as (a .output .now)
+    answer-as
     (
     listed-rings (tableOf (a .days .now) (a .first .now) (a .second .now)) (query (a .k)) (a .ts) (a .te)
     (list-rings .ensures .0) (rings .given .1) ∙ ap found
@@ -71,9 +71,7 @@ returns c =
     sym
     (
     rings-are (tableOf (a .days .now) (a .first .now) (a .second .now)) (query (a .k)) (a .ts) (a .te)
-    (list-rings .ensures .0) (replicate 2048 0) (replicate 2048 0) (replicate 2048 0)
-    (list-rings .ensures .1 .0) (list-rings .ensures .1 .1 .0) (list-rings .ensures .1 .1 .1 .0)
-    (rings .given .1)
+    (list-rings .ensures .0) (each (replicate 2048 0)) (list-rings .ensures .1 .0) (rings .given .1)
     )
     )
     ) (write-listing .ensures)
@@ -93,8 +91,8 @@ refused-requires c κs =
     omega (
       arith,
       pre,
-      refused-place (tableOf (a .days .now) (a .first .now) (a .second .now)) (query (a .k)) (a .ts) (a .te) 2048 2048
-          2048 12288 (sym (list-rings .ensures .0) ∙ rings2 .given .1),
+      refused-place (tableOf (a .days .now) (a .first .now) (a .second .now)) (query (a .k)) (a .ts) (a .te) (each 2048)
+          12288 (sym (list-rings .ensures .0) ∙ rings2 .given .1),
     )
 
 returns-2 : tie.Need-returns-2

@@ -2,6 +2,7 @@
 -- Assumes nothing.
 use Prim.Native.Nat.{_-_, _≤_}
 use native.Mathlib.Omega.{arith}
+use Rattle.listing.specs.ListingCall.{columnsOf}
 use Rattle.listing.specs.ProgramSteps.{entryAt}
 use Rattle.listing.specs.Listing.{span}
 use Rattle.listing.proofs.PrintingLaws.{Printing, print-start, print-next, print-end}
@@ -9,7 +10,7 @@ use Rattle.listing.proofs.program.write_lines.Statement.{statement}
 use Rattle.listing.proofs.program.write_lines.Tie as tie
 
 abbrev Inv-loop : tie.InvT-loop
-Inv-loop starts ends rows count output₀ at₀ i₀ output at i = (i ≤ count) × Printing starts ends rows output₀ output at i
+Inv-loop starts ends rows count output₀ at₀ i₀ output at i = (i ≤ count) × Printing (columnsOf starts ends rows) output₀ output at i
 
 abbrev μ-loop : tie.MeasureT-loop
 μ-loop starts ends rows count output₀ at₀ i₀ output at i = count - i
@@ -17,7 +18,7 @@ abbrev μ-loop : tie.MeasureT-loop
 loop-holds : tie.Need-loop-holds Inv-loop μ-loop
 loop-holds c =
     let args = c .before .before .before .before .args in
-    let a = args in (omega arith, print-start (a .starts .now) (a .ends .now) (a .rows .now) (a .output .now))
+    let a = args in (omega arith, print-start (columnsOf (a .starts .now) (a .ends .now) (a .rows .now)) (a .output .now))
 
 mul-start : tie.Need-mul-start Inv-loop μ-loop
 mul-start c =
@@ -97,7 +98,7 @@ loop-again c =
     let pre = pre′ in
     let put-line = put-line′ in (
       omega (arith, loop-test .taken),
-      print-next (a .starts .now) (a .ends .now) (a .rows .now) (loop .inv .1) (loop-test .taken) (pre .1)
+      print-next (columnsOf (a .starts .now) (a .ends .now) (a .rows .now)) (loop .inv .1) (loop-test .taken) (pre .1)
           (put-line .ensures .answers) (put-line .ensures .holds),
     )
 
@@ -112,7 +113,7 @@ returns c =
     let args = c .before .before .before .before .before .before .args in
     let a = args in
     let loop = loop′ in
-    print-end (a .starts .now) (a .ends .now) (a .rows .now) (loop .inv .1) (loop .inv .0) (c .loop-test .left)
+    print-end (columnsOf (a .starts .now) (a .ends .now) (a .rows .now)) (loop .inv .1) (loop .inv .0) (c .loop-test .left)
 
 pub write-lines-spec : {M : Type 1} → statement M
 write-lines-spec =

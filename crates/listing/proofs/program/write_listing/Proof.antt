@@ -1,6 +1,7 @@
 -- `program::write_listing` meets its contract: 10 by the test, or the header and the lines behind it.
 -- Assumes nothing.
 use borrow.Author.Needs.{needs}
+use Rattle.listing.specs.ListingCall.{columnsOf}
 use Rattle.listing.proofs.PrintingLaws.{text-none, text-done}
 use Rattle.listing.proofs.program.write_listing.Statement.{statement}
 use Rattle.listing.proofs.program.write_listing.Tie as tie
@@ -14,7 +15,7 @@ mul-size c = search needs
 returns : tie.Need-returns
 returns c =
     let args = c .before .before .before .before .before .args in
-    let a = args in text-none (a .starts .now) (a .ends .now) (a .rows .now) (a .output .now) (a .count) (c .if1 .taken)
+    let a = args in text-none (columnsOf (a .starts .now) (a .ends .now) (a .rows .now)) (a .output .now) (a .count) (c .if1 .taken)
 
 put-header-requires : tie.Need-put-header-requires
 put-header-requires c κs = search needs
@@ -34,7 +35,7 @@ returns-2 c =
     let a = args in
     let if1 = if1′ in
     let put-header = put-header′ in
-    text-done (a .starts .now) (a .ends .now) (a .rows .now) (a .output .now) (a .count) (if1 .left)
+    text-done (columnsOf (a .starts .now) (a .ends .now) (a .rows .now)) (a .output .now) (a .count) (if1 .left)
     (put-header .ensures .answers) (put-header .ensures .holds) (write-lines .ensures)
 
 pub write-listing-spec : {M : Type 1} → statement M
