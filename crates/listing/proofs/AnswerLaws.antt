@@ -3,7 +3,7 @@
 --     refused-place      a refusal's place lies in the table
 --     listed-rings, listed-none    the outcome by the answer
 --     rings-count, rings-most, rings-are, rings-rise    what stands in the columns after an answer
---     answer-none, answer-refused, answer-as   the program's answer and output, by the outcome
+--     refused-told, answer-none, answer-refused, answer-as   the program's answer and output, by the outcome
 -- Assumes nothing.
 use Prim.Native.Nat.{ℕ, zero, suc, _+_, _*_, _≤_, _<_}
 use mathlib.Core.Path.{_≡_, refl, sym, ap, subst, _∙_}
@@ -15,19 +15,20 @@ use lib.Dec.{leb, ltb, eqb}
 use borrow.Author.Tests.{ltb-false}
 use Rattle.rings.specs.Words.{_and_, _or_, no, run}
 use Rattle.rings.specs.Table.{Table, size, dayOf, firstOf, secondOf}
-use Rattle.rings.specs.Refusals.{placeOf}
+use Rattle.rings.specs.Refusals.{placeOf, toldOf}
 use Rattle.rings.specs.Checks.{_when_, _then_, inOrder, queryCheck, rangeCheck, scratchCheck}
 use Rattle.rings.specs.TableCheck.{dayBefore, rowFaults, rowCheck, tableCheck}
 use Rattle.rings.specs.Buffers.{over}
 use Rattle.rings.specs.declared.Query.{Query}
 use Rattle.rings.specs.declared.refusal.Refusal.{Refusal}
 use Rattle.rings.specs.declared.refusal.Refusal.the-variants.{UnequalColumns, TooManyRows, BadDay, BadAccounts, OutOfOrder, BadK, BadWindow, BadLengths, SmallScratch, NoRoom}
+use Rattle.rings.specs.declared.refusal.Told.{Told}
 use Rattle.rings.specs.declared.refusal.Verdict.{Verdict}
 use Rattle.rings.specs.declared.refusal.Verdict.the-variants.{Accepted, Refused}
 use Rattle.rings.proofs.CheckLaws.{accepted-right, when-accepted}
 use Rattle.listing.specs.Listing.{ListedRing, listing}
 use Rattle.listing.specs.ListingCall.{Columns, each, withEntries, listingChecks, summed, listingAnswer, listingColumns}
-use Rattle.listing.specs.Program.{Outcome, found, stopped, stoppedBy, fromList, listed}
+use Rattle.listing.specs.Program.{Outcome, found, stopped, placeLine, inputLine, stoppedBy, fromList, listed}
 use Rattle.listing.specs.ProgramText.{refusedOf, listAnswer, listOutput}
 use Rattle.listing.specs.ProgramSteps.{entriesAt, Rising, Prints}
 use Rattle.listing.specs.declared.Listed.{Listed}
@@ -187,6 +188,10 @@ module _ (t : Table) (q : Query) (lo hi : ℕ) {r : Listed} (is : r ≡ listingA
 pub answer-none : (o : Outcome) (output : List ℕ) {n line : ℕ} → o ≡ stopped n line → Prints o (Printed.Refused n line) output output
 unfolding listAnswer listOutput
 answer-none o output e = record { answer = rw e; output = refl }
+
+pub refused-told : (r : Refusal) {told : Told} {line : ℕ} → told ≡ toldOf r → line ≡ placeLine (told .place) → Printed.Refused (told .number) line ≡ refusedOf r
+unfolding toldOf refusedOf inputLine
+refused-told r {told} e l = ap (Printed.Refused (told .number)) l ∙ ap (λ (t : Told). Printed.Refused (t .number) (placeLine (t .place))) e
 
 pub answer-refused : (o : Outcome) (output : List ℕ) (f : Refusal) {a : Printed} → o ≡ stoppedBy f → a ≡ refusedOf f → Prints o a output output
 unfolding stoppedBy refusedOf listAnswer listOutput

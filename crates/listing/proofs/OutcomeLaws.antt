@@ -20,14 +20,16 @@ use Rattle.text.specs.declared.lines.QueryRead.{QueryRead}
 use Rattle.text.specs.declared.table.TableRead.{TableRead}
 use Rattle.text.proofs.ListingLaws.{listing-length}
 use Rattle.rings.specs.Table.{Table, size}
-use Rattle.rings.specs.Refusals.{numberOf, placeOf}
+use Rattle.rings.specs.Refusals.{ruleOf, numberOf, placeNumber, placeOf}
+use Rattle.rings.specs.declared.refusal.Place.{Place}
+use Rattle.rings.specs.declared.refusal.Place.the-variants.{Nowhere, Row, Entry}
 use Rattle.rings.specs.Buffers.{over}
 use Rattle.rings.specs.declared.Query.{Query}
 use Rattle.rings.specs.declared.refusal.Refusal.{Refusal}
 use Rattle.rings.specs.declared.refusal.Refusal.the-variants.{UnequalColumns, TooManyRows, BadDay, BadAccounts, OutOfOrder, BadK, BadWindow, BadLengths, SmallScratch, NoRoom, BadEntry}
 use Rattle.listing.specs.Listing.{ListedRing, listing}
 use Rattle.listing.specs.ListingCall.{each, listingAnswer}
-use Rattle.listing.specs.Program.{Outcome, found, stopped, inputLine, stoppedBy, unlessRefused, tableOf, fromList, listed, fromRows, badQuery, fromQuery, unlessLong, outcome}
+use Rattle.listing.specs.Program.{Outcome, found, stopped, placeLine, inputLine, stoppedBy, unlessRefused, tableOf, fromList, listed, fromRows, badQuery, fromQuery, unlessLong, outcome}
 use Rattle.listing.specs.ProgramText.{lineOf, listText, outcomeText, fitted, listAnswer, listOutput}
 use Rattle.listing.specs.declared.Listed.{Listed}
 use Rattle.listing.specs.declared.Printed.{Printed}
@@ -69,19 +71,14 @@ number-most SmallScratch = omega arith
 number-most NoRoom = omega arith
 number-most (BadEntry i) = omega arith
 
+place-most : (p : Place) → placeLine p ≤ placeNumber p + 2
+place-most Nowhere = omega arith
+place-most (Row j) = omega arith
+place-most (Entry i) = omega arith
+
 line-most : (r : Refusal) → inputLine r ≤ placeOf r + 2
 unfolding inputLine placeOf
-line-most UnequalColumns = omega arith
-line-most TooManyRows = omega arith
-line-most (BadDay j) = omega arith
-line-most (BadAccounts j) = omega arith
-line-most (OutOfOrder j) = omega arith
-line-most BadK = omega arith
-line-most BadWindow = omega arith
-line-most BadLengths = omega arith
-line-most SmallScratch = omega arith
-line-most NoRoom = omega arith
-line-most (BadEntry i) = omega arith
+line-most r = place-most (ruleOf r .place)
 
 by-list : (t : Table) (q : Query) (lo hi : ℕ) (a : Listed) → listingAnswer t q lo hi (each 2048) 12288 ≡ a → size t ≤ mostInput → Bounded (fromList a (listing t q lo hi))
 unfolding fromList stoppedBy ringsIn numberIn lineIn

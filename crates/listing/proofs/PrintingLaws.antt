@@ -20,11 +20,11 @@ use Rattle.text.proofs.PrintLaws.{line-length}
 use Rattle.text.proofs.ListingLaws.{listing-length}
 use Rattle.rings.specs.Words.{run}
 use Rattle.rings.specs.Buffers.{over}
-use Rattle.rings.specs.Refusals.{numberOf}
+use Rattle.rings.specs.declared.refusal.Refusal.the-variants.{NoRoom}
 use Rattle.rings.proofs.WordLaws.{length-run}
 use Rattle.listing.specs.Listing.{ListedRing, span}
 use Rattle.listing.specs.ListingCall.{Columns, withEntries}
-use Rattle.listing.specs.Program.{found, inputLine}
+use Rattle.listing.specs.Program.{found}
 use Rattle.listing.specs.ProgramText.{lineOf, listText, outcomeText, refusedOf, fitted, listAnswer, listOutput}
 use Rattle.listing.specs.ProgramSteps.{entryAt, entriesAt, ringLines, Prints}
 use Rattle.listing.specs.declared.Printed.{Printed}
@@ -107,10 +107,9 @@ module _ (c : Columns (List ℕ)) where
       listing-length (map lineOf (entriesAt c n))
       ∙ omega (arith, length-map (entriesAt c n) lineOf, entries-length c n)
 
-  pub text-none : (output : List ℕ) (n : ℕ) → length output < 22 * (n + 1)
-      → Prints (found (entriesAt c n)) (Printed.Refused 10 0) output output
-  unfolding listAnswer listOutput fitted refusedOf numberOf inputLine
-  text-none output n h = record { answer = rw (text-size n, lt-leb (22 * (n + 1)) (length output) h); output = refl }
+  pub text-none : (output : List ℕ) (n : ℕ) {a : Printed} → length output < 22 * (n + 1) → a ≡ refusedOf NoRoom → Prints (found (entriesAt c n)) a output output
+  unfolding listAnswer listOutput fitted refusedOf
+  text-none output n h e = rw e (record { answer = rw (text-size n, lt-leb (22 * (n + 1)) (length output) h); output = refl })
 
   pub text-done : (output : List ℕ) (n : ℕ) {r : Put} {o₁ o₂ : List ℕ} → 22 * (n + 1) ≤ length output
       → r ≡ putOf output 0 header → o₁ ≡ written r output 0 header → o₂ ≡ pasted o₁ 22 (ringLines (entriesAt c n))

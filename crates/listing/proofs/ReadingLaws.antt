@@ -1,6 +1,7 @@
 -- Laws of reading the program's input, over plain lists.
 --     lines-most, place-lines    no more lines than bytes; the reader's place is within the text
 --     reader-none, reader-more, reader-most    the input line of the reader's place
+--     told-rows, told-refused     what is asked for, by what the reader tells
 --     rows-asked         the columns after the reader, and its answer, are what the rows ask for
 --     query-fits         a query line is 16 bytes
 --     asks-query, asks-none    what an input asks for, by its query line
@@ -19,19 +20,21 @@ use lib.Seq.{take-at, take-length}
 use lib.Dec.{leb, eqb}
 use borrow.Author.Tests.{leb-true, lt-ltb, le-ltb}
 use Rattle.text.specs.Layout.{queryLayout, queryBytes, mostInput}
-use Rattle.text.specs.Line.{prepend, linesOf, firstLine, isWhole, rowOf, queryFrom, queryOf}
+use Rattle.text.specs.Line.{prepend, linesOf, firstLine, isWhole, rowOf, queryFrom, queryOf, queryNumber, queryPlace}
+use Rattle.text.specs.Report.{tableReport}
 use Rattle.text.specs.Table.{dayOf, firstOf, secondOf, daysOf, firstsOf, secondsOf, faultOr, judgedFrom, roomFor, tableReadOf, filled, place}
 use Rattle.text.specs.declared.lines.Line.{Line}
 use Rattle.text.specs.declared.lines.QueryRead.{QueryRead}
+use Rattle.text.specs.declared.report.Report.{Report}
 use Rattle.text.specs.declared.table.TableRead.{TableRead}
 use Rattle.text.proofs.Tests.{true-or-false}
 use Rattle.text.proofs.LineLaws.{step-none, step-short, whole-fits}
 use Rattle.text.proofs.RowsLaws.{column-length}
 use Rattle.rings.specs.Table.{tableOf as columns}
-use Rattle.rings.specs.Refusals.{numberOf}
-use Rattle.listing.specs.Program.{Outcome, stopped, readerLine, inputLine, stoppedBy, unlessRefused, tableOf, listed, fromRows, fromQuery, unlessLong, outcome}
+use Rattle.rings.specs.declared.refusal.Refusal.the-variants.{TooManyRows}
+use Rattle.listing.specs.Program.{Outcome, stopped, readerLine, stoppedBy, unlessRefused, tableOf, listed, fromRows, badQuery, fromQuery, unlessLong, outcome}
 use Rattle.rings.specs.Ring.{query}
-use Rattle.listing.specs.ProgramSteps.{askedBy, rowsOf, asked, Asks}
+use Rattle.listing.specs.ProgramSteps.{Readable, askedBy, rowsOf, asked, Asks}
 use Rattle.listing.specs.declared.program.Asked.{Asked}
 
 absurd-eq {ℓ} : {A : Type ℓ} → _≡_ {A = ℕ} 0 1 → A
@@ -101,6 +104,28 @@ unfolding readerLine
 reader-most zero = omega arith
 reader-most (suc n) = omega arith
 
+-- ---- the reader's answer in numbers
+
+unless-some : {A : Type 0} (f : ℕ → ℕ → A) (n line : ℕ) (x : A) → (n ≡ 0 → ⊥) → unlessRefused f n line x ≡ f n line
+unfolding unlessRefused
+unless-some f zero line x h = absurd (h refl)
+unless-some f (suc n) line x h = refl
+
+module _ (read : TableRead) (k lo hi : ℕ) {told : Report} (e : told ≡ tableReport read) where
+  pub told-rows : told .number ≡ 0 → Asked.Rows k lo hi (told .count) ≡ askedBy read k lo hi
+  unfolding askedBy unlessRefused
+  told-rows z =
+      let rows : Asked = Asked.Rows k lo hi (told .count) in
+      sym (ap (λ (n : ℕ). unlessRefused Asked.Refused n (readerLine (told .place)) rows) z)
+      ∙ ap (λ (t : Report). unlessRefused Asked.Refused (t .number) (readerLine (t .place)) (Asked.Rows k lo hi (t .count))) e
+
+  pub told-refused : {line : ℕ} → (told .number ≡ 0 → ⊥) → line ≡ readerLine (told .place) → Asked.Refused (told .number) line ≡ askedBy read k lo hi
+  unfolding askedBy
+  told-refused some l =
+      ap (Asked.Refused (told .number)) l
+      ∙ (sym (unless-some Asked.Refused (told .number) (readerLine (told .place)) (Asked.Rows k lo hi (told .count)) some)
+      ∙ ap (λ (t : Report). unlessRefused Asked.Refused (t .number) (readerLine (t .place)) (Asked.Rows k lo hi (t .count))) e)
+
 -- ---- rows
 
 record Fitting (room n : ℕ) (r : TableRead) : Type 0 where
@@ -137,11 +162,11 @@ module _ (text : List ℕ) (k lo hi : ℕ) (days first second : List ℕ) {days�
   by-answer (TableRead.LargeNumber n) e d f s = record { most = omega arith; is = refl }
   by-answer TableRead.Room e d f s = record { most = omega arith; is = refl }
 
-  pub rows-asked : (r : TableRead) {a : Asked} → r ≡ tableReadOf text (length days) (length first) (length second) → length days ≡ 1024 → length first ≡ 1024 → length second ≡ 1024
+  pub rows-asked : (r : TableRead) {a : Asked} → r ≡ tableReadOf text (length days) (length first) (length second) → Readable text days first second
       → days′ ≡ filled r (daysOf text) days → first′ ≡ filled r (firstsOf text) first → second′ ≡ filled r (secondsOf text) second → a ≡ askedBy r k lo hi
       → Asks (fromRows (tableReadOf text 1024 1024 1024) (tableOf text) (query k) lo hi) a days′ first′ second′
-  rows-asked r e ld lf ls d f s q =
-      let t : tableReadOf text 1024 1024 1024 ≡ r = sym (e ∙ rw (ld, lf, ls)) in
+  rows-asked r e fits d f s q =
+      let t : tableReadOf text 1024 1024 1024 ≡ r = sym (e ∙ rw (fits .days, fits .first, fits .second)) in
       rw (t, q) (by-answer r t d f s)
 
 -- ---- the query line
@@ -175,13 +200,14 @@ module _ (input : List ℕ) (short : length input ≤ mostInput) where
   asks-query {r} {k} {lo} {hi} e q h =
       record { most = h .most; is = by-query (sym q ∙ e) ∙ ap (λ (l : List ℕ). fromRows (tableReadOf l 1024 1024 1024) (tableOf l) (query k) lo hi) (sym rest-is) ∙ h .is }
 
-  pub asks-none : {r : QueryRead} (q : QueryRead) {n line : ℕ} {d f s : List ℕ} → r ≡ queryOf input → r ≡ q → fromQuery q (drop queryBytes input) ≡ stopped n line
-      → Asks (outcome input) (Asked.Refused n line) d f s
-  unfolding rowsOf asked
-  asks-none q e t h = record { most = omega arith; is = by-query (sym t ∙ e) ∙ h }
+  pub asks-none : {r : QueryRead} (q : QueryRead) {a : Asked} {d f s : List ℕ} → r ≡ queryOf input → r ≡ q → fromQuery q (drop queryBytes input) ≡ badQuery q
+      → a ≡ Asked.Refused (queryNumber r) (queryPlace r) → Asks (outcome input) a d f s
+  unfolding rowsOf asked badQuery
+  asks-none q e t h w =
+      rw w (record { most = omega arith; is = by-query e ∙ (ap (λ (x : QueryRead). fromQuery x (drop queryBytes input)) t ∙ (h ∙ ap badQuery (sym t))) })
 
-pub too-long : (input : List ℕ) → mostInput < length input → outcome input ≡ stopped 2 0
-unfolding outcome unlessLong stoppedBy numberOf inputLine
+pub too-long : (input : List ℕ) → mostInput < length input → outcome input ≡ stoppedBy TooManyRows
+unfolding outcome unlessLong
 too-long input h = rw (lt-ltb mostInput (length input) h)
 
 module _ {o : Outcome} {a : Asked} {d f s : List ℕ} (h : Asks o a d f s) where

@@ -3,6 +3,7 @@
 --     Outcome            a listing, or a refusal's number and input line
 --     rowLine j          the input line of row j
 --     readerLine n       the input line of the reader's line n
+--     placeLine p        the input line of a place of rings, or 0
 --     inputLine r        the input line of a refusal of rings, or 0
 --     stoppedBy r        the outcome for it
 --     unlessRefused      an answer for a refusal's number and input line, or another where the number is 0
@@ -25,10 +26,12 @@ use Rattle.text.specs.Table.{daysOf, firstsOf, secondsOf, tableReadOf, number, 
 use Rattle.text.specs.declared.lines.QueryRead.{QueryRead}
 use Rattle.text.specs.declared.table.TableRead.{TableRead}
 use Rattle.rings.specs.Table.{Table}
-use Rattle.rings.specs.Refusals.{numberOf}
+use Rattle.rings.specs.Refusals.{ruleOf, numberOf}
 use Rattle.rings.specs.declared.Query.{Query}
 use Rattle.rings.specs.declared.refusal.Refusal.{Refusal}
-use Rattle.rings.specs.declared.refusal.Refusal.the-variants.{UnequalColumns, TooManyRows, BadDay, BadAccounts, OutOfOrder, BadK, BadWindow, BadLengths, SmallScratch, NoRoom, BadEntry}
+use Rattle.rings.specs.declared.refusal.Refusal.the-variants.{TooManyRows}
+use Rattle.rings.specs.declared.refusal.Place.{Place}
+use Rattle.rings.specs.declared.refusal.Place.the-variants.{Nowhere, Row, Entry}
 use Rattle.listing.specs.Listing.{ListedRing, listing}
 use Rattle.listing.specs.ListingCall.{each, listingAnswer}
 use Rattle.listing.specs.declared.Listed.{Listed}
@@ -46,18 +49,13 @@ unfoldable pub readerLine : ℕ → ℕ
 readerLine zero = 0
 readerLine (suc n) = suc n + 1
 
+abbrev pub placeLine : Place → ℕ
+placeLine Nowhere = 0
+placeLine (Row j) = rowLine j
+placeLine (Entry i) = 0
+
 unfoldable pub inputLine : Refusal → ℕ
-inputLine UnequalColumns = 0
-inputLine TooManyRows = 0
-inputLine (BadDay j) = rowLine j
-inputLine (BadAccounts j) = rowLine j
-inputLine (OutOfOrder j) = rowLine j
-inputLine BadK = 0
-inputLine BadWindow = 0
-inputLine BadLengths = 0
-inputLine SmallScratch = 0
-inputLine NoRoom = 0
-inputLine (BadEntry i) = 0
+inputLine r = placeLine (ruleOf r .place)
 
 unfoldable pub stoppedBy : Refusal → Outcome
 stoppedBy r = stopped (numberOf r) (inputLine r)

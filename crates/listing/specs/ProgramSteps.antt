@@ -1,4 +1,5 @@
 -- The listing program step by step: what its functions hand to each other.
+--     Readable text d f s    a text that is not too long, and columns for its rows
 --     askedBy t k lo hi  what an input asks for, by what the reader says of its rows
 --     rowsOf a           how many rows an input has
 --     asked a d f s      the outcome of what is asked, the rows standing in front of the columns d, f, s
@@ -6,11 +7,13 @@
 --     entryAt, entriesAt    the entry at a place of a listing's columns, and the first n
 --     ringLines ls       the lines of a listing, without the header
 --     Rising c n         the columns have n entries, and each starts by its end
+--     Printable c n output    the same, and an output with room for their text
 --     Prints o a old now    the answer to an input of the outcome o, and the output, which held old
-use Prim.Native.Nat.{ℕ, _≤_, _<_}
+use Prim.Native.Nat.{ℕ, _+_, _*_, _≤_, _<_}
 use mathlib.Core.Path.{_≡_}
 use mathlib.Core.List.{List, map}
 use lib.ListN.{length, getD, take}
+use Rattle.text.specs.Layout.{mostInput}
 use Rattle.text.specs.Print.{entryLines}
 use Rattle.text.specs.Table.{number, place, count}
 use Rattle.text.specs.declared.table.TableRead.{TableRead}
@@ -23,6 +26,13 @@ use Rattle.listing.specs.Program.{Outcome, stopped, readerLine, unlessRe
 use Rattle.listing.specs.ProgramText.{lineOf, listAnswer, listOutput}
 use Rattle.listing.specs.declared.Printed.{Printed}
 use Rattle.listing.specs.declared.program.Asked.{Asked}
+
+-- the columns of the program hold as many rows as an input can have
+pub record Readable (text d f s : List ℕ) : Type 0 where
+  pub short : length text ≤ mostInput
+  pub days : length d ≡ 1024
+  pub first : length f ≡ 1024
+  pub second : length s ≡ 1024
 
 unfoldable pub askedBy : TableRead → ℕ → ℕ → ℕ → Asked
 askedBy a k lo hi = unlessRefused Asked.Refused (number a) (readerLine (place a)) (Asked.Rows k lo hi (count a))
@@ -54,6 +64,10 @@ pub record Rising (c : Columns (List ℕ)) (n : ℕ) : Type 0 where
   pub in-ends : n ≤ length (c .ends)
   pub in-rows : n ≤ length (c .rows)
   pub order : (i : ℕ) → i < n → getD (c .starts) i 0 ≤ getD (c .ends) i 0
+
+pub record Printable (c : Columns (List ℕ)) (n : ℕ) (output : List ℕ) : Type 0 where
+  pub rising : Rising c n
+  pub room : 22 * (n + 1) ≤ length output
 
 pub record Prints (o : Outcome) (a : Printed) (old now : List ℕ) : Type 0 where
   pub answer : a ≡ listAnswer o (length old)

@@ -1,23 +1,27 @@
 // The listing program's work on bytes: input text in, listing text or a refusal out.
 ghost use mathlib.Core.Path.{_≡_};
-ghost use Prim.Native.Nat.{_+_, _*_, _≤_};
+ghost use Prim.Native.Nat.{_≤_};
 ghost use lib.ListN.{length};
-ghost use Rattle.rings.specs.Refusals.{placeOf};
+ghost use Rattle.rings.specs.Refusals.{placeNumber, placeOf};
 ghost use Rattle.rings.specs.Ring.{query};
 ghost use Rattle.rings.specs.Table.{tableOf as columns};
 ghost use Rattle.text.specs.Layout.{mostInput};
+ghost use Rattle.text.specs.Line.{queryNumber, queryPlace};
 ghost use Rattle.text.specs.Table.{place, tableReadOf};
 ghost use Rattle.text.specs.Print.{pasted};
-ghost use Rattle.listing.specs.Program.{found, rowLine, readerLine, tableOf, listed, fromRows, outcome};
+ghost use Rattle.listing.specs.Program.{found, placeLine, readerLine, tableOf, listed, fromRows, outcome};
 ghost use Rattle.listing.specs.ProgramText.{refusedOf, listAnswer, listOutput};
 ghost use Rattle.listing.specs.ListingCall.{columnsOf};
-ghost use Rattle.listing.specs.ProgramSteps.{askedBy, Asks, Rising, entriesAt, ringLines, Prints};
+ghost use Rattle.listing.specs.ProgramSteps.{Readable, askedBy, Asks, Rising, entriesAt, ringLines, Printable, Prints};
 use crate::Listed;
 use crate::Printed;
 use crate::list::list_rings;
+use rings::Place;
 use rings::Query;
 use rings::Refusal;
+use rings::tell;
 use text::MOST_INPUT;
+use text::MOST_ROWS;
 use text::QUERY_BYTES;
 use text::QueryRead;
 use text::TableRead;
@@ -25,6 +29,13 @@ use text::put_header;
 use text::put_line;
 use text::read_query;
 use text::read_table;
+use text::report_query;
+use text::report_table;
+
+// The program's columns hold the listing of 2,048 rings, and its scratch is enough for 1,024 rows.
+const LISTED: usize = 2048;
+
+const SCRATCH: usize = 12288;
 
 // What an input asks for: the listing of a query over so many rows, or nothing, by a refusal.
 pub enum Asked {
@@ -40,55 +51,41 @@ pub enum Asked {
     },
 }
 
-// A refusal at a row of the table: row 0 stands in input line 2.
-fn at_row(number: u32, row: usize) -> Printed
-    requires { ⌜ row ≤ 1024 ⌝ }
-    ensures { λ r. ⌜ r ≡ Printed.Refused number (rowLine row) ⌝ }
+// The input line of a place of rings: row 0 stands in input line 2.
+fn place_line(place: Place) -> usize
+    requires { ⌜ placeNumber place ≤ 1024 ⌝ }
+    ensures { λ n. ⌜ n ≡ placeLine place ⌝ }
 {
-    Printed::Refused {
-        number,
-        line: row + 2,
+    match place {
+        Place::Nowhere => 0,
+        Place::Row(row) => row + 2,
+        Place::Entry(_) => 0,
     }
 }
 
-// Listing's refusal: its number, and its input line or 0.
+// A refusal of rings: its number, and its input line or 0.
 fn refused(r: Refusal) -> Printed
     requires { ⌜ placeOf r ≤ 1024 ⌝ }
     ensures { λ p. ⌜ p ≡ refusedOf r ⌝ }
 {
-    match r {
-        Refusal::UnequalColumns => Printed::Refused { number: 1, line: 0 },
-        Refusal::TooManyRows => Printed::Refused { number: 2, line: 0 },
-        Refusal::BadDay(row) => at_row(3, row),
-        Refusal::BadAccounts(row) => at_row(4, row),
-        Refusal::OutOfOrder(row) => at_row(5, row),
-        Refusal::BadK => Printed::Refused { number: 6, line: 0 },
-        Refusal::BadWindow => Printed::Refused { number: 7, line: 0 },
-        Refusal::BadLengths => Printed::Refused { number: 8, line: 0 },
-        Refusal::SmallScratch => Printed::Refused { number: 9, line: 0 },
-        Refusal::NoRoom => Printed::Refused {
-            number: 10,
-            line: 0,
-        },
-        Refusal::BadEntry(_) => Printed::Refused {
-            number: 14,
-            line: 0,
-        },
+    let told = tell(r);
+    let place = told.place;
+    let line = place_line(place);
+    Printed::Refused {
+        number: told.number,
+        line,
     }
 }
 
-// A refusal of the reader: its line 1 is input line 2, and its place 0 is no line.
-fn at_line(number: u32, line: usize) -> Asked
+// The input line of the reader's line: its line 1 is input line 2, and 0 is no line.
+fn reader_line(line: usize) -> usize
     requires { ⌜ line ≤ mostInput ⌝ }
-    ensures { λ r. ⌜ r ≡ Asked.Refused number (readerLine line) ⌝ }
+    ensures { λ n. ⌜ n ≡ readerLine line ⌝ }
 {
     if line == 0 {
-        return Asked::Refused { number, line: 0 };
+        return 0;
     }
-    Asked::Refused {
-        number,
-        line: line + 1,
-    }
+    line + 1
 }
 
 // What the reader's answer comes to.
@@ -96,12 +93,24 @@ fn asked_by(read: TableRead, k: u16, ts: u16, te: u16) -> Asked
     requires { ⌜ place read ≤ mostInput ⌝ }
     ensures { λ r. ⌜ r ≡ askedBy read k ts te ⌝ }
 {
-    match read {
-        TableRead::Rows(count) => Asked::Rows { k, ts, te, count },
-        TableRead::LineLength(n) => at_line(11, n),
-        TableRead::BrokenField(n) => at_line(12, n),
-        TableRead::LargeNumber(n) => at_line(13, n),
-        TableRead::Room => at_line(10, 0),
+    let told = report_table(read);
+    let number = told.number;
+    let count = told.count;
+    if number == 0 {
+        return Asked::Rows { k, ts, te, count };
+    }
+    let line = reader_line(told.place);
+    Asked::Refused { number, line }
+}
+
+// What a query line that is refused comes to.
+fn bad_query(line: QueryRead) -> Asked
+    ensures { λ r. ⌜ r ≡ Asked.Refused (queryNumber line) (queryPlace line) ⌝ }
+{
+    let told = report_query(line);
+    Asked::Refused {
+        number: told.number,
+        line: told.place,
     }
 }
 
@@ -115,9 +124,11 @@ fn read_rows(
     first: &mut [u16],
     second: &mut [u16],
 ) -> Asked
-    requires { ⌜ length (now text) ≤ mostInput ⌝ }
-    requires { ⌜ (length (now days) ≡ 1024) × (length (now first) ≡ 1024) × (length (now second) ≡ 1024) ⌝ }
-    ensures { λ r. ⌜ Asks (fromRows (tableReadOf (now (text .entry)) 1024 1024 1024) (tableOf (now (text .entry))) (query k) ts te) r (now (days .exit)) (now (first .exit)) (now (second .exit)) ⌝ }
+    requires { ⌜ Readable (now text) (now days) (now first) (now second) ⌝ }
+    ensures { λ r. ⌜ (
+        let rows = now (text .entry) in
+        let o = fromRows (tableReadOf rows 1024 1024 1024) (tableOf rows) (query k) ts te in
+        Asks o r (now (days .exit)) (now (first .exit)) (now (second .exit))) ⌝ }
 {
     let read = read_table(text, days, first, second);
     asked_by(read, k, ts, te)
@@ -125,8 +136,7 @@ fn read_rows(
 
 // The query line, then the rows.
 fn read_input(input: &[u8], days: &mut [u16], first: &mut [u16], second: &mut [u16]) -> Asked
-    requires { ⌜ length (now input) ≤ mostInput ⌝ }
-    requires { ⌜ (length (now days) ≡ 1024) × (length (now first) ≡ 1024) × (length (now second) ≡ 1024) ⌝ }
+    requires { ⌜ Readable (now input) (now days) (now first) (now second) ⌝ }
     ensures { λ r. ⌜ Asks (outcome (now (input .entry))) r (now (days .exit)) (now (first .exit)) (now (second .exit)) ⌝ }
 {
     let line = read_query(input);
@@ -135,30 +145,20 @@ fn read_input(input: &[u8], days: &mut [u16], first: &mut [u16], second: &mut [u
             return read_rows(&input[QUERY_BYTES..], k, ts, te, days, first, second);
         }
         QueryRead::BadLength => {
-            return Asked::Refused {
-                number: 11,
-                line: 1,
-            };
+            return bad_query(line);
         }
         QueryRead::BadField => {
-            return Asked::Refused {
-                number: 12,
-                line: 1,
-            };
+            return bad_query(line);
         }
         QueryRead::LargeNumber => {
-            return Asked::Refused {
-                number: 13,
-                line: 1,
-            };
+            return bad_query(line);
         }
     }
 }
 
 // The lines of the first `count` entries, behind the header's 22 bytes.
 fn write_lines(starts: &[u16], ends: &[u16], rows: &[u16], count: usize, output: &mut [u8])
-    requires { ⌜ Rising (columnsOf (now starts) (now ends) (now rows)) count ⌝ }
-    requires { ⌜ 22 * (count + 1) ≤ length (now output) ⌝ }
+    requires { ⌜ Printable (columnsOf (now starts) (now ends) (now rows)) count (now output) ⌝ }
     ensures { λ _. ⌜ (
         let c = columnsOf (now (starts .entry)) (now (ends .entry)) (now (rows .entry)) in
         now (output .exit) ≡ pasted (now (output .entry)) 22 (ringLines (entriesAt c count))) ⌝ }
@@ -189,10 +189,7 @@ fn write_listing(
 {
     let size = 22 * (count + 1);
     if output.len() < size {
-        return Printed::Refused {
-            number: 10,
-            line: 0,
-        };
+        return refused(Refusal::NoRoom);
     }
     put_header(output);
     write_lines(starts, ends, rows, count, output);
@@ -214,10 +211,10 @@ fn print_rings(
         let o = listed (columns (now (days .entry)) (now (first .entry)) (now (second .entry))) (query k) ts te in
         Prints o r (now (output .entry)) (now (output .exit))) ⌝ }
 {
-    let mut starts = [0u16; 2048];
-    let mut ends = [0u16; 2048];
-    let mut rows = [0u16; 2048];
-    let mut scratch = [0u16; 12288];
+    let mut starts = [0u16; LISTED];
+    let mut ends = [0u16; LISTED];
+    let mut rows = [0u16; LISTED];
+    let mut scratch = [0u16; SCRATCH];
     let rings = list_rings(
         days,
         first,
@@ -246,11 +243,11 @@ pub fn list_text(input: &[u8], output: &mut [u8]) -> Printed
     ensures { λ r. ⌜ now (output .exit) ≡ listOutput r (outcome (now (input .entry))) (now (output .entry)) ⌝ }
 {
     if MOST_INPUT < input.len() {
-        return Printed::Refused { number: 2, line: 0 };
+        return refused(Refusal::TooManyRows);
     }
-    let mut days = [0u16; 1024];
-    let mut first = [0u16; 1024];
-    let mut second = [0u16; 1024];
+    let mut days = [0u16; MOST_ROWS];
+    let mut first = [0u16; MOST_ROWS];
+    let mut second = [0u16; MOST_ROWS];
     let asked = read_input(input, &mut days, &mut first, &mut second);
     match asked {
         Asked::Refused { number, line } => {

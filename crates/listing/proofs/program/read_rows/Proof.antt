@@ -20,7 +20,7 @@ asked-by-requires c κs =
     let read-table = read-table′ in
     omega (
       arith,
-      pre .0,
+      pre .short,
       place-lines (a .text .now) (length (a .days .now)) (length (a .first .now)) (length (a .second .now))
           (read-table .ensures .answers),
     )
@@ -43,7 +43,7 @@ returns c =
     let read-table = read-table′ in
     let pre = pre′ in
     rows-asked (a .text .now) (a .k) (a .ts) (a .te) (a .days .now) (a .first .now) (a .second .now)
-    (read-table .result) (read-table .ensures .answers) (pre .1 .0) (pre .1 .1) (pre .1 .2) (read-table .ensures .days-hold)
+    (read-table .result) (read-table .ensures .answers) pre (read-table .ensures .days-hold)
     (read-table .ensures .first-hold) (read-table .ensures .second-hold) (c .asked-by .ensures)
 
 pub read-rows-spec : {M : Type 1} → statement M

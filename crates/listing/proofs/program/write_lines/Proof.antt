@@ -23,44 +23,44 @@ loop-holds c =
 mul-start : tie.Need-mul-start Inv-loop μ-loop
 mul-start c =
     let pre′ = c .before .before .before .before .before .before .pre in
-    let pre = pre′ in omega (arith, c .loop-test .taken, pre .0 .most)
+    let pre = pre′ in omega (arith, c .loop-test .taken, pre .rising .most)
 
 shared-slice-read-start : tie.Need-shared-slice-read-start Inv-loop μ-loop
 shared-slice-read-start c =
     let loop-test = c .before .loop-test in
     let pre′ = c .before .before .before .before .before .before .before .pre in
-    let pre = pre′ in omega (arith, loop-test .taken, pre .0 .in-starts)
+    let pre = pre′ in omega (arith, loop-test .taken, pre .rising .in-starts)
 
 mul-end : tie.Need-mul-end Inv-loop μ-loop
 mul-end c =
     let loop-test = c .before .loop-test in
     let pre′ = c .before .before .before .before .before .before .before .pre in
-    let pre = pre′ in omega (arith, loop-test .taken, pre .0 .most)
+    let pre = pre′ in omega (arith, loop-test .taken, pre .rising .most)
 
 shared-slice-read-end : tie.Need-shared-slice-read-end Inv-loop μ-loop
 shared-slice-read-end c =
     let loop-test = c .before .before .loop-test in
     let pre′ = c .before .before .before .before .before .before .before .before .pre in
-    let pre = pre′ in omega (arith, loop-test .taken, pre .0 .in-ends)
+    let pre = pre′ in omega (arith, loop-test .taken, pre .rising .in-ends)
 
 sub-put-line : tie.Need-sub-put-line Inv-loop μ-loop
 sub-put-line c =
     let loop-test = c .before .before .before .loop-test in
     let loop′ = c .before .before .before .before .loop in
     let pre′ = c .before .before .before .before .before .before .before .before .before .pre in
-    let pre = pre′ in let loop = loop′ in omega (arith, pre .0 .order (loop .i) (loop-test .taken))
+    let pre = pre′ in let loop = loop′ in omega (arith, pre .rising .order (loop .i) (loop-test .taken))
 
 mul-put-line : tie.Need-mul-put-line Inv-loop μ-loop
 mul-put-line c =
     let loop-test = c .before .before .before .loop-test in
     let pre′ = c .before .before .before .before .before .before .before .before .before .pre in
-    let pre = pre′ in omega (arith, loop-test .taken, pre .0 .most)
+    let pre = pre′ in omega (arith, loop-test .taken, pre .rising .most)
 
 shared-slice-read-put-line : tie.Need-shared-slice-read-put-line Inv-loop μ-loop
 shared-slice-read-put-line c =
     let loop-test′ = c .before .before .before .before .loop-test in
     let pre′ = c .before .before .before .before .before .before .before .before .before .before .pre in
-    let loop-test = loop-test′ in let pre = pre′ in omega (arith, loop-test .taken, pre .0 .in-rows)
+    let loop-test = loop-test′ in let pre = pre′ in omega (arith, loop-test .taken, pre .rising .in-rows)
 
 put-line-requires : tie.Need-put-line-requires Inv-loop μ-loop
 put-line-requires c κs = tt
@@ -71,13 +71,13 @@ add-at c =
     let loop′ = c .before .before .before .before .before .before .before .before .loop in
     let pre′ = c .before .before .before .before .before .before .before .before .before .before .before .before .before .pre in
     let loop-test = loop-test′ in
-    let pre = pre′ in let loop = loop′ in omega (arith, loop-test .taken, pre .0 .most, loop .inv .1 .next)
+    let pre = pre′ in let loop = loop′ in omega (arith, loop-test .taken, pre .rising .most, loop .inv .1 .next)
 
 add-i : tie.Need-add-i Inv-loop μ-loop
 add-i c =
     let loop-test′ = c .before .before .before .before .before .before .before .loop-test in
     let pre′ = c .before .before .before .before .before .before .before .before .before .before .before .before .before .pre in
-    let loop-test = loop-test′ in let pre = pre′ in omega (arith, loop-test .taken, pre .0 .most)
+    let loop-test = loop-test′ in let pre = pre′ in omega (arith, loop-test .taken, pre .rising .most)
 
 loop-less : tie.Need-loop-less Inv-loop μ-loop
 loop-less c =
@@ -98,7 +98,7 @@ loop-again c =
     let pre = pre′ in
     let put-line = put-line′ in (
       omega (arith, loop-test .taken),
-      print-next (columnsOf (a .starts .now) (a .ends .now) (a .rows .now)) (loop .inv .1) (loop-test .taken) (pre .1)
+      print-next (columnsOf (a .starts .now) (a .ends .now) (a .rows .now)) (loop .inv .1) (loop-test .taken) (pre .room)
           (put-line .ensures .answers) (put-line .ensures .holds),
     )
 
