@@ -1,17 +1,20 @@
 -- An export hands on what its call answered: v is the answer that came back, a the answer by the definition, n the numbers told.
+--     refusal-told       the numbers of a refusal
 --     told               n for a report of v is n for the report of a
 --     *-told             one for each call with buffers: its buffers at exit go by a as they go by v
 use Prim.Native.Nat.{ℕ}
 use mathlib.Core.Path.{_≡_, _∙_, ap}
 use mathlib.Core.List.{List}
 use Rattle.rings.specs.Table.{Table}
-use Rattle.rings.specs.Refusals.{Report, verdictReport, countedReport}
+use Rattle.rings.specs.Refusals.{Report, placeNumber, placeOf, toldOf, refused, verdictReport, countedReport}
 use Rattle.rings.specs.Buffers.{verdictScratch, countedScratch}
 use Rattle.rings.specs.WindowRingCall.{ringMarks}
 use Rattle.rings.specs.CoreTimesCall.{accountColumn, rowColumn}
 use Rattle.rings.specs.RecallCall.{Columns, recallMarks}
 use Rattle.rings.specs.MinimalWindowsCall.{minimalRows, minimalStarts, minimalEnds}
 use Rattle.rings.specs.declared.Query.{Query}
+use Rattle.rings.specs.declared.refusal.Refusal.{Refusal}
+use Rattle.rings.specs.declared.refusal.Told.{Told as RingsTold}
 use Rattle.rings.specs.declared.refusal.Verdict.{Verdict}
 use Rattle.rings.specs.declared.refusal.Counted.{Counted}
 use Rattle.text.specs.Table.{filled}
@@ -34,6 +37,14 @@ pub told : {A : Type 0} (report : A → Report) {v a : A} {n : Numbers} → v �
 told report {n = n} e h =
     let f = h ∙ ap (λ x. numbers (report x)) e in
     record { number = ap (λ x. x .number) f; place = ap (λ x. x .place) f; count = ap (λ x. x .count) f }
+
+-- a refusal of rings, by its number and its place
+abbrev row : ℕ → ℕ → Numbers
+row n place = record { number = n; place = place; count = 0 }
+
+pub refusal-told : (r : Refusal) {t : RingsTold} {p : ℕ} → t ≡ toldOf r → p ≡ placeNumber (t .place) → row (t .number) p ≡ numbers (refused r)
+unfolding toldOf refused placeOf
+refusal-told r {t} e l = ap (row (t .number)) l ∙ ap (λ (x : RingsTold). row (x .number) (placeNumber (x .place))) e
 
 pub ring-told : (t : Table) (q : Query) (s e : ℕ) (old before : List ℕ) {v a : Counted} {n : Numbers} {marks scratch : List ℕ}
     → v ≡ a → marks ≡ ringMarks v t q s e old → scratch ≡ countedScratch v before → n ≡ numbers (countedReport v)
