@@ -70,6 +70,6 @@ pub(crate) const ENTRY_BYTES: usize = DAY_WIDTH + DAY_WIDTH + DAY_WIDTH + ROWS_W
 pub(crate) const REFUSED_BYTES: usize = 7 + NUMBER_WIDTH + PLACE_WIDTH + 1;
 
 // The listing program's longest input: a query line and 1,024 lines of a table, in all 18,448 bytes.
-const MOST_ROWS: usize = 1024;
+pub const MOST_ROWS: usize = 1024;
 
 pub const MOST_INPUT: usize = QUERY_BYTES + MOST_ROWS * LINE_BYTES;
