@@ -13,7 +13,7 @@ use native.Mathlib.Omega.{arith}
 use lib.ListN.{length, drop, length-append, length-map}
 use lib.Dec.{leb, ltb, eqb}
 use borrow.Author.Tests.{ltb-false}
-use Rattle.rings.specs.Words.{_and_, _or_, no, run}
+use Rattle.rings.specs.Words.{_and_, _or_, no, tabulate}
 use Rattle.rings.specs.Table.{Table, size, dayOf, firstOf, secondOf}
 use Rattle.rings.specs.Refusals.{placeOf, toldOf}
 use Rattle.rings.specs.Checks.{_when_, _then_, inOrder, queryCheck, rangeCheck, scratchCheck}
@@ -71,10 +71,10 @@ unfolding _then_
 low-then n Accepted w f g = g
 low-then n (Refused r) w f g = f
 
-low-order : (m : ℕ) (f : ℕ → Verdict) (i n : ℕ) → i + n ≤ m → ((j : ℕ) → j < m → Low m (f j)) → Low m (inOrder (run f i n))
-unfolding inOrder run
+low-order : (m : ℕ) (f : ℕ → Verdict) (i n : ℕ) → i + n ≤ m → ((j : ℕ) → j < m → Low m (f j)) → Low m (inOrder (tabulate f i n))
+unfolding inOrder tabulate
 low-order m f i zero l h = low-accepted m
-low-order m f i (suc n) l h = low-then m (f i) (inOrder (run f (suc i) n)) (h i (omega arith)) (low-order m f (suc i) n (omega arith) h)
+low-order m f i (suc n) l h = low-then m (f i) (inOrder (tabulate f (suc i) n)) (h i (omega arith)) (low-order m f (suc i) n (omega arith) h)
 
 low-row : (n j before day a b : ℕ) → j < n → Low n (rowFaults j before day a b)
 unfolding rowFaults placeOf
@@ -86,9 +86,9 @@ low-row n j before day a b h =
 low-table : (t : Table) → Low (size t) (tableCheck t)
 unfolding tableCheck rowCheck placeOf
 low-table t =
-    low-then (size t) (UnequalColumns when no (eqb (length (t .first)) (size t) and eqb (length (t .second)) (size t))) (TooManyRows when ltb 16384 (size t) then inOrder (run (rowCheck t) 0 (size t)))
+    low-then (size t) (UnequalColumns when no (eqb (length (t .first)) (size t) and eqb (length (t .second)) (size t))) (TooManyRows when ltb 16384 (size t) then inOrder (tabulate (rowCheck t) 0 (size t)))
     (low-when (size t) UnequalColumns (no (eqb (length (t .first)) (size t) and eqb (length (t .second)) (size t))) (omega arith))
-    (low-then (size t) (TooManyRows when ltb 16384 (size t)) (inOrder (run (rowCheck t) 0 (size t))) (low-when (size t) TooManyRows (ltb 16384 (size t)) (omega arith))
+    (low-then (size t) (TooManyRows when ltb 16384 (size t)) (inOrder (tabulate (rowCheck t) 0 (size t))) (low-when (size t) TooManyRows (ltb 16384 (size t)) (omega arith))
     (low-order (size t) (rowCheck t) 0 (size t) (omega arith) (λ j h. low-row (size t) j (dayBefore t j) (dayOf t j) (firstOf t j) (secondOf t j) h)))
 
 low-query : (n : ℕ) (q : Query) → Low n (queryCheck q)

@@ -16,17 +16,17 @@ use native.Mathlib.Omega.{arith}
 use mathlib.Core.Path.{_≡_, refl, sym, _∙_, ap, subst}
 use mathlib.Core.Logic.{_⊎_, ⊎-elim}
 use mathlib.Core.Bool.{Bool, true, false}
-use mathlib.Core.List.{List, [], _∷_, map, List·Memᴰ as Mem, List·Memᴰ·head as here, List·Memᴰ·tail as there, List·Memᴰ·not-nil as not-nil, List·Memᴰ·cases-cons as cases-cons, Memᴰ·cast as mem-cast}
+use mathlib.Core.List.{List, [], _∷_, map, List·Memᴰ as Mem, List·Memᴰ·head as here, List·Memᴰ·tail as there, List·Memᴰ·not-nil as not-nil, List·Memᴰ·cases-cons as cases-cons, Memᴰ·cast as mem-cast, flatten}
 use lib.ListN.{length, length-map, length-append}
-use Rattle.rings.specs.Words.{_and_, no, run, joined, kept, chosen, oneOf, Pairwise}
+use Rattle.rings.specs.Words.{_and_, no, tabulate, consIf, filterBy, any, Pairwise}
 use Rattle.rings.specs.Words.Pairwise.{none, more}
 use Rattle.rings.specs.Table.{Table, size}
 use Rattle.rings.specs.Ring.{ring, members}
 use Rattle.rings.specs.CoreTimes.{never}
 use Rattle.rings.specs.Windows.{Window, windowsFrom, windows}
 use Rattle.rings.specs.declared.Query.{Query}
-use Rattle.rings.proofs.WordLaws.{look, clash, and-i, and-l, and-r, length-run}
-use Rattle.rings.proofs.ListLaws.{chosen-yes, chosen-no, mem-chosen, chosen-mem, mem-map, map-mem, oneOf-i, oneOf-e, pair-chosen, pair-map, pair-weaken, pair-unique}
+use Rattle.rings.proofs.WordLaws.{true-or-false, clash, and-i, and-l, and-r, length-tabulate}
+use Rattle.rings.proofs.ListLaws.{filterBy-yes, filterBy-no, mem-filterBy, filterBy-mem, mem-map, map-mem, any-i, any-e, pair-filterBy, pair-map, pair-weaken, pair-unique}
 use Rattle.rings.proofs.PeelLaws.{members-length}
 use Rattle.rings.proofs.RingLaws.{ring-sized}
 use Rattle.rings.proofs.WindowLaws.{OfRange, Earlier, windows-e, windows-i, windows-order}
@@ -50,30 +50,30 @@ longest-suc n = ap (λ (m : ℕ). m / 2) twice ∙ (add-mul-div-right (n * (n + 
         a ∙ (ap (λ (m : ℕ). m + (suc n + 1)) b ∙ omega arith)
 
 pub windows-length : (lo hi : ℕ) → length (windows lo hi) ≡ longest (daysOf lo hi)
-unfolding windows daysOf run joined windowsFrom longest
+unfolding windows daysOf tabulate flatten windowsFrom longest
 windows-length lo hi = from (suc hi - lo) lo refl
   where
-    from : (n i : ℕ) → n ≡ suc hi - i → length (joined (run (windowsFrom hi) i n)) ≡ longest n
+    from : (n i : ℕ) → n ≡ suc hi - i → length (flatten (tabulate (windowsFrom hi) i n)) ≡ longest n
     from zero i e = refl
     from (suc n) i e =
-        let a : length (windowsFrom hi i) ≡ suc n = length-run (λ d. record { start = i; end = d }) i (suc hi - i) ∙ sym e in
-        let b : length (joined (run (windowsFrom hi) (suc i) n)) ≡ longest n = from n (suc i) (omega arith) in
-        length-append (windowsFrom hi i) (joined (run (windowsFrom hi) (suc i) n)) ∙ (ap (λ (m : ℕ). m + length (joined (run (windowsFrom hi) (suc i) n))) a ∙ (ap (λ (m : ℕ). suc n + m) b ∙ sym (longest-suc n)))
+        let a : length (windowsFrom hi i) ≡ suc n = length-tabulate (λ d. record { start = i; end = d }) i (suc hi - i) ∙ sym e in
+        let b : length (flatten (tabulate (windowsFrom hi) (suc i) n)) ≡ longest n = from n (suc i) (omega arith) in
+        length-append (windowsFrom hi i) (flatten (tabulate (windowsFrom hi) (suc i) n)) ∙ (ap (λ (m : ℕ). m + length (flatten (tabulate (windowsFrom hi) (suc i) n))) a ∙ (ap (λ (m : ℕ). suc n + m) b ∙ sym (longest-suc n)))
 
-chosen-length : {A : Type 0} (p : A → Bool) (xs : List A) → length (chosen p xs) ≤ length xs
-unfolding chosen
-chosen-length p [] = le-refl 0
-chosen-length p (x ∷ xs) =
-    let h : length (chosen p xs) ≤ length xs = chosen-length p xs in
-    ⊎-elim (λ a. let e : length (chosen p (x ∷ xs)) ≡ suc (length (chosen p xs)) = ap length (chosen-yes p x xs a) in omega arith)
-    (λ a. let e : length (chosen p (x ∷ xs)) ≡ length (chosen p xs) = ap length (chosen-no p x xs a) in omega arith) (look (p x))
+filterBy-length : {A : Type 0} (p : A → Bool) (xs : List A) → length (filterBy p xs) ≤ length xs
+unfolding filterBy
+filterBy-length p [] = le-refl 0
+filterBy-length p (x ∷ xs) =
+    let h : length (filterBy p xs) ≤ length xs = filterBy-length p xs in
+    ⊎-elim (λ a. let e : length (filterBy p (x ∷ xs)) ≡ suc (length (filterBy p xs)) = ap length (filterBy-yes p x xs a) in omega arith)
+    (λ a. let e : length (filterBy p (x ∷ xs)) ≡ length (filterBy p xs) = ap length (filterBy-no p x xs a) in omega arith) (true-or-false (p x))
 
 pub listing-most : (t : Table) (q : Query) (lo hi : ℕ) → length (listing t q lo hi) ≤ longest (daysOf lo hi)
 unfolding listing
 listing-most t q lo hi =
     let test : Window → Bool = λ w. tight t q (w .start) (w .end) in
-    let a : length (map (entryOf t q) (chosen test (windows lo hi))) ≡ length (chosen test (windows lo hi)) = length-map (chosen test (windows lo hi)) (entryOf t q) in
-    let b : length (chosen test (windows lo hi)) ≤ length (windows lo hi) = chosen-length test (windows lo hi) in
+    let a : length (map (entryOf t q) (filterBy test (windows lo hi))) ≡ length (filterBy test (windows lo hi)) = length-map (filterBy test (windows lo hi)) (entryOf t q) in
+    let b : length (filterBy test (windows lo hi)) ≤ length (windows lo hi) = filterBy-length test (windows lo hi) in
     let c : length (windows lo hi) ≡ longest (daysOf lo hi) = windows-length lo hi in
     omega arith
 
@@ -146,13 +146,13 @@ same-rows-i [] = refl
 same-rows-i (true ∷ m) = and-i refl (same-rows-i m)
 same-rows-i (false ∷ m) = and-i refl (same-rows-i m)
 
-distinct-again : (m : List Bool) (ms : List (List Bool)) → oneOf (sameRows m) ms ≡ true → distinct (m ∷ ms) ≡ distinct ms
-unfolding distinct kept no
-distinct-again m ms h = ap (λ (b : Bool). kept (no b) m (distinct ms)) h
+distinct-again : (m : List Bool) (ms : List (List Bool)) → any (sameRows m) ms ≡ true → distinct (m ∷ ms) ≡ distinct ms
+unfolding distinct consIf no
+distinct-again m ms h = ap (λ (b : Bool). consIf (no b) m (distinct ms)) h
 
-distinct-new : (m : List Bool) (ms : List (List Bool)) → oneOf (sameRows m) ms ≡ false → distinct (m ∷ ms) ≡ m ∷ distinct ms
-unfolding distinct kept no
-distinct-new m ms h = ap (λ (b : Bool). kept (no b) m (distinct ms)) h
+distinct-new : (m : List Bool) (ms : List (List Bool)) → any (sameRows m) ms ≡ false → distinct (m ∷ ms) ≡ m ∷ distinct ms
+unfolding distinct consIf no
+distinct-new m ms h = ap (λ (b : Bool). consIf (no b) m (distinct ms)) h
 
 distinct-nil : distinct [] ≡ []
 unfolding distinct
@@ -162,23 +162,23 @@ distinct-mem : (ms : List (List Bool)) {z : List Bool} → Mem z (distinct ms) �
 distinct-mem [] {z} h = subst (Mem z) distinct-nil h
 distinct-mem (m ∷ ms) {z} h =
     ⊎-elim (λ a. there (distinct-mem ms (subst (Mem z) (distinct-again m ms a) h)))
-    (λ a. ⊎-elim (λ e. here e) (λ r. there (distinct-mem ms r)) (cases-cons (subst (Mem z) (distinct-new m ms a) h))) (look (oneOf (sameRows m) ms))
+    (λ a. ⊎-elim (λ e. here e) (λ r. there (distinct-mem ms r)) (cases-cons (subst (Mem z) (distinct-new m ms a) h))) (true-or-false (any (sameRows m) ms))
 
 mem-distinct : (ms : List (List Bool)) {z : List Bool} → Mem z ms → Mem z (distinct ms)
 mem-distinct [] h = absurd (not-nil h)
 mem-distinct (m ∷ ms) {z} h =
     ⊎-elim (λ a. subst (Mem z) (sym (distinct-again m ms a)) (mem-distinct ms (later a)))
-    (λ a. subst (Mem z) (sym (distinct-new m ms a)) (⊎-elim (λ e. here e) (λ r. there (mem-distinct ms r)) (cases-cons h))) (look (oneOf (sameRows m) ms))
+    (λ a. subst (Mem z) (sym (distinct-new m ms a)) (⊎-elim (λ e. here e) (λ r. there (mem-distinct ms r)) (cases-cons h))) (true-or-false (any (sameRows m) ms))
   where
     -- a row set that comes again stands at a later place too
-    later : oneOf (sameRows m) ms ≡ true → Mem z ms
-    later a = let w = oneOf-e (sameRows m) ms a in ⊎-elim (λ e. mem-cast (e ∙ same-rows-e m (w .it) (w .has)) (w .member)) (λ r. r) (cases-cons h)
+    later : any (sameRows m) ms ≡ true → Mem z ms
+    later a = let w = any-e (sameRows m) ms a in ⊎-elim (λ e. mem-cast (e ∙ same-rows-e m (w .it) (w .has)) (w .member)) (λ r. r) (cases-cons h)
 
 distinct-apart : (ms : List (List Bool)) → Pairwise Apart (distinct ms)
 distinct-apart [] = subst (Pairwise Apart) (sym distinct-nil) none
 distinct-apart (m ∷ ms) =
     ⊎-elim (λ a. subst (Pairwise Apart) (sym (distinct-again m ms a)) (distinct-apart ms))
-    (λ a. subst (Pairwise Apart) (sym (distinct-new m ms a)) (more (λ y h e. clash (oneOf-i (sameRows m) ms y (distinct-mem ms h) (subst (λ (z : List Bool). sameRows m z ≡ true) e (same-rows-i m))) a) (distinct-apart ms))) (look (oneOf (sameRows m) ms))
+    (λ a. subst (Pairwise Apart) (sym (distinct-new m ms a)) (more (λ y h e. clash (any-i (sameRows m) ms y (distinct-mem ms h) (subst (λ (z : List Bool). sameRows m z ≡ true) e (same-rows-i m))) a) (distinct-apart ms))) (true-or-false (any (sameRows m) ms))
 
 -- ---- the rings of a range
 
@@ -196,14 +196,14 @@ module _ (t : Table) (q : Query) (lo hi : ℕ) where
       let x = p .0 in let y = p .1 in
       ⊎-elim (λ l. omega arith) (λ l. let k = l .1 in omega arith) o
 
-  tights-e : (w : Window) → Mem w (chosen test (windows lo hi)) → OfRange lo hi w × (test w ≡ true)
-  tights-e w m = let a = chosen-mem test (windows lo hi) m in (windows-e lo hi w (a .0), a .1)
+  tights-e : (w : Window) → Mem w (filterBy test (windows lo hi)) → OfRange lo hi w × (test w ≡ true)
+  tights-e w m = let a = filterBy-mem test (windows lo hi) m in (windows-e lo hi w (a .0), a .1)
 
-  tights-i : (w : Window) → OfRange lo hi w → test w ≡ true → Mem w (chosen test (windows lo hi))
-  tights-i w o h = mem-chosen test (windows lo hi) (windows-i lo hi w o) h
+  tights-i : (w : Window) → OfRange lo hi w → test w ≡ true → Mem w (filterBy test (windows lo hi))
+  tights-i w o h = mem-filterBy test (windows lo hi) (windows-i lo hi w o) h
 
-  tights-order : Pairwise Earlier (chosen test (windows lo hi))
-  tights-order = pair-chosen Earlier test (windows lo hi) (windows-order lo hi)
+  tights-order : Pairwise Earlier (filterBy test (windows lo hi))
+  tights-order = pair-filterBy Earlier test (windows lo hi) (windows-order lo hi)
 
   -- a tight window of the range with the ring of [s, e]
   record Tightened (s e : ℕ) : Type 0 where
@@ -221,21 +221,21 @@ module _ (t : Table) (q : Query) (lo hi : ℕ) where
       let f′ = g .from in let l′ = g .to in
       record { it = record { start = g .start; end = g .end }; of-range = record { from = omega arith; order = g .order; to = omega arith }; is-tight = g .is-tight; same = g .same; from = f′; to = l′ }
 
-  tight-ring : {s e : ℕ} → Tightened s e → Mem (ring t q s e) (map ringOf (chosen test (windows lo hi)))
-  tight-ring g = mem-cast (sym (g .same)) (mem-map ringOf (chosen test (windows lo hi)) (tights-i (g .it) (g .of-range) (g .is-tight)))
+  tight-ring : {s e : ℕ} → Tightened s e → Mem (ring t q s e) (map ringOf (filterBy test (windows lo hi)))
+  tight-ring g = mem-cast (sym (g .same)) (mem-map ringOf (filterBy test (windows lo hi)) (tights-i (g .it) (g .of-range) (g .is-tight)))
 
   -- ---- demand 3's count and sum
 
   rings : List (List Bool)
-  rings = chosen nonempty (map ringOf (windows lo hi))
+  rings = filterBy nonempty (map ringOf (windows lo hi))
 
   tights : List Window
-  tights = chosen test (windows lo hi)
+  tights = filterBy test (windows lo hi)
 
   -- the distinct rings are those of the tight windows
   same-rings : hi < never → Same (distinct rings) (map ringOf tights)
   unfolding rings tights
-  same-rings fits = record { left-apart = distinct-apart (chosen nonempty (map ringOf (windows lo hi))); right-apart = apart; to = to; back = back }
+  same-rings fits = record { left-apart = distinct-apart (filterBy nonempty (map ringOf (windows lo hi))); right-apart = apart; to = to; back = back }
     where
       apart : Pairwise Apart (map ringOf tights)
       apart =
@@ -245,7 +245,7 @@ module _ (t : Table) (q : Query) (lo hi : ℕ) where
       -- a ring that is not empty is that of its tightest window
       to : (m : List Bool) → Mem m (distinct rings) → Mem m (map ringOf tights)
       to m h =
-          let a = chosen-mem nonempty (map ringOf (windows lo hi)) (distinct-mem rings h) in
+          let a = filterBy-mem nonempty (map ringOf (windows lo hi)) (distinct-mem rings h) in
           let b = map-mem ringOf (windows lo hi) (a .0) in
           let o = windows-e lo hi (b .it) (b .member) in
           mem-cast (b .is) (tight-ring (tighten fits (b .it .start) (b .it .end) (o .from) (o .to) (subst (λ (x : List Bool). nonempty x ≡ true) (b .is) (a .1))))
@@ -259,7 +259,7 @@ module _ (t : Table) (q : Query) (lo hi : ℕ) where
           let f = b .0 .order in let l = b .0 .to in
           let r = tight-e t q (w .start) (w .end) (omega arith) (b .1) .first in
           mem-distinct rings
-          (mem-cast (a .is) (mem-chosen nonempty (map ringOf (windows lo hi)) (mem-map ringOf (windows lo hi) (windows-i lo hi w (b .0))) (nonempty-i t q (w .start) (w .end) (r .row) (r .in-ring))))
+          (mem-cast (a .is) (mem-filterBy nonempty (map ringOf (windows lo hi)) (mem-map ringOf (windows lo hi) (windows-i lo hi w (b .0))) (nonempty-i t q (w .start) (w .end) (r .row) (r .in-ring))))
 
   -- as many entries as distinct rings that are not empty
   pub distinct-listed : hi < never → length (distinctRings t q lo hi) ≡ length (listing t q lo hi)
@@ -281,19 +281,19 @@ module _ (t : Table) (q : Query) (lo hi : ℕ) where
 
   pub distinct-are : AreRings t q lo hi (distinctRings t q lo hi)
   unfolding distinctRings ringsOf
-  distinct-are = record { each = each-one; whole = whole-list; apart = distinct-apart (chosen nonempty (map ringOf (windows lo hi))) }
+  distinct-are = record { each = each-one; whole = whole-list; apart = distinct-apart (filterBy nonempty (map ringOf (windows lo hi))) }
     where
-      each-one : (m : List Bool) → Mem m (distinct (chosen nonempty (map ringOf (windows lo hi)))) → RingOf t q lo hi m
+      each-one : (m : List Bool) → Mem m (distinct (filterBy nonempty (map ringOf (windows lo hi)))) → RingOf t q lo hi m
       each-one m h =
-          let a = chosen-mem nonempty (map ringOf (windows lo hi)) (distinct-mem (chosen nonempty (map ringOf (windows lo hi))) h) in
+          let a = filterBy-mem nonempty (map ringOf (windows lo hi)) (distinct-mem (filterBy nonempty (map ringOf (windows lo hi))) h) in
           let b = map-mem ringOf (windows lo hi) (a .0) in
           let o = windows-e lo hi (b .it) (b .member) in
           record { start = b .it .start; end = b .it .end; from = o .from; order = o .order; to = o .to; is = b .is; has-row = a .1 }
 
-      whole-list : (m : List Bool) → RingOf t q lo hi m → Mem m (distinct (chosen nonempty (map ringOf (windows lo hi))))
+      whole-list : (m : List Bool) → RingOf t q lo hi m → Mem m (distinct (filterBy nonempty (map ringOf (windows lo hi))))
       whole-list m r =
-          mem-distinct (chosen nonempty (map ringOf (windows lo hi)))
-          (mem-chosen nonempty (map ringOf (windows lo hi)) (mem-cast (r .is) (mem-map ringOf (windows lo hi) (windows-i lo hi (record { start = r .start; end = r .end }) (record { from = r .from; order = r .order; to = r .to })))) (r .has-row))
+          mem-distinct (filterBy nonempty (map ringOf (windows lo hi)))
+          (mem-filterBy nonempty (map ringOf (windows lo hi)) (mem-cast (r .is) (mem-map ringOf (windows lo hi) (windows-i lo hi (record { start = r .start; end = r .end }) (record { from = r .from; order = r .order; to = r .to })))) (r .has-row))
 
   -- the same of any list of the distinct rings
   pub rings-counted : hi < never → (ms : List (List Bool)) → AreRings t q lo hi ms → length ms ≡ length (listing t q lo hi)
@@ -308,7 +308,7 @@ module _ (t : Table) (q : Query) (lo hi : ℕ) where
   -- no ring has more rows than the table
   pub sum-most : rowSum (listing t q lo hi) ≤ longest (daysOf lo hi) * size t
   unfolding listing rowSum entryOf
-  sum-most = le-trans (of-entries (chosen test (windows lo hi))) (mul-le-mul-right (size t) (subst (λ (n : ℕ). n ≤ longest (daysOf lo hi)) (length-map (chosen test (windows lo hi)) (entryOf t q)) (listing-most t q lo hi)))
+  sum-most = le-trans (of-entries (filterBy test (windows lo hi))) (mul-le-mul-right (size t) (subst (λ (n : ℕ). n ≤ longest (daysOf lo hi)) (length-map (filterBy test (windows lo hi)) (entryOf t q)) (listing-most t q lo hi)))
     where
       of-entries : (ws : List Window) → rowSum (map (entryOf t q) ws) ≤ length ws * size t
       of-entries [] = zero-le
@@ -322,7 +322,7 @@ module _ (t : Table) (q : Query) (lo hi : ℕ) where
   listing-e : (x : ListedRing) → Mem x (listing t q lo hi) → EntryOf t q lo hi x
   unfolding listing entryOf tight
   listing-e x m =
-      let a = map-mem (entryOf t q) (chosen test (windows lo hi)) m in
+      let a = map-mem (entryOf t q) (filterBy test (windows lo hi)) m in
       let b = tights-e (a .it) (a .member) in
       subst (EntryOf t q lo hi) (sym (a .is)) (record { from = b .0 .from; order = b .0 .order; to = b .0 .to; is-tightest = b .1; counts = refl })
 
@@ -330,11 +330,11 @@ module _ (t : Table) (q : Query) (lo hi : ℕ) where
   unfolding listing entryOf tight
   listing-i x o =
       mem-cast (λ i. record { start = x .start; end = x .end; rows = o .counts i })
-      (mem-map (entryOf t q) (chosen test (windows lo hi)) (tights-i (record { start = x .start; end = x .end }) (record { from = o .from; order = o .order; to = o .to }) (o .is-tightest)))
+      (mem-map (entryOf t q) (filterBy test (windows lo hi)) (tights-i (record { start = x .start; end = x .end }) (record { from = o .from; order = o .order; to = o .to }) (o .is-tightest)))
 
   pub listing-order : Pairwise Sooner (listing t q lo hi)
   unfolding listing entryOf
-  listing-order = pair-map (entryOf t q) Sooner (chosen test (windows lo hi)) tights-order
+  listing-order = pair-map (entryOf t q) Sooner (filterBy test (windows lo hi)) tights-order
 
   pub listing-is : IsListing t q lo hi (listing t q lo hi)
   listing-is = record { each = listing-e; whole = listing-i; in-order = listing-order }
@@ -362,7 +362,7 @@ module _ (t : Table) (q : Query) (lo hi : ℕ) where
   ring-listed fits s e f l h =
       record {
         entry = x;
-        once = pair-unique Sooner strict (chosen (ofRing t q (ring t q s e)) (listing t q lo hi)) (x ∷ []) (pair-chosen Sooner (ofRing t q (ring t q s e)) (listing t q lo hi) listing-order) (more (λ y m. absurd (not-nil m)) none) to back;
+        once = pair-unique Sooner strict (filterBy (ofRing t q (ring t q s e)) (listing t q lo hi)) (x ∷ []) (pair-filterBy Sooner (ofRing t q (ring t q s e)) (listing t q lo hi) listing-order) (more (λ y m. absurd (not-nil m)) none) to back;
         is-listed = listing-i x is-entry;
         only = only-x;
         is-tightest = subst (λ (m : List Bool). tightest t m (x .start) (x .end) ≡ true) (g .same) (g .is-tight);
@@ -384,9 +384,9 @@ module _ (t : Table) (q : Query) (lo hi : ℕ) where
       only-x : (y : ListedRing) → Mem y (listing t q lo hi) → ring t q (y .start) (y .end) ≡ ring t q s e → y ≡ x
       only-x y m r = entry-one y x (listing-e y m) is-entry (r ∙ sym (g .same))
 
-      to : (y : ListedRing) → Mem y (chosen (ofRing t q (ring t q s e)) (listing t q lo hi)) → Mem y (x ∷ [])
-      to y m = let a = chosen-mem (ofRing t q (ring t q s e)) (listing t q lo hi) m in here (only-x y (a .0) (same-rows-e (ring t q (y .start) (y .end)) (ring t q s e) (a .1)))
+      to : (y : ListedRing) → Mem y (filterBy (ofRing t q (ring t q s e)) (listing t q lo hi)) → Mem y (x ∷ [])
+      to y m = let a = filterBy-mem (ofRing t q (ring t q s e)) (listing t q lo hi) m in here (only-x y (a .0) (same-rows-e (ring t q (y .start) (y .end)) (ring t q s e) (a .1)))
 
-      back : (y : ListedRing) → Mem y (x ∷ []) → Mem y (chosen (ofRing t q (ring t q s e)) (listing t q lo hi))
+      back : (y : ListedRing) → Mem y (x ∷ []) → Mem y (filterBy (ofRing t q (ring t q s e)) (listing t q lo hi))
       back y m =
-          ⊎-elim (λ r. mem-cast r (mem-chosen (ofRing t q (ring t q s e)) (listing t q lo hi) (listing-i x is-entry) (subst (λ (n : List Bool). sameRows (ringOf (g .it)) n ≡ true) (g .same) (same-rows-i (ringOf (g .it)))))) (λ r. absurd (not-nil r)) (cases-cons m)
+          ⊎-elim (λ r. mem-cast r (mem-filterBy (ofRing t q (ring t q s e)) (listing t q lo hi) (listing-i x is-entry) (subst (λ (n : List Bool). sameRows (ringOf (g .it)) n ≡ true) (g .same) (same-rows-i (ringOf (g .it)))))) (λ r. absurd (not-nil r)) (cases-cons m)

@@ -27,7 +27,7 @@ use Rattle.rings.specs.declared.refusal.Refusal.the-variants.{BadLengths, NoRoo
 use Rattle.rings.specs.declared.refusal.Verdict.{Verdict}
 use Rattle.rings.specs.declared.refusal.Verdict.the-variants.{Accepted}
 use Rattle.rings.specs.declared.refusal.Counted.{Counted}
-use Rattle.rings.proofs.WordLaws.{look, and-i}
+use Rattle.rings.proofs.WordLaws.{true-or-false, and-i}
 use Rattle.rings.proofs.CheckLaws.{then-accepted, passes}
 use Rattle.rings.proofs.AcceptedLaws.{range-e}
 use Rattle.rings.proofs.ArchiveLaws.{archive-written, archive-accepted, archive-marks}
@@ -114,7 +114,7 @@ module _ (t : Table) (q : Query) (lo hi : ℕ) (table : tableCheck t ≡ Accepte
   unfolding isRings
   only-full places scratch es h =
       ⊎-elim (λ y. ltb-true places (length list) y) (λ y. absurd (subst isRings (sym (found (each places) scratch refl refl es (ltb-false places (length list) y)) ∙ h) tt))
-      (look (ltb places (length list)))
+      (true-or-false (ltb places (length list)))
 
   pub demand-3 : Demand3 t q lo hi
   unfolding listingColumns

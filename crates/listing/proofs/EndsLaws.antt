@@ -16,11 +16,11 @@ use mathlib.Core.List.{List, [], _++_}
 use lib.ListN.{length, getD}
 use lib.Dec.{leb, ltb}
 use borrow.Author.Tests.{leb-true}
-use Rattle.rings.specs.Words.{_and_, at, kept}
+use Rattle.rings.specs.Words.{_and_, at, consIf}
 use Rattle.rings.specs.Table.{Table}
 use Rattle.rings.specs.Starts.{CountsAt, Earliest}
 use Rattle.rings.specs.declared.Query.{Query}
-use Rattle.rings.proofs.WordLaws.{look, and-r}
+use Rattle.rings.proofs.WordLaws.{true-or-false, and-r}
 use Rattle.listing.specs.Listing.{ListedRing}
 use Rattle.listing.specs.ListingCall.{Columns, columnsOf}
 use Rattle.listing.specs.Inner.{startEntries, sumOf, countEntries, Uncounted, FirstCounted, Room, Entering, Progress, dayPlaces, mostRows, EndsAhead, EndsListed}
@@ -63,33 +63,33 @@ module _ (xs : List ℕ) (least s te e total : ℕ) (o : e ≤ te) where
   abbrev here : ListedRing
   here = record { start = s; end = e; rows = total + added }
 
-  entries-next : countEntries xs least s e total (te + 1 - e) ≡ kept (ltb 0 added and leb least e) here later
+  entries-next : countEntries xs least s e total (te + 1 - e) ≡ consIf (ltb 0 added and leb least e) here later
   unfolding countEntries at
   entries-next =
       ap (countEntries xs least s e total) (days-next te e o)
-      ∙ ap (λ (d : ℕ). kept (ltb 0 added and leb least e) here (countEntries xs least s d (total + added) (te + 1 - (e + 1)))) (sym (add-one e))
+      ∙ ap (λ (d : ℕ). consIf (ltb 0 added and leb least e) here (countEntries xs least s d (total + added) (te + 1 - (e + 1)))) (sym (add-one e))
 
   -- where the test says so
-  entries-by : {b c : Bool} → b ≡ (ltb 0 added and leb least e) → b ≡ c → countEntries xs least s e total (te + 1 - e) ≡ kept c here later
-  entries-by eb h = entries-next ∙ ap (λ (d : Bool). kept d here later) (sym eb ∙ h)
+  entries-by : {b c : Bool} → b ≡ (ltb 0 added and leb least e) → b ≡ c → countEntries xs least s e total (te + 1 - e) ≡ consIf c here later
+  entries-by eb h = entries-next ∙ ap (λ (d : Bool). consIf d here later) (sym eb ∙ h)
 
 -- no end before the least time is listed
 pub none-listed : (xs : List ℕ) (least s e total m : ℕ) → e + m ≤ least → countEntries xs least s e total m ≡ []
-unfolding countEntries kept
+unfolding countEntries consIf
 none-listed xs least s e total zero h = refl
 none-listed xs least s e total (suc m) h =
-    ap (λ (b : Bool). kept b (record { start = s; end = e; rows = total + at xs e }) (countEntries xs least s (suc e) (total + at xs e) m)) early
+    ap (λ (b : Bool). consIf b (record { start = s; end = e; rows = total + at xs e }) (countEntries xs least s (suc e) (total + at xs e) m)) early
     ∙ none-listed xs least s (suc e) (total + at xs e) m (omega arith)
   where
     early : (ltb 0 (at xs e) and leb least e) ≡ false
     early =
         ⊎-elim (λ y. let k = leb-true least e (and-r (ltb 0 (at xs e)) (leb least e) y) in absurd (omega arith)) (λ y. y)
-        (look (ltb 0 (at xs e) and leb least e))
+        (true-or-false (ltb 0 (at xs e) and leb least e))
 
 -- days without a count have no entry and add no row
 none-counted : (xs : List ℕ) (least s te low m e : ℕ) → low ≤ te → e + m ≡ low → Uncounted xs e low
     → countEntries xs least s e 0 (te + 1 - e) ≡ countEntries xs least s low 0 (te + 1 - low)
-unfolding kept
+unfolding consIf
 none-counted xs least s te low zero e o d U = let h : e ≡ low = omega arith in ap (λ (c : ℕ). countEntries xs least s c 0 (te + 1 - c)) h
 none-counted xs least s te low (suc m) e o d U =
     let h : getD xs e 0 ≡ 0 = U .none e (le-refl e) (omega arith) in
@@ -97,7 +97,7 @@ none-counted xs least s te low (suc m) e o d U =
     let l : e ≤ te = omega arith in
     let later-none : Uncounted xs (e + 1) low = record { order = omega arith; none = λ i a b. U .none i (omega arith) b } in
     entries-next xs least s te e 0 l
-    ∙ (ap (λ (b : Bool). kept b (here xs least s te e 0 l) (later xs least s te e 0 l)) (sym (listed-no least e h))
+    ∙ (ap (λ (b : Bool). consIf b (here xs least s te e 0 l) (later xs least s te e 0 l)) (sym (listed-no least e h))
     ∙ (ap (λ (c : ℕ). countEntries xs least s (e + 1) c (te + 1 - (e + 1))) k ∙ none-counted xs least s te low m (e + 1) o (omega arith) later-none))
 
 -- the entries of a start, as the counts of its core times say
@@ -151,7 +151,7 @@ module _ {xs : List ℕ} {least s low hi room : ℕ} {p : Passed} {old : Columns
 
     module _ (o : e ≤ hi) {b : Bool} (eb : b ≡ (ltb 0 (getD xs e 0) and leb least e)) where
       pub ends-skip : b ≡ false → EndsAt xs least s low hi room p old (e + 1) (total + getD xs e 0) count sum new
-      unfolding kept
+      unfolding consIf
       ends-skip h =
           record {
             from = omega (arith, E .from);
@@ -165,7 +165,7 @@ module _ {xs : List ℕ} {least s low hi room : ℕ} {p : Passed} {old : Columns
 
       pub ends-one : b ≡ true → {new′ : Columns (List ℕ)} → Entering room count (record { start = s; end = e; rows = total + getD xs e 0 }) new new′
           → EndsAt xs least s low hi room p old (e + 1) (total + getD xs e 0) (count + 1) (sum + (total + getD xs e 0)) new′
-      unfolding kept
+      unfolding consIf
       ends-one h {new′} N =
           record {
             from = omega (arith, E .from);

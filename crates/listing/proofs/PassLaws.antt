@@ -25,11 +25,11 @@ use Rattle.listing.proofs.RangeLaws.{rest-first, rest-next, rest-end, T
 
 module _ (t : Table) (q : Query) (lo hi room : ℕ) (old : Columns (List ℕ)) (scratch₀ : List ℕ) where
   -- row is the first row from day s on, and no row has a core time before low; old and scratch₀ are what the columns and the scratch were
-  pub record PassAt (s row low : ℕ) (p : Passed) (new : Columns (List ℕ)) (scratch times spare queue counts : List ℕ) : Type 0 where
+  pub record PassAt (s row low : ℕ) (p : Passed) (new : Columns (List ℕ)) (scratch times slack queue counts : List ℕ) : Type 0 where
     pub from : lo ≤ s
     pub to : s ≤ hi + 1
     pub split : Split (t .days) s row
-    pub start : AtStart t q hi s row scratch times spare counts
+    pub start : AtStart t q hi s row scratch times slack counts
     pub few : p .count ≤ (s - lo) * dayPlaces
     pub small : p .sum ≤ (s - lo) * (dayPlaces * mostRows)
     pub lengths : SameLengths old new
@@ -40,8 +40,8 @@ module _ (t : Table) (q : Query) (lo hi room : ℕ) (old : Columns (List ℕ)) (
     pub times-from : TimesFrom t q hi s low
 
   module _ (R : InRange q lo hi) where
-    pub pass-start : {row : ℕ} {times spare queue counts : List ℕ} → Split (t .days) lo row → AtStart t q hi lo row scratch₀ times spare counts
-        → length queue ≡ 4352 → PassAt lo row lo (passed 0 0) old scratch₀ times spare queue counts
+    pub pass-start : {row : ℕ} {times slack queue counts : List ℕ} → Split (t .days) lo row → AtStart t q hi lo row scratch₀ times slack counts
+        → length queue ≡ 4352 → PassAt lo row lo (passed 0 0) old scratch₀ times slack queue counts
     pass-start split start queue-long =
         record {
           from = le-refl lo;
@@ -58,7 +58,7 @@ module _ (t : Table) (q : Query) (lo hi room : ℕ) (old : Columns (List ℕ)) (
           times-from = from-start t q hi lo (R .to) (R .order);
         }
 
-    module _ {s row low : ℕ} {p : Passed} {new : Columns (List ℕ)} {scratch times spare queue counts : List ℕ} (P : PassAt s row low p new scratch times spare queue counts) where
+    module _ {s row low : ℕ} {p : Passed} {new : Columns (List ℕ)} {scratch times slack queue counts : List ℕ} (P : PassAt s row low p new scratch times slack queue counts) where
       pub pass-counting : Counting counts low hi
       pass-counting = record { long = start-counts (P .start) .long; order = P .low-to; last = R .to }
 
@@ -84,9 +84,9 @@ module _ (t : Table) (q : Query) (lo hi room : ℕ) (old : Columns (List ℕ)) (
                 small = omega (arith, P .small, R .to);
               }
 
-          pub pass-next : {least row′ : ℕ} {p′ : Passed} {new′ : Columns (List ℕ)} {scratch′ times′ spare′ queue′ counts′ : List ℕ} → Earliest t q hi s least
-              → EndsListed counts least s hi room p p′ new new′ → SameLengths new new′ → Split (t .days) (s + 1) row′ → AtStart t q hi (s + 1) row′ scratch′ times′ spare′ counts′
-              → length scratch′ ≡ length scratch → length queue′ ≡ length queue → PassAt (s + 1) row′ r p′ new′ scratch′ times′ spare′ queue′ counts′
+          pub pass-next : {least row′ : ℕ} {p′ : Passed} {new′ : Columns (List ℕ)} {scratch′ times′ slack′ queue′ counts′ : List ℕ} → Earliest t q hi s least
+              → EndsListed counts least s hi room p p′ new new′ → SameLengths new new′ → Split (t .days) (s + 1) row′ → AtStart t q hi (s + 1) row′ scratch′ times′ slack′ counts′
+              → length scratch′ ≡ length scratch → length queue′ ≡ length queue → PassAt (s + 1) row′ r p′ new′ scratch′ times′ slack′ queue′ counts′
           pass-next least E same split start scratch-same queue-same =
               record {
                 from = omega (arith, P .from);

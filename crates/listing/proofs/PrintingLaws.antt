@@ -18,10 +18,10 @@ use Rattle.text.proofs.Tests.{pick-true}
 use Rattle.text.proofs.PasteLaws.{pasted-length, pasted-start, pasted-pasted}
 use Rattle.text.proofs.PrintLaws.{line-length}
 use Rattle.text.proofs.ListingLaws.{listing-length}
-use Rattle.rings.specs.Words.{run}
+use Rattle.rings.specs.Words.{tabulate}
 use Rattle.rings.specs.Buffers.{over}
 use Rattle.rings.specs.declared.refusal.Refusal.the-variants.{NoRoom}
-use Rattle.rings.proofs.WordLaws.{length-run}
+use Rattle.rings.proofs.WordLaws.{length-tabulate}
 use Rattle.listing.specs.Listing.{ListedRing, span}
 use Rattle.listing.specs.ListingCall.{Columns, withEntries}
 use Rattle.listing.specs.Program.{found}
@@ -31,10 +31,10 @@ use Rattle.listing.specs.declared.Printed.{Printed}
 
 -- ---- a line an entry
 
-run-more : {A : Type 0} (f : ℕ → A) (i n : ℕ) → run f i (suc n) ≡ run f i n ++ f (i + n) ∷ []
-unfolding run
-run-more f i zero = ap (λ (k : ℕ). f k ∷ []) (sym (add-zero i))
-run-more f i (suc n) = ap (λ (l : List _). f i ∷ l) (run-more f (suc i) n ∙ ap (λ (k : ℕ). run f (suc i) n ++ f k ∷ []) (suc-add i n ∙ sym (add-suc i n)))
+tabulate-more : {A : Type 0} (f : ℕ → A) (i n : ℕ) → tabulate f i (suc n) ≡ tabulate f i n ++ f (i + n) ∷ []
+unfolding tabulate
+tabulate-more f i zero = ap (λ (k : ℕ). f k ∷ []) (sym (add-zero i))
+tabulate-more f i (suc n) = ap (λ (l : List _). f i ∷ l) (tabulate-more f (suc i) n ∙ ap (λ (k : ℕ). tabulate f (suc i) n ++ f k ∷ []) (suc-add i n ∙ sym (add-suc i n)))
 
 abbrev pub line : ListedRing → List ℕ
 line x = listingLine (x .start) (x .end) (span x) (x .rows)
@@ -54,14 +54,14 @@ lines-length (x ∷ ls) =
 module _ (c : Columns (List ℕ)) where
   entries-length : (n : ℕ) → length (entriesAt c n) ≡ n
   unfolding entriesAt
-  entries-length n = length-run (entryAt c) 0 n
+  entries-length n = length-tabulate (entryAt c) 0 n
 
   lines-next : (i : ℕ) → ringLines (entriesAt c (i + 1)) ≡ ringLines (entriesAt c i) ++ line (entryAt c i)
   unfolding entriesAt
   lines-next i =
-      ap (λ (k : ℕ). ringLines (run (entryAt c) 0 k)) (add-one i)
-      ∙ ap ringLines (run-more (entryAt c) 0 i ∙ ap (λ (k : ℕ). run (entryAt c) 0 i ++ entryAt c k ∷ []) (zero-add i))
-      ∙ lines-more (run (entryAt c) 0 i) (entryAt c i)
+      ap (λ (k : ℕ). ringLines (tabulate (entryAt c) 0 k)) (add-one i)
+      ∙ ap ringLines (tabulate-more (entryAt c) 0 i ∙ ap (λ (k : ℕ). tabulate (entryAt c) 0 i ++ entryAt c k ∷ []) (zero-add i))
+      ∙ lines-more (tabulate (entryAt c) 0 i) (entryAt c i)
 
 -- the first i lines stand behind the header
 pub record Printing (c : Columns (List ℕ)) (old now : List ℕ) (at i : ℕ) : Type 0 where
@@ -76,7 +76,7 @@ put-wrote out at bytes {r} h e q =
 
 module _ (c : Columns (List ℕ)) where
   pub print-start : (old : List ℕ) → Printing c old old 22 0
-  unfolding entriesAt run ringLines entryLines pasted
+  unfolding entriesAt tabulate ringLines entryLines pasted
   print-start old = record { next = refl; long = refl; is = sym (ap (λ (l : List ℕ). l ++ drop 22 old) (append-nil (take 22 old)) ∙ take-append-drop 22 old) }
 
   pub print-next : {old now now′ : List ℕ} {at i n : ℕ} {r : Put} → Printing c old now at i → i < n → 22 * (n + 1) ≤ length old
@@ -123,12 +123,12 @@ module _ (c : Columns (List ℕ)) where
 
 -- ---- the columns that Listing wrote
 
-run-list : {A : Type 0} (f : ℕ → A) (d : A) (i : ℕ) (ls : List A) → ((j : ℕ) → j < length ls → f (i + j) ≡ getD ls j d) → run f i (length ls) ≡ ls
-unfolding run
-run-list f d i [] h = refl
-run-list f d i (x ∷ ls) h =
+tabulate-list : {A : Type 0} (f : ℕ → A) (d : A) (i : ℕ) (ls : List A) → ((j : ℕ) → j < length ls → f (i + j) ≡ getD ls j d) → tabulate f i (length ls) ≡ ls
+unfolding tabulate
+tabulate-list f d i [] h = refl
+tabulate-list f d i (x ∷ ls) h =
     let a : f i ≡ x = ap f (sym (add-zero i)) ∙ h 0 (omega arith) in
-    let b : run f (suc i) (length ls) ≡ ls = run-list f d (suc i) ls (λ j l. ap f (suc-add i j ∙ sym (add-suc i j)) ∙ h (suc j) (omega arith)) in
+    let b : tabulate f (suc i) (length ls) ≡ ls = tabulate-list f d (suc i) ls (λ j l. ap f (suc-add i j ∙ sym (add-suc i j)) ∙ h (suc j) (omega arith)) in
     λ j. a j ∷ b j
 
 nothing : ListedRing
@@ -155,7 +155,7 @@ module _ (ls : List ListedRing) (old : Columns (List ℕ)) {c : Columns (List �
 
   pub entries-are : {n : ℕ} → n ≡ length ls → entriesAt c n ≡ ls
   unfolding entriesAt
-  entries-are m = ap (run (entryAt c) 0) m ∙ run-list (entryAt c) nothing 0 ls (λ j h. ap (entryAt c) (zero-add j) ∙ entry-is j h)
+  entries-are m = ap (tabulate (entryAt c) 0) m ∙ tabulate-list (entryAt c) nothing 0 ls (λ j h. ap (entryAt c) (zero-add j) ∙ entry-is j h)
 
   pub place-order : ((x : ListedRing) → Mem x ls → x .start ≤ x .end) → (j : ℕ) → j < length ls → getD (c .starts) j 0 ≤ getD (c .ends) j 0
   unfolding entryAt

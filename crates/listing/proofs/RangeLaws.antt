@@ -10,17 +10,17 @@ use native.Mathlib.Omega.{arith}
 use mathlib.Core.Path.{_≡_, refl, sym, _∙_, ap}
 use mathlib.Core.Logic.{_⊎_, ⊎-elim}
 use mathlib.Core.Bool.{Bool, true, false}
-use mathlib.Core.List.{List, [], _∷_, _++_, map}
+use mathlib.Core.List.{List, [], _∷_, _++_, map, flatten}
 use lib.ListN.{length, getD, replicate, length-replicate, getD-replicate}
 use lib.Dec.{leb, eqb}
 use borrow.Author.Tests.{leb-true, leb-false, eq-eqb, ne-eqb}
-use Rattle.rings.specs.Words.{run, joined, kept, chosen}
+use Rattle.rings.specs.Words.{tabulate, consIf, filterBy}
 use Rattle.rings.specs.Table.{Table, size}
 use Rattle.rings.specs.CoreTimes.{never, rowTime}
 use Rattle.rings.specs.Windows.{Window, windowsFrom, windows}
 use Rattle.rings.specs.Starts.{CountsAt, Earliest}
 use Rattle.rings.specs.declared.Query.{Query}
-use Rattle.rings.proofs.WordLaws.{look, count-none, count-pos}
+use Rattle.rings.proofs.WordLaws.{true-or-false, count-none, count-pos}
 use Rattle.rings.proofs.CoreTimeLaws.{row-time, row-past, row-later}
 use Rattle.listing.specs.Tight.{tight}
 use Rattle.listing.specs.Listing.{ListedRing, entryOf, listing}
@@ -31,41 +31,41 @@ use Rattle.listing.proofs.EndsLaws.{none-listed}
 
 -- ---- the starts of a range
 
-kept-append : {A : Type 0} (b : Bool) (x : A) (us vs : List A) → kept b x (us ++ vs) ≡ kept b x us ++ vs
-unfolding kept
-kept-append true x us vs = refl
-kept-append false x us vs = refl
+consIf-append : {A : Type 0} (b : Bool) (x : A) (us vs : List A) → consIf b x (us ++ vs) ≡ consIf b x us ++ vs
+unfolding consIf
+consIf-append true x us vs = refl
+consIf-append false x us vs = refl
 
 module _ {A : Type 0} (p : A → Bool) where
-  chosen-append : (xs ys : List A) → chosen p (xs ++ ys) ≡ chosen p xs ++ chosen p ys
-  unfolding chosen
-  chosen-append [] ys = refl
-  chosen-append (x ∷ xs) ys = ap (kept (p x) x) (chosen-append xs ys) ∙ kept-append (p x) x (chosen p xs) (chosen p ys)
+  filterBy-append : (xs ys : List A) → filterBy p (xs ++ ys) ≡ filterBy p xs ++ filterBy p ys
+  unfolding filterBy
+  filterBy-append [] ys = refl
+  filterBy-append (x ∷ xs) ys = ap (consIf (p x) x) (filterBy-append xs ys) ∙ consIf-append (p x) x (filterBy p xs) (filterBy p ys)
 
 module _ (t : Table) (q : Query) where
   abbrev test : Window → Bool
   test w = tight t q (w .start) (w .end)
 
-  starts-from : (hi n i : ℕ) → map (entryOf t q) (chosen test (joined (run (windowsFrom hi) i n))) ≡ joined (run (startEntries t q hi) i n)
-  unfolding joined run chosen startEntries
+  starts-from : (hi n i : ℕ) → map (entryOf t q) (filterBy test (flatten (tabulate (windowsFrom hi) i n))) ≡ flatten (tabulate (startEntries t q hi) i n)
+  unfolding flatten tabulate filterBy startEntries
   starts-from hi zero i = refl
   starts-from hi (suc n) i =
-      ap (map (entryOf t q)) (chosen-append test (windowsFrom hi i) (joined (run (windowsFrom hi) (suc i) n)))
-      ∙ (map-append (entryOf t q) (chosen test (windowsFrom hi i)) (chosen test (joined (run (windowsFrom hi) (suc i) n))) ∙ ap (λ (r : List ListedRing). startEntries t q hi i ++ r) (starts-from hi n (suc i)))
+      ap (map (entryOf t q)) (filterBy-append test (windowsFrom hi i) (flatten (tabulate (windowsFrom hi) (suc i) n)))
+      ∙ (map-append (entryOf t q) (filterBy test (windowsFrom hi i)) (filterBy test (flatten (tabulate (windowsFrom hi) (suc i) n))) ∙ ap (λ (r : List ListedRing). startEntries t q hi i ++ r) (starts-from hi n (suc i)))
 
   pub rest-first : (lo hi : ℕ) → listing t q lo hi ≡ restFrom t q hi lo
   unfolding listing restFrom windows
   rest-first lo hi = starts-from hi (suc hi - lo) lo
 
   pub rest-next : (hi s : ℕ) → s ≤ hi → restFrom t q hi s ≡ startEntries t q hi s ++ restFrom t q hi (s + 1)
-  unfolding restFrom joined run
+  unfolding restFrom flatten tabulate
   rest-next hi s h =
       let m : suc hi - s ≡ suc (suc hi - (s + 1)) = omega arith in
-      ap (λ (n : ℕ). joined (run (startEntries t q hi) s n)) m ∙ ap (λ (i : ℕ). startEntries t q hi s ++ joined (run (startEntries t q hi) i (suc hi - (s + 1)))) (sym (add-one s))
+      ap (λ (n : ℕ). flatten (tabulate (startEntries t q hi) s n)) m ∙ ap (λ (i : ℕ). startEntries t q hi s ++ flatten (tabulate (startEntries t q hi) i (suc hi - (s + 1)))) (sym (add-one s))
 
   pub rest-end : (hi s : ℕ) → hi < s → restFrom t q hi s ≡ []
-  unfolding restFrom joined run
-  rest-end hi s h = let m : suc hi - s ≡ 0 = omega arith in ap (λ (n : ℕ). joined (run (startEntries t q hi) s n)) m
+  unfolding restFrom flatten tabulate
+  rest-end hi s h = let m : suc hi - s ≡ 0 = omega arith in ap (λ (n : ℕ). flatten (tabulate (startEntries t q hi) s n)) m
 
   -- ---- no row has a core time at s before low
 
@@ -84,7 +84,7 @@ module _ (t : Table) (q : Query) where
     time-counted : (j : ℕ) → rowTime t q hi s j < 1025 → getD xs (rowTime t q hi s j) 0 ≡ 0 → ⊥
     time-counted j l z =
         ⊎-elim (λ y. let n = row-past t q hi s j (leb-true (size t) j y) in omega arith)
-        (λ y. let a = T .each (rowTime t q hi s j) l in let c = count-pos (λ i. eqb (rowTime t q hi s i) (rowTime t q hi s j)) (size t) j (leb-false (size t) j y) (eq-eqb (rowTime t q hi s j) (rowTime t q hi s j) refl) in omega arith) (look (leb (size t) j))
+        (λ y. let a = T .each (rowTime t q hi s j) l in let c = count-pos (λ i. eqb (rowTime t q hi s i) (rowTime t q hi s j)) (size t) j (leb-false (size t) j y) (eq-eqb (rowTime t q hi s j) (rowTime t q hi s j) refl) in omega arith) (true-or-false (leb (size t) j))
 
     no-time : (e : ℕ) → e < 1025 → ((j : ℕ) → rowTime t q hi s j ≡ e → ⊥) → getD xs e 0 ≡ 0
     no-time e l h = T .each e l ∙ count-none (λ j. eqb (rowTime t q hi s j) e) (size t) (λ j k. ne-eqb (rowTime t q hi s j) e (h j))
@@ -93,13 +93,13 @@ module _ (t : Table) (q : Query) where
       -- nor before the first counted day from low on
       pub from-counted : TimesFrom hi s r
       from-counted =
-          record { each = λ j. ⊎-elim (λ y. leb-true r (rowTime t q hi s j) y) (λ y. let l = leb-false r (rowTime t q hi s j) y in let o = C .to in absurd (time-counted j (omega arith) (C .before .none (rowTime t q hi s j) (F .each j) l))) (look (leb r (rowTime t q hi s j))) }
+          record { each = λ j. ⊎-elim (λ y. leb-true r (rowTime t q hi s j) y) (λ y. let l = leb-false r (rowTime t q hi s j) y in let o = C .to in absurd (time-counted j (omega arith) (C .before .none (rowTime t q hi s j) (F .each j) l))) (true-or-false (leb r (rowTime t q hi s j))) }
 
       -- which is not before s, where core times begin
       pub from-uncounted : s ≤ hi → r ≤ hi → Uncounted xs s r
       from-uncounted h o =
           record {
-            order = ⊎-elim (λ y. leb-true s r y) (λ y. let l = leb-false s r y in absurd (C .counted o (no-time r (omega arith) (λ j e. let a = from-start hi s top h .each j in omega arith)))) (look (leb s r));
+            order = ⊎-elim (λ y. leb-true s r y) (λ y. let l = leb-false s r y in absurd (C .counted o (no-time r (omega arith) (λ j e. let a = from-start hi s top h .each j in omega arith)))) (true-or-false (leb s r));
             none = λ e a b. no-time e (omega arith) (λ j y. let c = from-counted .each j in omega arith);
           }
 

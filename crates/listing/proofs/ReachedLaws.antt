@@ -14,7 +14,7 @@ use mathlib.Core.List.{List, [], _∷_, List·Memᴰ as Mem, List·Memᴰ·head 
 use lib.ListN.{length, getD, length-map}
 use lib.Dec.{eqb}
 use borrow.Author.Tests.{le-leb, le-ltb, eq-eqb}
-use Rattle.rings.specs.Words.{_and_, _or_, no, at, marked, run, chosen}
+use Rattle.rings.specs.Words.{_and_, _or_, no, at, marked, tabulate, filterBy}
 use Rattle.rings.specs.Table.{Table, tableOf, size, dayOf, firstOf, secondOf, windowRows}
 use Rattle.rings.specs.Ring.{joins, greatest, names, neighbour, degree, Good, inRing}
 use Rattle.rings.specs.CoreTimes.{never}
@@ -23,8 +23,8 @@ use Rattle.rings.specs.Checks.{_when_, _then_}
 use Rattle.rings.specs.TableCheck.{dayBefore, rowFaults, rowCheck, tableCheck}
 use Rattle.rings.specs.declared.Query.{Query}
 use Rattle.rings.specs.declared.refusal.Verdict.the-variants.{Accepted}
-use Rattle.rings.proofs.WordLaws.{and-i, or-l, or-r, count-pos, length-run, getD-run}
-use Rattle.rings.proofs.ListLaws.{chosen-yes}
+use Rattle.rings.proofs.WordLaws.{and-i, or-l, or-r, count-pos, length-tabulate, getD-tabulate}
+use Rattle.rings.proofs.ListLaws.{filterBy-yes}
 use Rattle.rings.proofs.PeelLaws.{within-refl}
 use Rattle.rings.proofs.RingLaws.{Inside, window-i, touch-cases, met-e, neighbour-i, ring-holds, in-marked}
 use Rattle.rings.proofs.WindowLaws.{OfRange, windows-e}
@@ -68,24 +68,24 @@ module _ (t : Table) (q : Query) (low : q .k ≤ 1) where
 -- ---- a payment on each day
 
 unfoldable pub daily : ℕ → ℕ → Table
-daily lo hi = tableOf (run (λ d. d) lo (suc hi - lo)) (run (λ d. 0) lo (suc hi - lo)) (run (λ d. 1) lo (suc hi - lo))
+daily lo hi = tableOf (tabulate (λ d. d) lo (suc hi - lo)) (tabulate (λ d. 0) lo (suc hi - lo)) (tabulate (λ d. 1) lo (suc hi - lo))
 
 module _ (lo hi : ℕ) where
   daily-size : size (daily lo hi) ≡ suc hi - lo
   unfolding daily
-  daily-size = length-run (λ d. d) lo (suc hi - lo)
+  daily-size = length-tabulate (λ d. d) lo (suc hi - lo)
 
   daily-day : (j : ℕ) → j < suc hi - lo → dayOf (daily lo hi) j ≡ lo + j
   unfolding daily dayOf at
-  daily-day j l = getD-run (λ d. d) lo (suc hi - lo) j 0 l
+  daily-day j l = getD-tabulate (λ d. d) lo (suc hi - lo) j 0 l
 
   daily-first : (j : ℕ) → j < suc hi - lo → firstOf (daily lo hi) j ≡ 0
   unfolding daily firstOf at
-  daily-first j l = getD-run (λ d. 0) lo (suc hi - lo) j 0 l
+  daily-first j l = getD-tabulate (λ d. 0) lo (suc hi - lo) j 0 l
 
   daily-second : (j : ℕ) → j < suc hi - lo → secondOf (daily lo hi) j ≡ 1
   unfolding daily secondOf at
-  daily-second j l = getD-run (λ d. 1) lo (suc hi - lo) j 0 l
+  daily-second j l = getD-tabulate (λ d. 1) lo (suc hi - lo) j 0 l
 
   row-sound : (j before day : ℕ) → before ≤ day → 1 ≤ day → day ≤ 1024 → rowFaults j before day 0 1 ≡ Accepted
   unfolding rowFaults _when_ _then_ _and_ _or_ no
@@ -108,8 +108,8 @@ module _ (lo hi : ℕ) where
   unfolding tableCheck daily _when_ _then_ _and_ no
   daily-accepted a b =
       let n : size (daily lo hi) ≡ suc hi - lo = daily-size in
-      let f : length (run {A = ℕ} (λ d. 0) lo (suc hi - lo)) ≡ size (daily lo hi) = length-run {A = ℕ} (λ d. 0) lo (suc hi - lo) ∙ sym n in
-      let g : length (run {A = ℕ} (λ d. 1) lo (suc hi - lo)) ≡ size (daily lo hi) = length-run {A = ℕ} (λ d. 1) lo (suc hi - lo) ∙ sym n in
+      let f : length (tabulate {A = ℕ} (λ d. 0) lo (suc hi - lo)) ≡ size (daily lo hi) = length-tabulate {A = ℕ} (λ d. 0) lo (suc hi - lo) ∙ sym n in
+      let g : length (tabulate {A = ℕ} (λ d. 1) lo (suc hi - lo)) ≡ size (daily lo hi) = length-tabulate {A = ℕ} (λ d. 1) lo (suc hi - lo) ∙ sym n in
       simp (eq-eqb _ _ f, eq-eqb _ _ g, le-ltb 16384 (size (daily lo hi)) (omega arith))
       (order-accepted (rowCheck (daily lo hi)) 0 (size (daily lo hi)) (λ j l k. rows-sound a b j (omega arith)))
 
@@ -126,13 +126,13 @@ module _ (lo hi : ℕ) where
           let e : dayOf (daily lo hi) (d - lo) ≡ d = daily-day (d - lo) (omega arith) ∙ omega arith in
           record { row = d - lo; in-ring = ring-all (daily lo hi) (record { k = 1 }) (le-refl 1) (w .start) (w .end) (d - lo) (record { row = omega arith; from = omega arith; to = omega arith }); dated = e }
 
-chosen-all : {A : Type 0} (p : A → Bool) (xs : List A) → ((x : A) → Mem x xs → p x ≡ true) → length (chosen p xs) ≡ length xs
-unfolding chosen
-chosen-all p [] h = refl
-chosen-all p (x ∷ xs) h = ap length (chosen-yes p x xs (h x (here refl))) ∙ ap suc (chosen-all p xs (λ y m. h y (there m)))
+filterBy-all : {A : Type 0} (p : A → Bool) (xs : List A) → ((x : A) → Mem x xs → p x ≡ true) → length (filterBy p xs) ≡ length xs
+unfolding filterBy
+filterBy-all p [] h = refl
+filterBy-all p (x ∷ xs) h = ap length (filterBy-yes p x xs (h x (here refl))) ∙ ap suc (filterBy-all p xs (λ y m. h y (there m)))
 
 pub longest-reached : (lo hi : ℕ) → hi < never → length (listing (daily lo hi) (record { k = 1 }) lo hi) ≡ longest (daysOf lo hi)
 unfolding listing
 longest-reached lo hi fits =
     let test : Window → Bool = λ w. tight (daily lo hi) (record { k = 1 }) (w .start) (w .end) in
-    length-map (chosen test (windows lo hi)) (entryOf (daily lo hi) (record { k = 1 })) ∙ (chosen-all test (windows lo hi) (λ w m. all-tight lo hi fits w (windows-e lo hi w m)) ∙ windows-length lo hi)
+    length-map (filterBy test (windows lo hi)) (entryOf (daily lo hi) (record { k = 1 })) ∙ (filterBy-all test (windows lo hi) (λ w m. all-tight lo hi fits w (windows-e lo hi w m)) ∙ windows-length lo hi)

@@ -12,14 +12,14 @@ use mathlib.Core.List.{List, map}
 use lib.ListN.{getD}
 use lib.Dec.{leb, ltb, eqb}
 use borrow.Author.Tests.{ltb-true, ltb-false, leb-true, leb-false, eqb-true, lt-ltb, le-ltb, le-leb, lt-leb, eq-eqb, ne-eqb}
-use Rattle.rings.specs.Words.{_and_, at, count, run, kept, chosen}
+use Rattle.rings.specs.Words.{_and_, at, count, tabulate, consIf, filterBy}
 use Rattle.rings.specs.Table.{Table, size}
 use Rattle.rings.specs.Ring.{ring, members}
 use Rattle.rings.specs.CoreTimes.{rowTime}
 use Rattle.rings.specs.Windows.{Window, windowsFrom}
 use Rattle.rings.specs.Starts.{Earliest, CountsAt}
 use Rattle.rings.specs.declared.Query.{Query}
-use Rattle.rings.proofs.WordLaws.{look, and-i, and-l, and-r, same-truth, tally-yes, tally-no, count-le, count-same, count-none, count-pos, count-some}
+use Rattle.rings.proofs.WordLaws.{true-or-false, and-i, and-l, and-r, same-truth, sucIf-yes, sucIf-no, count-le, count-same, count-none, count-pos, count-some}
 use Rattle.rings.proofs.CoreTimeLaws.{row-time, row-past, ring-size}
 use Rattle.listing.specs.Tight.{tight}
 use Rattle.listing.specs.Listing.{ListedRing, entryOf}
@@ -28,11 +28,11 @@ use Rattle.listing.proofs.TightLaws.{tight-times, times-tight}
 
 one-more : (p : ℕ → Bool) (n : ℕ) → p n ≡ true → count p (suc n) ≡ suc (count p n)
 unfolding count
-one-more p n h = tally-yes (count p n) h
+one-more p n h = sucIf-yes (count p n) h
 
 no-more : (p : ℕ → Bool) (n : ℕ) → p n ≡ false → count p (suc n) ≡ count p n
 unfolding count
-no-more p n h = tally-no (count p n) h
+no-more p n h = sucIf-no (count p n) h
 
 -- ---- the ends of a start
 
@@ -57,7 +57,7 @@ module _ (f : ℕ → ℕ) where
       let l = ltb-false (f n) e a in
       let y = no-more (λ j. ltb (f j) e) n a in
       ⊎-elim (λ i. let x = one-more (λ j. leb (f j) e) n (le-leb (f n) e (omega arith)) in let z = one-more (λ j. eqb (f j) e) n (eq-eqb (f n) e (sym i)) in omega arith)
-      (λ i. let x = no-more (λ j. leb (f j) e) n (lt-leb (f n) e i) in let z = no-more (λ j. eqb (f j) e) n (ne-eqb (f n) e (λ k. omega arith)) in omega arith) (eq-or-lt-of-le l)) (look (ltb (f n) e))
+      (λ i. let x = no-more (λ j. leb (f j) e) n (lt-leb (f n) e i) in let z = no-more (λ j. eqb (f j) e) n (ne-eqb (f n) e (λ k. omega arith)) in omega arith) (eq-or-lt-of-le l)) (true-or-false (ltb (f n) e))
 
   by-suc : (e n : ℕ) → count (λ j. ltb (f j) (suc e)) n ≡ count (λ j. leb (f j) e) n
   by-suc e n =
@@ -112,7 +112,7 @@ module _ (t : Table) (q : Query) (hi s : ℕ) (top : hi ≤ 1024) {xs : List ℕ
             and-i (lt-ltb 0 (getD xs e 0) (omega arith)) (le-leb least e (omega arith))
           where
             inside : (j : ℕ) → time j ≡ e → j < size t
-            inside j i = ⊎-elim (λ y. let k = row-past t q hi s j (leb-true (size t) j y) in absurd (omega arith)) (λ y. leb-false (size t) j y) (look (leb (size t) j))
+            inside j i = ⊎-elim (λ y. let k = row-past t q hi s j (leb-true (size t) j y) in absurd (omega arith)) (λ y. leb-false (size t) j y) (true-or-false (leb (size t) j))
 
     abbrev test : Window → Bool
     test w = tight t q (w .start) (w .end)
@@ -120,8 +120,8 @@ module _ (t : Table) (q : Query) (hi s : ℕ) (top : hi ≤ 1024) {xs : List ℕ
     abbrev window : ℕ → Window
     window e = record { start = s; end = e }
 
-    map-kept : (b : Bool) (w : Window) (ws : List Window) → map (entryOf t q) (kept b w ws) ≡ kept b (entryOf t q w) (map (entryOf t q) ws)
-    unfolding kept
+    map-kept : (b : Bool) (w : Window) (ws : List Window) → map (entryOf t q) (consIf b w ws) ≡ consIf b (entryOf t q w) (map (entryOf t q) ws)
+    unfolding consIf
     map-kept true w ws = refl
     map-kept false w ws = refl
 
@@ -129,14 +129,14 @@ module _ (t : Table) (q : Query) (hi s : ℕ) (top : hi ≤ 1024) {xs : List ℕ
     unfolding entryOf
     entry-is e total o h et = let r : total + at xs e ≡ members (ring t q s e) = step e total h et ∙ (by-suc time e (size t) ∙ sym (ring-size t q hi s (omega arith) e o h)) in λ i. record { start = s; end = e; rows = r i }
 
-    entries-from : (m e total : ℕ) → e + m ≡ suc hi → s ≤ e → total ≡ count (λ j. ltb (time j) e) (size t) → countEntries xs least s e total m ≡ map (entryOf t q) (chosen test (run window e m))
-    unfolding countEntries chosen run
+    entries-from : (m e total : ℕ) → e + m ≡ suc hi → s ≤ e → total ≡ count (λ j. ltb (time j) e) (size t) → countEntries xs least s e total m ≡ map (entryOf t q) (filterBy test (tabulate window e m))
+    unfolding countEntries filterBy tabulate
     entries-from zero e total h o et = refl
     entries-from (suc m) e total h o et =
-        ap (λ (b : Bool). kept b (record { start = s; end = e; rows = total + at xs e }) (countEntries xs least s (suc e) (total + at xs e) m)) (listed-is e o (omega arith))
-        ∙ (ap (λ (x : ListedRing). kept (tight t q s e) x (countEntries xs least s (suc e) (total + at xs e) m)) (entry-is e total o (omega arith) et)
-        ∙ (ap (kept (tight t q s e) (entryOf t q (window e))) (entries-from m (suc e) (total + at xs e) (omega arith) (omega arith) (step e total (omega arith) et))
-        ∙ sym (map-kept (tight t q s e) (window e) (chosen test (run window (suc e) m)))))
+        ap (λ (b : Bool). consIf b (record { start = s; end = e; rows = total + at xs e }) (countEntries xs least s (suc e) (total + at xs e) m)) (listed-is e o (omega arith))
+        ∙ (ap (λ (x : ListedRing). consIf (tight t q s e) x (countEntries xs least s (suc e) (total + at xs e) m)) (entry-is e total o (omega arith) et)
+        ∙ (ap (consIf (tight t q s e) (entryOf t q (window e))) (entries-from m (suc e) (total + at xs e) (omega arith) (omega arith) (step e total (omega arith) et))
+        ∙ sym (map-kept (tight t q s e) (window e) (filterBy test (tabulate window (suc e) m)))))
 
     pub entries-are : s ≤ hi → countEntries xs least s s 0 (hi + 1 - s) ≡ startEntries t q hi s
     unfolding startEntries windowsFrom

@@ -15,13 +15,13 @@ use mathlib.Core.List.{List, [], _∷_, List·Memᴰ as Mem, List·Memᴰ·head 
 use lib.ListN.{length}
 use lib.Dec.{leb, eqb}
 use borrow.Author.Tests.{leb-true, leb-false, eqb-true, eq-eqb}
-use Rattle.rings.specs.Words.{_and_, marked, some, run, chosen}
+use Rattle.rings.specs.Words.{_and_, marked, some, tabulate, filterBy}
 use Rattle.rings.specs.Table.{Table, size, dayOf, windowRows}
 use Rattle.rings.specs.Ring.{Within, greatest, ring, inRing}
 use Rattle.rings.specs.CoreTimes.{never, rowTime}
 use Rattle.rings.specs.declared.Query.{Query}
-use Rattle.rings.proofs.WordLaws.{look, clash, and-i, and-l, and-r, some-i, some-e, some-none, marked-below, same-marks}
-use Rattle.rings.proofs.ListLaws.{mem-run, run-mem, mem-chosen, chosen-mem, mem-map, map-mem}
+use Rattle.rings.proofs.WordLaws.{true-or-false, clash, and-i, and-l, and-r, some-i, some-e, some-none, marked-below, same-marks}
+use Rattle.rings.proofs.ListLaws.{mem-tabulate, tabulate-mem, mem-filterBy, filterBy-mem, mem-map, map-mem}
 use Rattle.rings.proofs.RingLaws.{Inside, window-i, ring-sized, ring-good, ring-holds, in-marked, marked-in, in-window, ring-grows}
 use Rattle.rings.proofs.CoreTimeLaws.{row-reach-i, row-reach-e, row-day}
 use Rattle.listing.specs.Tight.{memberDays, lowest, firstDay, lastDay, nonempty, tightest, tight}
@@ -44,7 +44,7 @@ lowest-mem [] h = absurd (omega arith)
 lowest-mem (x ∷ xs) h = ⊎-elim (λ e. here e) (λ e. there (mem-cast e (lowest-mem xs (omega arith)))) which
   where
     which : (min x (lowest xs) ≡ x) ⊎ (min x (lowest xs) ≡ lowest xs)
-    which = ⊎-elim (λ l. _⊎_.inl (let l′ = leb-true x (lowest xs) l in omega arith)) (λ l. _⊎_.inr (let l′ = leb-false x (lowest xs) l in omega arith)) (look (leb x (lowest xs)))
+    which = ⊎-elim (λ l. _⊎_.inl (let l′ = leb-true x (lowest xs) l in omega arith)) (λ l. _⊎_.inr (let l′ = leb-false x (lowest xs) l in omega arith)) (true-or-false (leb x (lowest xs)))
 
 le-greatest : (xs : List ℕ) {d : ℕ} → Mem d xs → d ≤ greatest xs
 unfolding greatest
@@ -62,7 +62,7 @@ greatest-mem x [] = let e : max x 0 ≡ x = omega arith in here e
 greatest-mem x (y ∷ ys) = ⊎-elim (λ e. here e) (λ e. there (mem-cast e (greatest-mem y ys))) which
   where
     which : (max x (greatest (y ∷ ys)) ≡ x) ⊎ (max x (greatest (y ∷ ys)) ≡ greatest (y ∷ ys))
-    which = ⊎-elim (λ l. _⊎_.inr (let l′ = leb-true x (greatest (y ∷ ys)) l in omega arith)) (λ l. _⊎_.inl (let l′ = leb-false x (greatest (y ∷ ys)) l in omega arith)) (look (leb x (greatest (y ∷ ys))))
+    which = ⊎-elim (λ l. _⊎_.inr (let l′ = leb-true x (greatest (y ∷ ys)) l in omega arith)) (λ l. _⊎_.inl (let l′ = leb-false x (greatest (y ∷ ys)) l in omega arith)) (true-or-false (leb x (greatest (y ∷ ys))))
 
 -- ---- the days of a row set
 
@@ -75,15 +75,15 @@ pub record DayRow (t : Table) (m : List Bool) (d : ℕ) : Type 0 where
 days-e : (t : Table) (m : List Bool) {d : ℕ} → Mem d (memberDays t m) → DayRow t m d
 unfolding memberDays
 days-e t m h =
-    let a = map-mem (dayOf t) (chosen (marked m) (run (λ j. j) 0 (size t))) h in
-    let b = chosen-mem (marked m) (run (λ j. j) 0 (size t)) (a .member) in
-    let c = run-mem (λ j. j) 0 (size t) (b .0) in
+    let a = map-mem (dayOf t) (filterBy (marked m) (tabulate (λ j. j) 0 (size t))) h in
+    let b = filterBy-mem (marked m) (tabulate (λ j. j) 0 (size t)) (a .member) in
+    let c = tabulate-mem (λ j. j) 0 (size t) (b .0) in
     let l = c .below in let e = c .is in
     record { row = a .it; below = omega arith; has = b .1; is = a .is }
 
 days-i : (t : Table) (m : List Bool) (j : ℕ) → j < size t → marked m j ≡ true → Mem (dayOf t j) (memberDays t m)
 unfolding memberDays
-days-i t m j l h = mem-map (dayOf t) (chosen (marked m) (run (λ j. j) 0 (size t))) (mem-chosen (marked m) (run (λ j. j) 0 (size t)) (mem-run (λ j. j) 0 (size t) j (omega arith) (omega arith)) h)
+days-i t m j l h = mem-map (dayOf t) (filterBy (marked m) (tabulate (λ j. j) 0 (size t))) (mem-filterBy (marked m) (tabulate (λ j. j) 0 (size t)) (mem-tabulate (λ j. j) 0 (size t) j (omega arith) (omega arith)) h)
 
 -- a set with a row has a first and a last day
 first-day : (t : Table) (m : List Bool) → firstDay t m < never → DayRow t m (firstDay t m)
@@ -289,4 +289,4 @@ module _ (t : Table) (q : Query) where
             let x = w .last-time in
             let within : Within (ring t q s e) (windowRows t s (pred e)) = record { all = λ i m. let k = in-marked t q s e i m in let z = in-window t q s e i k in let y : dayOf t i < e = sooner n i k in window-i t s (pred e) i (record { row = z .row; from = z .from; to = omega arith }) } in
             let r : rowTime t q hi s (w .last) ≤ pred e = row-reach-i t q hi s (w .last) (pred e) (omega arith) (omega arith) (in-marked t q s (pred e) (w .last) (ring-holds t q s (pred e) (ring t q s e) within (ring-good t q s e) .all (w .last) (marked-in t q s e (w .last) last-in))) in
-            absurd (omega arith)) (look (some on (size t)))
+            absurd (omega arith)) (true-or-false (some on (size t)))

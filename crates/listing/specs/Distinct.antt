@@ -7,7 +7,7 @@
 use Prim.Native.Nat.{ℕ}
 use mathlib.Core.Bool.{Bool, true, false}
 use mathlib.Core.List.{List, [], _∷_, map}
-use Rattle.rings.specs.Words.{_and_, no, kept, chosen, oneOf}
+use Rattle.rings.specs.Words.{_and_, no, consIf, filterBy, any}
 use Rattle.rings.specs.Table.{Table}
 use Rattle.rings.specs.Ring.{ring}
 use Rattle.rings.specs.Windows.{windows}
@@ -27,10 +27,10 @@ sameRows (a ∷ m) (b ∷ m′) = sameMark a b and sameRows m m′
 
 unfoldable pub distinct : List (List Bool) → List (List Bool)
 distinct [] = []
-distinct (m ∷ ms) = kept (no (oneOf (sameRows m) ms)) m (distinct ms)
+distinct (m ∷ ms) = consIf (no (any (sameRows m) ms)) m (distinct ms)
 
 unfoldable pub ringsOf : Table → Query → ℕ → ℕ → List (List Bool)
 ringsOf t q lo hi = map (λ w. ring t q (w .start) (w .end)) (windows lo hi)
 
 unfoldable pub distinctRings : Table → Query → ℕ → ℕ → List (List Bool)
-distinctRings t q lo hi = distinct (chosen nonempty (ringsOf t q lo hi))
+distinctRings t q lo hi = distinct (filterBy nonempty (ringsOf t q lo hi))

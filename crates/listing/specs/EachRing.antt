@@ -12,7 +12,7 @@ use mathlib.Core.Path.{_≡_}
 use mathlib.Core.Logic.{_⊎_}
 use mathlib.Core.Bool.{Bool, true}
 use mathlib.Core.List.{List, [], _∷_, List·Memᴰ as Mem}
-use Rattle.rings.specs.Words.{chosen, Pairwise}
+use Rattle.rings.specs.Words.{filterBy, Pairwise}
 use Rattle.rings.specs.Table.{Table}
 use Rattle.rings.specs.Ring.{ring, members}
 use Rattle.rings.specs.declared.Query.{Query}
@@ -42,7 +42,7 @@ ofRing t q m x = sameRows (ring t q (x .start) (x .end)) m
 pub record ListedOnce (t : Table) (q : Query) (lo hi s e : ℕ) : Type 0 where
   pub entry : ListedRing
   -- of all places of the listing one has this ring
-  pub once : chosen (ofRing t q (ring t q s e)) (listing t q lo hi) ≡ entry ∷ []
+  pub once : filterBy (ofRing t q (ring t q s e)) (listing t q lo hi) ≡ entry ∷ []
   pub is-listed : Mem entry (listing t q lo hi)
   pub only : (x : ListedRing) → Mem x (listing t q lo hi) → ring t q (x .start) (x .end) ≡ ring t q s e → x ≡ entry
   -- its window is the tightest of this ring, and lies inside [s, e]

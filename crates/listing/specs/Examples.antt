@@ -15,7 +15,7 @@ use mathlib.Core.List.{List, [], _∷_, map}
 use native.Mathlib.Nat.{le-refl}
 use native.Mathlib.Omega.{arith}
 use lib.ListN.{length, replicate}
-use Rattle.rings.specs.Words.{run}
+use Rattle.rings.specs.Words.{tabulate}
 use Rattle.rings.specs.Table.{Table}
 use Rattle.rings.specs.Ring.{degree, ring}
 use Rattle.rings.specs.CoreTimes.{never, accountTime, rowTime}
@@ -128,14 +128,14 @@ pub record StarredRows : Type 0 where
   pub longest-6 : longestAnswer 1 6 ≡ Counted.Count 21
   pub longest-1024 : longestAnswer 1 1024 ≡ Counted.Count 524800
   -- Mistake: "a row's time from its accounts alone". The accounts 1 and 2 of row 3 have 2; the row has 4, its own day
-  pub own-day-accounts : run (accountTime season two 6 1) 1 2 ≡ 2 ∷ 2 ∷ []
+  pub own-day-accounts : tabulate (accountTime season two 6 1) 1 2 ≡ 2 ∷ 2 ∷ []
   pub own-day : rowTime season two 6 1 3 ≡ 4
   -- Mistake: "counting rows as neighbours". Two rows of one pair give one neighbour; counted as rows, k = 2 would list [1,2] (pair-k-2)
   pub one-neighbour : degree pair (true ∷ true ∷ []) 1 ≡ 1
   pub no-ring : ring pair two 1 2 ≡ false ∷ false ∷ []
   -- Mistake: "recording a minimal window only when an account's core time moves". From start 1 to start 2 no account's time moves, and row 0 leaves: [1,2]
-  pub leaving-1 : run (accountTime leaving two 2 1) 1 3 ≡ 2 ∷ 2 ∷ 2 ∷ []
-  pub leaving-2 : run (accountTime leaving two 2 2) 1 3 ≡ 2 ∷ 2 ∷ 2 ∷ []
+  pub leaving-1 : tabulate (accountTime leaving two 2 1) 1 3 ≡ 2 ∷ 2 ∷ 2 ∷ []
+  pub leaving-2 : tabulate (accountTime leaving two 2 2) 1 3 ≡ 2 ∷ 2 ∷ 2 ∷ []
   pub leaving-windows : minimalWindows leaving two 1 2 ≡ entry 0 1 2 ∷ entry 1 2 2 ∷ entry 2 2 2 ∷ entry 3 2 2 ∷ []
   -- Mistake: "listing every window whose end changes, without a row on its first day". The ring of [1,2] has no row on day 1; nor has that of [3,4] for k = 1, which would make 18
   pub late-ring : ring late two 1 2 ≡ false ∷ true ∷ true ∷ true ∷ []
@@ -145,15 +145,15 @@ pub record StarredRows : Type 0 where
   pub last-day : tight season two 1 3 ≡ false
 
 -- The account column is 4,096 long: accounts 0 to 4 are computed, and the season names no other
-from-start-1 : (n : ℕ) → run (accountTime season two 6 1) 0 (suc (suc (suc (suc (suc n))))) ≡ never ∷ 2 ∷ 2 ∷ 2 ∷ 6 ∷ replicate n never
+from-start-1 : (n : ℕ) → tabulate (accountTime season two 6 1) 0 (suc (suc (suc (suc (suc n))))) ≡ never ∷ 2 ∷ 2 ∷ 2 ∷ 6 ∷ replicate n never
 unfolding compute
 from-start-1 n = ap (λ (l : List ℕ). never ∷ 2 ∷ 2 ∷ 2 ∷ 6 ∷ l) (times-absent season two 6 1 (omega arith) 5 n (le-refl 5))
 
-from-start-3 : (n : ℕ) → run (accountTime season two 6 3) 0 (suc (suc (suc (suc (suc n))))) ≡ replicate (suc (suc (suc (suc (suc n))))) never
+from-start-3 : (n : ℕ) → tabulate (accountTime season two 6 3) 0 (suc (suc (suc (suc (suc n))))) ≡ replicate (suc (suc (suc (suc (suc n))))) never
 unfolding compute
 from-start-3 n = ap (λ (l : List ℕ). never ∷ never ∷ never ∷ never ∷ never ∷ l) (times-absent season two 6 3 (omega arith) 5 n (le-refl 5))
 
-column : (s : ℕ) (ls : List ℕ) → timesAnswer season two 1 6 s 4096 6 8216 ≡ Verdict.Accepted → run (accountTime season two 6 s) 0 4096 ≡ ls
+column : (s : ℕ) (ls : List ℕ) → timesAnswer season two 1 6 s 4096 6 8216 ≡ Verdict.Accepted → tabulate (accountTime season two 6 s) 0 4096 ≡ ls
     → accountColumn (timesAnswer season two 1 6 s 4096 6 8216) season two 6 s (replicate 4096 9) ≡ ls
 unfolding accountColumn
 column s ls a e = ap (λ (v : Verdict). accountColumn v season two 6 s (replicate 4096 9)) a ∙ e

@@ -23,10 +23,10 @@
 use Prim.Native.Nat.{ℕ, zero, suc, _+_, _-_, _*_, _≤_, _<_}
 use mathlib.Core.Path.{_≡_}
 use mathlib.Core.Bool.{Bool}
-use mathlib.Core.List.{List, [], _++_, map}
+use mathlib.Core.List.{List, [], _++_, map, flatten}
 use lib.ListN.{length, getD, set, take}
 use lib.Dec.{leb, ltb}
-use Rattle.rings.specs.Words.{_and_, at, run, joined, kept, chosen}
+use Rattle.rings.specs.Words.{_and_, at, tabulate, consIf, filterBy}
 use Rattle.rings.specs.Table.{Table, size}
 use Rattle.rings.specs.Sound.{Sound}
 use Rattle.rings.specs.Starts.{Prepared}
@@ -44,10 +44,10 @@ use Rattle.listing.specs.declared.list.Passed.{Passed}
 -- ---- the entries of a range
 
 unfoldable pub startEntries : Table → Query → ℕ → ℕ → List ListedRing
-startEntries t q hi s = map (entryOf t q) (chosen (λ w. tight t q (w .start) (w .end)) (windowsFrom hi s))
+startEntries t q hi s = map (entryOf t q) (filterBy (λ w. tight t q (w .start) (w .end)) (windowsFrom hi s))
 
 unfoldable pub restFrom : Table → Query → ℕ → ℕ → List ListedRing
-restFrom t q hi s = joined (run (startEntries t q hi) s (suc hi - s))
+restFrom t q hi s = flatten (tabulate (startEntries t q hi) s (suc hi - s))
 
 -- ---- as the counts of core times say
 
@@ -59,7 +59,7 @@ sumOf xs e (suc m) = at xs e + sumOf xs (suc e) m
 unfoldable pub countEntries : List ℕ → ℕ → ℕ → ℕ → ℕ → ℕ → List ListedRing
 countEntries xs least s e total zero = []
 countEntries xs least s e total (suc m) =
-    kept (ltb 0 (at xs e) and leb least e) (record { start = s; end = e; rows = total + at xs e }) (countEntries xs least s (suc e) (total + at xs e) m)
+    consIf (ltb 0 (at xs e) and leb least e) (record { start = s; end = e; rows = total + at xs e }) (countEntries xs least s (suc e) (total + at xs e) m)
 
 pub record Uncounted (xs : List ℕ) (s low : ℕ) : Type 0 where
   pub order : s ≤ low

@@ -6,7 +6,7 @@
 --     span x             the span of an entry
 use Prim.Native.Nat.{ℕ, _+_, _-_}
 use mathlib.Core.List.{List, [], _∷_, map}
-use Rattle.rings.specs.Words.{chosen}
+use Rattle.rings.specs.Words.{filterBy}
 use Rattle.rings.specs.Table.{Table}
 use Rattle.rings.specs.Ring.{ring, members}
 use Rattle.rings.specs.Windows.{Window, windows}
@@ -24,7 +24,7 @@ entryOf t q w = record { start = w .start; end = w .end; rows = members (ring t 
 
 -- 01: "columns start, end, rows, ordered by start, then end"
 unfoldable pub listing : Table → Query → ℕ → ℕ → List ListedRing
-listing t q lo hi = map (entryOf t q) (chosen (λ w. tight t q (w .start) (w .end)) (windows lo hi))
+listing t q lo hi = map (entryOf t q) (filterBy (λ w. tight t q (w .start) (w .end)) (windows lo hi))
 
 unfoldable pub rowSum : List ListedRing → ℕ
 rowSum [] = 0

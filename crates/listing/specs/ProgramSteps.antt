@@ -17,7 +17,7 @@ use Rattle.text.specs.Layout.{mostInput}
 use Rattle.text.specs.Print.{entryLines}
 use Rattle.text.specs.Table.{number, place, count}
 use Rattle.text.specs.declared.table.TableRead.{TableRead}
-use Rattle.rings.specs.Words.{run}
+use Rattle.rings.specs.Words.{tabulate}
 use Rattle.rings.specs.Table.{tableOf}
 use Rattle.rings.specs.Ring.{query}
 use Rattle.listing.specs.Listing.{ListedRing}
@@ -53,7 +53,7 @@ unfoldable pub entryAt : Columns (List ℕ) → ℕ → ListedRing
 entryAt c i = record { start = getD (c .starts) i 0; end = getD (c .ends) i 0; rows = getD (c .rows) i 0 }
 
 unfoldable pub entriesAt : Columns (List ℕ) → ℕ → List ListedRing
-entriesAt c n = run (entryAt c) 0 n
+entriesAt c n = tabulate (entryAt c) 0 n
 
 unfoldable pub ringLines : List ListedRing → List ℕ
 ringLines ls = entryLines (map lineOf ls)

@@ -11,14 +11,14 @@ use mathlib.Core.Bool.{Bool}
 use mathlib.Core.List.{List, [], _∷_, map}
 use lib.ListN.{length}
 use lib.Dec.{eqb}
-use Rattle.rings.specs.Words.{_and_, marked, some, run, chosen}
+use Rattle.rings.specs.Words.{_and_, marked, some, tabulate, filterBy}
 use Rattle.rings.specs.Table.{Table, size, dayOf}
 use Rattle.rings.specs.Ring.{greatest, ring}
 use Rattle.rings.specs.CoreTimes.{never}
 use Rattle.rings.specs.declared.Query.{Query}
 
 unfoldable pub memberDays : Table → List Bool → List ℕ
-memberDays t m = map (dayOf t) (chosen (marked m) (run (λ j. j) 0 (size t)))
+memberDays t m = map (dayOf t) (filterBy (marked m) (tabulate (λ j. j) 0 (size t)))
 
 unfoldable pub lowest : List ℕ → ℕ
 lowest [] = never

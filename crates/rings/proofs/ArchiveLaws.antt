@@ -16,7 +16,7 @@ use mathlib.Core.List.{List, [], _∷_, _++_, map}
 use lib.ListN.{length, getD, take, drop, length-map}
 use lib.Dec.{eqb}
 use borrow.Author.Tests.{lt-ltb, le-leb, eq-eqb}
-use Rattle.rings.specs.Words.{_and_, no, at, run, Pairwise}
+use Rattle.rings.specs.Words.{_and_, no, at, tabulate, Pairwise}
 use Rattle.rings.specs.Table.{Table, size, dayOf}
 use Rattle.rings.specs.Ring.{ring, inRing}
 use Rattle.rings.specs.CoreTimes.{never}
@@ -31,8 +31,8 @@ use Rattle.rings.specs.declared.refusal.Refusal.the-variants.{BadWindow,
 use Rattle.rings.specs.declared.refusal.Verdict.{Verdict}
 use Rattle.rings.specs.declared.refusal.Verdict.the-variants.{Accepted}
 use Rattle.rings.specs.declared.refusal.Counted.{Counted}
-use Rattle.rings.proofs.WordLaws.{and-i, or-l, or-r, length-run, marked-run-e, marked-run-i, same-marks}
-use Rattle.rings.proofs.ListLaws.{mem-run}
+use Rattle.rings.proofs.WordLaws.{and-i, or-l, or-r, length-tabulate, marked-tabulate-e, marked-tabulate-i, same-marks}
+use Rattle.rings.proofs.ListLaws.{mem-tabulate}
 use Rattle.rings.proofs.CheckLaws.{then-accepted, passes, order-accepted, counted-e}
 use Rattle.rings.proofs.RingLaws.{ring-is, in-window}
 use Rattle.rings.proofs.WindowLaws.{ends-rise, list-is, recall-ring}
@@ -51,21 +51,21 @@ mapped g z [] p h = absurd (not-suc-le-zero h)
 mapped g z (x ∷ xs) zero h = refl
 mapped g z (x ∷ xs) (suc p) h = mapped g z xs p (omega arith)
 
-run-of : {A : Type 0} (f : ℕ → A) (z : A) (xs : List A) (i : ℕ) → ((j : ℕ) → j < length xs → f (i + j) ≡ getD xs j z) → run f i (length xs) ≡ xs
-unfolding run
-run-of f z [] i h = refl
-run-of f z (x ∷ xs) i h =
-    λ n. (ap f (sym (plus-none i)) ∙ h 0 (omega arith)) n ∷ run-of f z xs (suc i) (λ j l. let e : suc i + j ≡ i + suc j = omega arith in ap f e ∙ h (suc j) (omega arith)) n
+tabulate-of : {A : Type 0} (f : ℕ → A) (z : A) (xs : List A) (i : ℕ) → ((j : ℕ) → j < length xs → f (i + j) ≡ getD xs j z) → tabulate f i (length xs) ≡ xs
+unfolding tabulate
+tabulate-of f z [] i h = refl
+tabulate-of f z (x ∷ xs) i h =
+    λ n. (ap f (sym (plus-none i)) ∙ h 0 (omega arith)) n ∷ tabulate-of f z xs (suc i) (λ j l. let e : suc i + j ≡ i + suc j = omega arith in ap f e ∙ h (suc j) (omega arith)) n
 
-run-pair : {A : Type 0} (R : A → A → Type 0) (f : ℕ → A) (i n a b : ℕ) → Pairwise R (run f i n) → i ≤ a → a < b → b < i + n → R (f a) (f b)
-unfolding run
-run-pair R f i zero a b P h k l = absurd (omega arith)
-run-pair R f i (suc n) a b (Pairwise.more x P) h k l =
-    ⊎-elim (λ e. subst (λ (c : ℕ). R (f c) (f b)) e (x (f b) (mem-run f (suc i) n b (omega arith) (omega arith)))) (λ o. run-pair R f (suc i) n a b P o k (omega arith)) (eq-or-lt-of-le h)
+tabulate-pair : {A : Type 0} (R : A → A → Type 0) (f : ℕ → A) (i n a b : ℕ) → Pairwise R (tabulate f i n) → i ≤ a → a < b → b < i + n → R (f a) (f b)
+unfolding tabulate
+tabulate-pair R f i zero a b P h k l = absurd (omega arith)
+tabulate-pair R f i (suc n) a b (Pairwise.more x P) h k l =
+    ⊎-elim (λ e. subst (λ (c : ℕ). R (f c) (f b)) e (x (f b) (mem-tabulate f (suc i) n b (omega arith) (omega arith)))) (λ o. tabulate-pair R f (suc i) n a b P o k (omega arith)) (eq-or-lt-of-le h)
 
 pub entries-of : (es : List Entry) → entries (map (λ (x : Entry). x .row) es) (map (λ (x : Entry). x .start) es) (map (λ (x : Entry). x .end) es) ≡ es
 unfolding entries at
-entries-of es = ap (run f 0) (length-map es (λ (x : Entry). x .row)) ∙ run-of f z es 0 (λ j l. ap f (zero-plus j) ∙ same j l)
+entries-of es = ap (tabulate f 0) (length-map es (λ (x : Entry). x .row)) ∙ tabulate-of f z es 0 (λ j l. ap f (zero-plus j) ∙ same j l)
   where
     z : Entry
     z = record { row = 0; start = 0; end = 0 }
@@ -107,7 +107,7 @@ module _ (t : Table) (q : Query) (lo hi : ℕ) (one : 1 ≤ lo) (top : hi ≤ 10
 
   entry : (i : ℕ) → i < length rows → Listed t q lo hi (entryAt c i)
   unfolding entryAt entries
-  entry i l = A .holds .each (entryAt c i) (mem-run (λ j. entryAt c j) 0 (length rows) i (omega arith) (omega arith))
+  entry i l = A .holds .each (entryAt c i) (mem-tabulate (λ j. entryAt c j) 0 (length rows) i (omega arith) (omega arith))
 
   fits-here : (i : ℕ) → i < length rows → fits t (entryAt c i) ≡ true
   unfolding fits
@@ -131,9 +131,9 @@ module _ (t : Table) (q : Query) (lo hi : ℕ) (one : 1 ≤ lo) (top : hi ≤ 10
   in-place zero l = refl
   in-place (suc i) l =
       after (entryAt c i) (entryAt c (suc i)) (entry i (omega arith)) (entry (suc i) l)
-      (run-pair Before (λ j. entryAt c j) 0 (length rows) i (suc i) (A .holds .in-order) (omega arith) (omega arith) (omega arith))
+      (tabulate-pair Before (λ j. entryAt c j) 0 (length rows) i (suc i) (A .holds .in-order) (omega arith) (omega arith) (omega arith))
 
-  entries-pass : inOrder (run (entryCheck t c) 0 (length rows)) ≡ Accepted
+  entries-pass : inOrder (tabulate (entryCheck t c) 0 (length rows)) ≡ Accepted
   unfolding entryCheck
   entries-pass = order-accepted (entryCheck t c) 0 (length rows) (λ i h l. passes (BadEntry i) (and-i (fits-here i (omega arith)) (in-place i (omega arith))))
 
@@ -149,7 +149,7 @@ module _ (t : Table) (q : Query) (lo hi : ℕ) (one : 1 ≤ lo) (top : hi ≤ 10
         lengths = BadLengths when no (eqb (length starts) (length rows) and eqb (length ends) (length rows) and eqb (size t) (size t))
 
         listed : Verdict
-        listed = inOrder (run (entryCheck t c) 0 (length rows))
+        listed = inOrder (tabulate (entryCheck t c) 0 (length rows))
 
         range : Verdict
         range = rangeCheck s e
@@ -159,8 +159,8 @@ module _ (t : Table) (q : Query) (lo hi : ℕ) (rows starts ends : List ℕ) (A 
   pub archive-marks : (old : List ℕ) → recallMarks Accepted t (columnsOf rows starts ends) s e old ≡ marks (ring t q s e)
   unfolding recallMarks inRing
   archive-marks old =
-      ap marks (same-marks (run f 0 (size t)) (ring t q s e) (length-run f 0 (size t) ∙ sym (ring-is t q s e .sized))
-      (λ j h. sym (is j) ∙ marked-run-e f (size t) j h .1) (λ j h. marked-run-i f (size t) j (in-window t q s e j h .row) (is j ∙ h)))
+      ap marks (same-marks (tabulate f 0 (size t)) (ring t q s e) (length-tabulate f 0 (size t) ∙ sym (ring-is t q s e .sized))
+      (λ j h. sym (is j) ∙ marked-tabulate-e f (size t) j h .1) (λ j h. marked-tabulate-i f (size t) j (in-window t q s e j h .row) (is j ∙ h)))
     where
       f : ℕ → Bool
       f = recalled (entries rows starts ends) s e

@@ -16,7 +16,7 @@ use mathlib.Core.Logic.{_⊎_, ⊎-elim}
 use mathlib.Core.Bool.{Bool, true, false}
 use lib.Dec.{leb, ltb, eqb}
 use lib.ListN.{length}
-use Rattle.rings.specs.Words.{_and_, _or_, no, run}
+use Rattle.rings.specs.Words.{_and_, _or_, no, tabulate}
 use Rattle.rings.specs.Table.{Table, dayOf, firstOf, secondOf}
 use Rattle.rings.specs.Checks.{_when_, _then_, inOrder, counted, queryCheck, scratchCheck}
 use Rattle.rings.specs.Refusals.{behindScratch}
@@ -59,23 +59,23 @@ pub passes : (r : Refusal) {b : Bool} → b ≡ true → r when no b ≡ Accepte
 unfolding _when_ no
 passes r h = rw h refl
 
-pub order-accepted : (f : ℕ → Verdict) (i n : ℕ) → ((j : ℕ) → i ≤ j → j < i + n → f j ≡ Accepted) → inOrder (run f i n) ≡ Accepted
-unfolding inOrder run
+pub order-accepted : (f : ℕ → Verdict) (i n : ℕ) → ((j : ℕ) → i ≤ j → j < i + n → f j ≡ Accepted) → inOrder (tabulate f i n) ≡ Accepted
+unfolding inOrder tabulate
 order-accepted f i zero h = refl
-order-accepted f i (suc n) h = then-accepted (inOrder (run f (suc i) n)) (h i (le-refl i) (omega arith)) ∙ order-accepted f (suc i) n (λ j a b. h j (omega arith) (omega arith))
+order-accepted f i (suc n) h = then-accepted (inOrder (tabulate f (suc i) n)) (h i (le-refl i) (omega arith)) ∙ order-accepted f (suc i) n (λ j a b. h j (omega arith) (omega arith))
 
-pub order-refused : (f : ℕ → Verdict) (i n j : ℕ) {r : Refusal} → i ≤ j → j < i + n → ((l : ℕ) → i ≤ l → l < j → f l ≡ Accepted) → f j ≡ Refused r → inOrder (run f i n) ≡ Refused r
-unfolding inOrder run
+pub order-refused : (f : ℕ → Verdict) (i n j : ℕ) {r : Refusal} → i ≤ j → j < i + n → ((l : ℕ) → i ≤ l → l < j → f l ≡ Accepted) → f j ≡ Refused r → inOrder (tabulate f i n) ≡ Refused r
+unfolding inOrder tabulate
 order-refused f i zero j a b h e = absurd (omega arith)
 order-refused f i (suc n) j {r} a b h e =
-    ⊎-elim (λ q. then-refused (inOrder (run f (suc i) n)) (subst (λ (x : ℕ). f x ≡ Refused r) (sym q) e))
-    (λ q. then-accepted (inOrder (run f (suc i) n)) (h i (le-refl i) q) ∙ order-refused f (suc i) n j q (omega arith) (λ l c d. h l (omega arith) d) e) (eq-or-lt-of-le a)
+    ⊎-elim (λ q. then-refused (inOrder (tabulate f (suc i) n)) (subst (λ (x : ℕ). f x ≡ Refused r) (sym q) e))
+    (λ q. then-accepted (inOrder (tabulate f (suc i) n)) (h i (le-refl i) q) ∙ order-refused f (suc i) n j q (omega arith) (λ l c d. h l (omega arith) d) e) (eq-or-lt-of-le a)
 
-pub all-accepted : (f : ℕ → Verdict) (i n : ℕ) → inOrder (run f i n) ≡ Accepted → (j : ℕ) → i ≤ j → j < i + n → f j ≡ Accepted
-unfolding inOrder run
+pub all-accepted : (f : ℕ → Verdict) (i n : ℕ) → inOrder (tabulate f i n) ≡ Accepted → (j : ℕ) → i ≤ j → j < i + n → f j ≡ Accepted
+unfolding inOrder tabulate
 all-accepted f i zero h j a b = absurd (omega arith)
 all-accepted f i (suc n) h j a b =
-    ⊎-elim (λ q. subst (λ (x : ℕ). f x ≡ Accepted) q (accepted-left (f i) (inOrder (run f (suc i) n)) h)) (λ q. all-accepted f (suc i) n (accepted-right (f i) (inOrder (run f (suc i) n)) h) j q (omega arith)) (eq-or-lt-of-le a)
+    ⊎-elim (λ q. subst (λ (x : ℕ). f x ≡ Accepted) q (accepted-left (f i) (inOrder (tabulate f (suc i) n)) h)) (λ q. all-accepted f (suc i) n (accepted-right (f i) (inOrder (tabulate f (suc i) n)) h) j q (omega arith)) (eq-or-lt-of-le a)
 
 -- ---- refusals that keep the scratch
 
@@ -95,10 +95,10 @@ unfolding _then_
 front-then Accepted w f g = g
 front-then (Refused r) w f g = f
 
-pub front-order : (f : ℕ → Verdict) (i n : ℕ) → ((j : ℕ) → Front (f j)) → Front (inOrder (run f i n))
-unfolding inOrder run
+pub front-order : (f : ℕ → Verdict) (i n : ℕ) → ((j : ℕ) → Front (f j)) → Front (inOrder (tabulate f i n))
+unfolding inOrder tabulate
 front-order f i zero h = front-accepted
-front-order f i (suc n) h = front-then (f i) (inOrder (run f (suc i) n)) (h i) (front-order f (suc i) n h)
+front-order f i (suc n) h = front-then (f i) (inOrder (tabulate f (suc i) n)) (h i) (front-order f (suc i) n h)
 
 front-row : (t : Table) (j : ℕ) → Front (rowCheck t j)
 unfolding rowCheck rowFaults behindScratch
@@ -109,8 +109,8 @@ front-row t j =
 pub front-table : (t : Table) → Front (tableCheck t)
 unfolding tableCheck behindScratch
 front-table t =
-    front-then (UnequalColumns when no (eqb (length (t .first)) (length (t .days)) and eqb (length (t .second)) (length (t .days)))) (TooManyRows when ltb 16384 (length (t .days)) then inOrder (run (rowCheck t) 0 (length (t .days)))) (front-when UnequalColumns (no (eqb (length (t .first)) (length (t .days)) and eqb (length (t .second)) (length (t .days)))) refl)
-    (front-then (TooManyRows when ltb 16384 (length (t .days))) (inOrder (run (rowCheck t) 0 (length (t .days)))) (front-when TooManyRows (ltb 16384 (length (t .days))) refl) (front-order (rowCheck t) 0 (length (t .days)) (front-row t)))
+    front-then (UnequalColumns when no (eqb (length (t .first)) (length (t .days)) and eqb (length (t .second)) (length (t .days)))) (TooManyRows when ltb 16384 (length (t .days)) then inOrder (tabulate (rowCheck t) 0 (length (t .days)))) (front-when UnequalColumns (no (eqb (length (t .first)) (length (t .days)) and eqb (length (t .second)) (length (t .days)))) refl)
+    (front-then (TooManyRows when ltb 16384 (length (t .days))) (inOrder (tabulate (rowCheck t) 0 (length (t .days)))) (front-when TooManyRows (ltb 16384 (length (t .days))) refl) (front-order (rowCheck t) 0 (length (t .days)) (front-row t)))
 
 pub front-call : (t : Table) (q : Query) (window lengths : Bool) (rows scratch : ℕ) → Front (tableCheck t then queryCheck q then BadWindow when no window then BadLengths when no lengths then scratchCheck rows scratch)
 unfolding queryCheck scratchCheck behindScratch

@@ -8,8 +8,11 @@
 --     ring-size                a ring has as many rows as have a core time of at most its end
 --     account-later, row-later            core times rise with the start
 --     account-never, row-never            so what has none has none later
---     rows-quiet               where no account has a core time no row has one
+--     rows-untimed               where no account has a core time no row has one
 --     account-absent, times-absent        an account that no row has has never; so has each of a column, from one more than the greatest account on
+--     time-le, time-day     a time is at most never, and below never a day of the range
+--     account-time, row-time     core times are such times
+--     row-outside, row-day     a row outside the range has never, any other its own day or a later one
 -- Assumes nothing.
 use Prim.Native.Nat.{ℕ, zero, suc, _+_, _-_, max, _≤_, _<_}
 use native.Mathlib.Nat.{le-refl, le-trans, le-antisymm, eq-or-lt-of-le}
@@ -21,12 +24,12 @@ use mathlib.Core.List.{_∷_}
 use lib.ListN.{replicate}
 use lib.Dec.{leb}
 use borrow.Author.Tests.{leb-true, le-leb}
-use Rattle.rings.specs.Words.{marked, count, run}
+use Rattle.rings.specs.Words.{marked, count, tabulate}
 use Rattle.rings.specs.Table.{Table, size, dayOf, firstOf, secondOf}
 use Rattle.rings.specs.Ring.{names, met, ring, inRing, members}
 use Rattle.rings.specs.CoreTimes.{never, least, accountTime, rowTime}
 use Rattle.rings.specs.declared.Query.{Query}
-use Rattle.rings.proofs.WordLaws.{look, clash, same-truth, count-same}
+use Rattle.rings.proofs.WordLaws.{true-or-false, clash, same-truth, count-same}
 use Rattle.rings.proofs.RingLaws.{Inside, met-e, met-mono, in-window, two-met, met-first, met-second, ring-grows, in-grows, ring-sized, in-marked, marked-in}
 use Rattle.rings.proofs.OthersLaws.{touch-named}
 
@@ -52,13 +55,13 @@ least-cases p s zero = _⊎_.inl refl
 least-cases p s (suc n) =
     ⊎-elim (λ h. _⊎_.inr (subst (Least p s (suc n)) (sym (least-yes p s n h)) (record { from = le-refl s; below = omega arith; has = h })))
     (λ h. subst (λ (x : ℕ). (x ≡ never) ⊎ Least p s (suc n) x) (sym (least-no p s n h))
-    (⊎-elim _⊎_.inl (λ l. _⊎_.inr (record { from = omega (arith, l .from); below = omega (arith, l .below); has = l .has })) (least-cases p (suc s) n))) (look (p s))
+    (⊎-elim _⊎_.inl (λ l. _⊎_.inr (record { from = omega (arith, l .from); below = omega (arith, l .below); has = l .has })) (least-cases p (suc s) n))) (true-or-false (p s))
 
 least-le : (p : ℕ → Bool) (s n e : ℕ) → s ≤ e → e < s + n → p e ≡ true → least p s n ≤ e
 least-le p s zero e h l k = absurd (omega arith)
 least-le p s (suc n) e h l k =
     ⊎-elim (λ a. subst (λ (x : ℕ). x ≤ e) (sym (least-yes p s n a)) h)
-    (λ a. subst (λ (x : ℕ). x ≤ e) (sym (least-no p s n a)) (least-le p (suc s) n e (later a) (omega arith) k)) (look (p s))
+    (λ a. subst (λ (x : ℕ). x ≤ e) (sym (least-no p s n a)) (least-le p (suc s) n e (later a) (omega arith) k)) (true-or-false (p s))
   where
     later : p s ≡ false → suc s ≤ e
     later a = ⊎-elim (λ q. clash k (subst (λ (x : ℕ). p x ≡ false) q a)) (λ q. q) (eq-or-lt-of-le h)
@@ -155,7 +158,7 @@ module _ (t : Table) (q : Query) (hi : ℕ) where
     unfolding rowTime
     row-outside j f =
         none-never (λ e. inRing t q s e j) s hi
-        (λ e l h. ⊎-elim (λ k. let w = in-window t q s e j k in absurd (f (record { row = w .row; from = w .from; to = le-trans (w .to) h }))) (λ k. k) (look (inRing t q s e j)))
+        (λ e l h. ⊎-elim (λ k. let w = in-window t q s e j k in absurd (f (record { row = w .row; from = w .from; to = le-trans (w .to) h }))) (λ k. k) (true-or-false (inRing t q s e j)))
 
     pub row-before : (j : ℕ) → dayOf t j < s → rowTime t q hi s j ≡ never
     row-before j h = row-outside j (λ i. let f = i .from in omega arith)
@@ -209,9 +212,9 @@ module _ (t : Table) (q : Query) (hi : ℕ) where
     pub row-never : (j : ℕ) → rowTime t q hi s j ≡ never → rowTime t q hi s′ j ≡ never
     row-never j e = let a = row-later j in let b = time-le {s = s′} {hi = hi} fits (row-time s′ j) in omega arith
 
-  pub rows-quiet : hi < never → (s : ℕ) → ((u : ℕ) → u < 4096 → accountTime t q hi s u ≡ never) → (j : ℕ) → firstOf t j < 4096 → rowTime t q hi s j ≡ never
-  rows-quiet fits s quiet j l =
-      ⊎-elim (λ n. n) (λ r. let h = r .1 in let k = row-reach-e s fits j (rowTime t q hi s j) h (le-refl (rowTime t q hi s j)) in let a = account-reach-i s (firstOf t j) (rowTime t q hi s j) (r .0) h (met-first t q s (rowTime t q hi s j) j k) in let e = quiet (firstOf t j) l in absurd (omega arith))
+  pub rows-untimed : hi < never → (s : ℕ) → ((u : ℕ) → u < 4096 → accountTime t q hi s u ≡ never) → (j : ℕ) → firstOf t j < 4096 → rowTime t q hi s j ≡ never
+  rows-untimed fits s untimed j l =
+      ⊎-elim (λ n. n) (λ r. let h = r .1 in let k = row-reach-e s fits j (rowTime t q hi s j) h (le-refl (rowTime t q hi s j)) in let a = account-reach-i s (firstOf t j) (rowTime t q hi s j) (r .0) h (met-first t q s (rowTime t q hi s j) j k) in let e = untimed (firstOf t j) l in absurd (omega arith))
       (row-time s j)
 
 -- ---- accounts that no row has
@@ -225,10 +228,10 @@ module _ (t : Table) (q : Query) (hi s : ℕ) (fits : hi < never) where
       let m = met-e t (ring t q s x) u (account-reach-e t q hi s fits u x (d .1) (le-refl x)) in
       let l = touch-named t (m .row) u (m .touch) in absurd (omega arith)) (account-time t q hi s u)
 
-  pub times-absent : (i n : ℕ) → names t ≤ i → run (accountTime t q hi s) i n ≡ replicate n never
-  unfolding run
+  pub times-absent : (i n : ℕ) → names t ≤ i → tabulate (accountTime t q hi s) i n ≡ replicate n never
+  unfolding tabulate
   times-absent i zero h = refl
   times-absent i (suc n) h =
       let a : accountTime t q hi s i ≡ never = account-absent i h in
-      let b : run (accountTime t q hi s) (suc i) n ≡ replicate n never = times-absent (suc i) n (omega arith) in
+      let b : tabulate (accountTime t q hi s) (suc i) n ≡ replicate n never = times-absent (suc i) n (omega arith) in
       λ k. a k ∷ b k

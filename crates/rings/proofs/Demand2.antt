@@ -16,7 +16,7 @@ use mathlib.Core.List.{List, map}
 use lib.ListN.{length, length-map}
 use lib.Dec.{leb, ltb, eqb}
 use borrow.Author.Tests.{ltb-false}
-use Rattle.rings.specs.Words.{_and_, no, at, marked, run}
+use Rattle.rings.specs.Words.{_and_, no, at, marked, tabulate}
 use Rattle.rings.specs.Table.{Table, size, dayOf, firstOf, secondOf}
 use Rattle.rings.specs.Ring.{met, IsRing, ring, members}
 use Rattle.rings.specs.CoreTimes.{never, accountTime, rowTime, IsCoreTime}
@@ -33,7 +33,7 @@ use Rattle.rings.specs.declared.refusal.Refusal.the-variants.{BadWindow,
 use Rattle.rings.specs.declared.refusal.Verdict.{Verdict}
 use Rattle.rings.specs.declared.refusal.Verdict.the-variants.{Accepted}
 use Rattle.rings.specs.declared.refusal.Counted.{Counted}
-use Rattle.rings.proofs.WordLaws.{look, clash, length-run, getD-run}
+use Rattle.rings.proofs.WordLaws.{true-or-false, clash, length-tabulate, getD-tabulate}
 use Rattle.rings.proofs.CheckLaws.{accepted-left, accepted-right, when-accepted, passed, counted-e}
 use Rattle.rings.proofs.RingLaws.{ring-is, ring-only, marked-in, in-marked}
 use Rattle.rings.proofs.OthersLaws.{DistinctOthers, distinct-others, accounts-rise}
@@ -154,7 +154,7 @@ module _ (t : Table) (q : Query) where
     yes has e h m r = ap has (ring-only t q s e m r) ∙ h
 
     none : (has : List Bool → Bool) (e : ℕ) → (has (ring t q s e) ≡ true → ⊥) → (m : List Bool) → IsRing t q s e m → has m ≡ false
-    none has e h m r = ⊎-elim (λ y. absurd (h (ap has (sym (ring-only t q s e m r)) ∙ y))) (λ y. y) (look (has m))
+    none has e h m r = ⊎-elim (λ y. absurd (h (ap has (sym (ring-only t q s e m r)) ∙ y))) (λ y. y) (true-or-false (has m))
 
     -- a time that exactly the days from it on reach is the core time
     core-time : (has : List Bool → Bool) (x : ℕ) → (x ≡ never) ⊎ ((s ≤ x) × (x ≤ hi))
@@ -182,18 +182,18 @@ module _ (t : Table) (q : Query) where
 
     module _ (accepted : tableCheck t ≡ Accepted) where
       abbrev account-times : List ℕ
-      account-times = run (accountTime t q hi s) 0 4096
+      account-times = tabulate (accountTime t q hi s) 0 4096
 
       abbrev row-times : List ℕ
-      row-times = run (rowTime t q hi s) 0 (size t)
+      row-times = tabulate (rowTime t q hi s) 0 (size t)
 
       at-account : (u : ℕ) → u < 4096 → at account-times u ≡ accountTime t q hi s u
       unfolding at
-      at-account u l = getD-run (accountTime t q hi s) 0 4096 u 0 l ∙ ap (accountTime t q hi s) (zero-add u)
+      at-account u l = getD-tabulate (accountTime t q hi s) 0 4096 u 0 l ∙ ap (accountTime t q hi s) (zero-add u)
 
       at-row : (j : ℕ) → j < size t → at row-times j ≡ rowTime t q hi s j
       unfolding at
-      at-row j l = getD-run (rowTime t q hi s) 0 (size t) j 0 l ∙ ap (rowTime t q hi s) (zero-add j)
+      at-row j l = getD-tabulate (rowTime t q hi s) 0 (size t) j 0 l ∙ ap (rowTime t q hi s) (zero-add j)
 
       rule : (j : ℕ) → j < size t → s ≤ dayOf t j → dayOf t j ≤ hi
           → at row-times j ≡ max (max (at account-times (firstOf t j)) (at account-times (secondOf t j))) (dayOf t j)
@@ -208,8 +208,8 @@ module _ (t : Table) (q : Query) where
       columns : TimesLeft t q hi s account-times row-times
       columns =
           record {
-            all-accounts = length-run (accountTime t q hi s) 0 4096;
-            all-rows = length-run (rowTime t q hi s) 0 (size t);
+            all-accounts = length-tabulate (accountTime t q hi s) 0 4096;
+            all-rows = length-tabulate (rowTime t q hi s) 0 (size t);
             account-so = λ u l. subst (IsCoreTime t q hi s (λ m. met t m u)) (sym (at-account u l)) (account-is u);
             row-so = λ j l. subst (IsCoreTime t q hi s (λ m. marked m j)) (sym (at-row j l)) (row-is j);
             row-rule = rule;
@@ -292,7 +292,7 @@ module _ (t : Table) (q : Query) where
   unfolding recallAnswer
   recall-passed c s e places h =
       let equal = eqb (length (c .starts)) (length (c .rows)) and eqb (length (c .ends)) (length (c .rows)) and eqb places (size t) in
-      let listed = inOrder (run (entryCheck t c) 0 (length (c .rows))) in
+      let listed = inOrder (tabulate (entryCheck t c) 0 (length (c .rows))) in
       let h₁ = accepted-right (tableCheck t) (BadLengths when no equal then listed then rangeCheck s e) h in
       let h₂ = accepted-right (BadLengths when no equal) (listed then rangeCheck s e) h₁ in
       range-e s e (accepted-right listed (rangeCheck s e) h₂) .2
@@ -302,19 +302,19 @@ module _ (t : Table) (q : Query) where
     es = entries (c .rows) (c .starts) (c .ends)
 
     abbrev left : List ℕ
-    left = marks (run (recalled es s e) 0 (size t))
+    left = marks (tabulate (recalled es s e) 0 (size t))
 
     at-mark : (j : ℕ) → j < size t → at left j ≡ mark (recalled es s e j)
     unfolding at marks
     at-mark j l =
-        mapped mark false (run (recalled es s e) 0 (size t)) j (subst (λ (n : ℕ). j < n) (sym (length-run (recalled es s e) 0 (size t))) l)
-        ∙ ap mark (getD-run (recalled es s e) 0 (size t) j false l ∙ ap (recalled es s e) (zero-add j))
+        mapped mark false (tabulate (recalled es s e) 0 (size t)) j (subst (λ (n : ℕ). j < n) (sym (length-tabulate (recalled es s e) 0 (size t))) l)
+        ∙ ap mark (getD-tabulate (recalled es s e) 0 (size t) j false l ∙ ap (recalled es s e) (zero-add j))
 
     marked-so : (j : ℕ) → j < size t → ((at left j ≡ 1) × ListedInside es s e j) ⊎ ((at left j ≡ 0) × (ListedInside es s e j → ⊥))
     unfolding mark
     marked-so j l =
         ⊎-elim (λ y. _⊎_.inl (at-mark j l ∙ ap mark y, recalled-e es s e j y))
-        (λ y. _⊎_.inr (at-mark j l ∙ ap mark y, λ w. clash (recalled-i es s e j w) y)) (look (recalled es s e j))
+        (λ y. _⊎_.inr (at-mark j l ∙ ap mark y, λ w. clash (recalled-i es s e j w) y)) (true-or-false (recalled es s e j))
 
     recall-left : (old : List ℕ)
         → (let answer = recallAnswer t c s e (length old) in answer ≡ Accepted → RecallLeft t q c s e (recallMarks answer t c s e old))
@@ -323,7 +323,7 @@ module _ (t : Table) (q : Query) where
         let top = recall-passed c s e (length old) h in
         subst (λ (v : Verdict). RecallLeft t q c s e (recallMarks v t c s e old)) (sym h)
         (record {
-          all-rows = length-map (run (recalled es s e) 0 (size t)) mark ∙ length-run (recalled es s e) 0 (size t);
+          all-rows = length-map (tabulate (recalled es s e) 0 (size t)) mark ∙ length-tabulate (recalled es s e) 0 (size t);
           marks-so = marked-so;
           ring-so = λ lo hi A from to m r.
               archive-marks t q lo hi (c .rows) (c .starts) (c .ends) A s e (omega arith) from to old ∙ ap marks (sym (ring-only t q s e m r));

@@ -1,10 +1,11 @@
--- The fixpoint on which the engine rests. A guess x gives each account a day or never.
+-- The fixpoint on which the engine rests. An estimate x gives each account a day or never.
 --     Lower t q hi s x         x is at most each account's core time: x u ≤ c wherever u is met in the ring of [s, c]
 --     Closed t q s x u         x u is never, or u has at least k supporters at x u
 --     enough                   where x is lower, an account met in the ring of [s, c] has at least k supporters at c. So an account that has fewer at x u is not met in the ring of [s, x u], and x u may rise and stay lower
 --     closed-met               where x is closed everywhere, an account with x u ≤ hi is met in the ring of [s, x u]
 --     fixpoint                 lower and closed everywhere: x is the core times
 --     times-lower, times-closed, lower-next    the core times at s are lower and closed, and are lower at a later start
+--     Backs, supports-e, supports-i     a supporter, by the row that makes it one
 -- Assumes nothing.
 use Prim.Native.Nat.{ℕ, _≤_, _<_}
 use native.Mathlib.Nat.{le-refl, le-trans, le-antisymm}
@@ -15,14 +16,14 @@ use mathlib.Core.Bool.{Bool, true}
 use mathlib.Core.List.{List}
 use lib.Dec.{leb}
 use borrow.Author.Tests.{leb-true, le-leb}
-use Rattle.rings.specs.Words.{_and_, _or_, marked, run}
+use Rattle.rings.specs.Words.{_and_, _or_, marked, tabulate}
 use Rattle.rings.specs.Table.{Table, size, firstOf, secondOf, windowRows}
 use Rattle.rings.specs.Ring.{joins, neighbour, names, degree, met, Good, Within, ring}
 use Rattle.rings.specs.CoreTimes.{never, accountTime}
-use Rattle.rings.specs.Inner.Links.{opensBy}
+use Rattle.rings.specs.Inner.Adjacency.{opensBy}
 use Rattle.rings.specs.Inner.Support.{backs, supports, supporters}
 use Rattle.rings.specs.declared.Query.{Query}
-use Rattle.rings.proofs.WordLaws.{and-i, and-l, and-r, some-i, some-e, count-mono, count-some, marked-run-e, marked-run-i}
+use Rattle.rings.proofs.WordLaws.{and-i, and-l, and-r, some-i, some-e, count-mono, count-some, marked-tabulate-e, marked-tabulate-i}
 use Rattle.rings.proofs.RingLaws.{window-i, touch-cases, joins-cases, joins-touch, met-i, met-e, met-mono, neighbour-i, neighbour-e, ring-degree, ring-holds, ring-grows, in-marked}
 use Rattle.rings.proofs.LeadLaws.{Opens, opens-e, opens-i, ring-opens, open-own}
 use Rattle.rings.proofs.CoreTimeLaws.{Time, account-time, account-reach-i, account-reach-e, time-day}
@@ -106,7 +107,7 @@ module _ (t : Table) (q : Query) (hi s : ℕ) (x : ℕ → ℕ) where
     held-i c j h = and-i (opens-i t s c j (h .opens)) (and-i (le-leb (x (firstOf t j)) c (h .one)) (le-leb (x (secondOf t j)) c (h .two)))
 
     core : ℕ → List Bool
-    core c = run (held c) 0 (size t)
+    core c = tabulate (held c) 0 (size t)
 
     -- a supporter of an account with x u ≤ c is a neighbour among these payments
     core-row : (c u v : ℕ) → x u ≤ c → (b : Backs t x s (x u) u v) → marked (core c) (b .row) ≡ true
@@ -115,7 +116,7 @@ module _ (t : Table) (q : Query) (hi s : ℕ) (x : ℕ → ℕ) where
         let p = b .other in
         let d = b .opens .to in
         let o : Opens t s c (b .row) = record { from = b .opens .from; to = omega arith } in
-        marked-run-i (held c) (size t) (b .row) (b .below)
+        marked-tabulate-i (held c) (size t) (b .row) (b .below)
         (held-i c (b .row)
         (⊎-elim (λ e. record { opens = o; one = subst (λ (a : ℕ). x a ≤ c) (sym (e .0)) l; two = subst (λ (a : ℕ). x a ≤ c) (sym (e .1)) (omega arith) })
         (λ e. record { opens = o; one = subst (λ (a : ℕ). x a ≤ c) (sym (e .0)) (omega arith); two = subst (λ (a : ℕ). x a ≤ c) (sym (e .1)) l }) (joins-cases t (b .row) u v (b .join))))
@@ -130,7 +131,7 @@ module _ (t : Table) (q : Query) (hi s : ℕ) (x : ℕ → ℕ) where
     core-within : (c : ℕ) → Within (core c) (windowRows t s c)
     unfolding core
     core-within c =
-        record { all = λ j h. let w = marked-run-e (held c) (size t) j h in let y = held-e c j (w .1) in window-i t s c j (record { row = w .0; from = y .opens .from; to = le-trans (open-own t s j) (y .opens .to) }) }
+        record { all = λ j h. let w = marked-tabulate-e (held c) (size t) j h in let y = held-e c j (w .1) in window-i t s c j (record { row = w .0; from = y .opens .from; to = le-trans (open-own t s j) (y .opens .to) }) }
 
     core-good : (c : ℕ) → c ≤ hi → Good t q (core c)
     unfolding core
@@ -138,7 +139,7 @@ module _ (t : Table) (q : Query) (hi s : ℕ) (x : ℕ → ℕ) where
         record {
           neighbours = λ u m.
               let y = met-e t (core c) u m in
-              let z = held-e c (y .row) (marked-run-e (held c) (size t) (y .row) (y .has) .1) in
+              let z = held-e c (y .row) (marked-tabulate-e (held c) (size t) (y .row) (y .has) .1) in
               core-degree c u h (⊎-elim (λ e. subst (λ (a : ℕ). x a ≤ c) e (z .one)) (λ e. subst (λ (a : ℕ). x a ≤ c) e (z .two)) (touch-cases t (y .row) u (y .touch)));
         }
 

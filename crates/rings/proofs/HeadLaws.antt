@@ -1,9 +1,11 @@
--- The heads of the accounts (src/links.rt): where a walk over the rows of an account begins, from a day on.
---     linked-by      the book stays while the heads move
---     linked-first   a book that was just made has each head at the account's first row
---     linked-later   heads that stand at a day stand at every later one
+-- The heads of the accounts (src/adjacency.rt): where a walk over the rows of an account begins, from a day on.
+--     adjacency-by      the adjacency stays while the heads move
+--     adjacency-first   an adjacency that was just made has each head at the account's first row
+--     adjacency-later   heads that stand at a day stand at every later one
 --     Resetting, resetting-start, resetting-next, resetting-end    the heads go back to the first rows
 --     Moving, moving-start, moving-asks, moving-mid, moving-next, moving-end    they pass the rows up to a day, row by row
+--     Else     what lies outside the heads is as before
+--     resetting-few     a head fits 16 bits
 -- Assumes nothing.
 use Prim.Native.Nat.{ℕ, suc, _+_, _*_, _≤_, _<_}
 use native.Mathlib.Nat.{eq-or-lt-of-le, not-suc-le-zero}
@@ -21,10 +23,10 @@ use Rattle.rings.specs.Words.{at}
 use Rattle.rings.specs.Table.{Table, tableOf, size, dayOf, firstOf, secondOf, Split}
 use Rattle.rings.specs.Ring.{touches}
 use Rattle.rings.specs.Sound.{Sound}
-use Rattle.rings.specs.Inner.Links.{rank, placeOf, Book, Head, Linked, HeadInside, headPassed, HeadsMoved, Ahead}
-use Rattle.rings.proofs.WordLaws.{look, same-or}
+use Rattle.rings.specs.Inner.Adjacency.{rank, offsetOf, PartAdjacency, Head, Adjacency, HeadInside, headPassed, HeadsMoved, Ahead}
+use Rattle.rings.proofs.WordLaws.{true-or-false, same-or}
 use Rattle.rings.proofs.RingLaws.{touch-first, touch-second}
-use Rattle.rings.proofs.LinkLaws.{first-small, second-small, rank-less, places-most, place-step, entry-below}
+use Rattle.rings.proofs.RankLaws.{first-small, second-small, rank-less, places-most, place-step, entry-below}
 
 -- what lies outside the heads is as before
 pub record Else (sc₀ sc : List ℕ) : Type 0 where
@@ -43,78 +45,78 @@ else-set {sc = sc} {u = u} v l E e =
       high = λ p h. ap (λ (ys : List ℕ). getD ys p 0) e ∙ (getD-set-other sc (4096 + u) p v 0 (λ y. omega arith) ∙ E .high p h);
     }
 
-pub linked-by : {t : Table} {day day′ : ℕ} {sc₀ sc : List ℕ} → Linked t day sc₀ → Else sc₀ sc
-    → ((u : ℕ) → u < 4096 → Head t u day′ (getD sc (4096 + u) 0)) → Linked t day′ sc
-linked-by {t} L E H =
+pub adjacency-by : {t : Table} {day day′ : ℕ} {sc₀ sc : List ℕ} → Adjacency t day sc₀ → Else sc₀ sc
+    → ((u : ℕ) → u < 4096 → Head t u day′ (getD sc (4096 + u) 0)) → Adjacency t day′ sc
+adjacency-by {t} L E H =
     record {
       long = subst (λ (n : ℕ). 8192 + 4 * size t ≤ n) (sym (E .long)) (L .long);
       cursors = λ u l. E .low u l ∙ L .cursors u l;
       heads = H;
-      book = λ u r k o y. E .high (8192 + (placeOf t u + rank t u r)) (omega arith) ∙ L .book u r k o y;
+      entries = λ u r k o y. E .high (8192 + (offsetOf t u + rank t u r)) (omega arith) ∙ L .entries u r k o y;
       pairs = λ r l. E .high (8192 + 2 * size t + r) (omega arith) ∙ L .pairs r l;
     }
 
 -- at the account's first row nothing stands before it
-head-first : (t : Table) (u p : ℕ) → p ≡ placeOf t u → Head t u 0 p
+head-first : (t : Table) (u p : ℕ) → p ≡ offsetOf t u → Head t u 0 p
 head-first t u p e = record { from = omega arith; to = let g = place-step t u in omega arith; before = λ i l k h. absurd (omega arith) }
 
-pub linked-first : {t : Table} {sc : List ℕ} → Book t (size t) sc → Linked t 0 sc
-linked-first {t} {sc} B =
+pub adjacency-first : {t : Table} {sc : List ℕ} → PartAdjacency t (size t) sc → Adjacency t 0 sc
+adjacency-first {t} {sc} B =
     record {
       long = B .long;
       cursors = B .cursors;
       heads = λ u l. head-first t u (getD sc (4096 + u) 0) (B .starts u l);
-      book = B .book;
+      entries = B .entries;
       pairs = B .pairs;
     }
 
-pub linked-later : {t : Table} {a b : ℕ} {sc : List ℕ} → Linked t a sc → a ≤ b → Linked t b sc
-linked-later L h =
+pub adjacency-later : {t : Table} {a b : ℕ} {sc : List ℕ} → Adjacency t a sc → a ≤ b → Adjacency t b sc
+adjacency-later L h =
     record {
       long = L .long;
       cursors = L .cursors;
       heads = λ u l.
           let H = L .heads u l in record { from = H .from; to = H .to; before = λ i k y o. let m = H .before i k y o in omega arith };
-      book = L .book;
+      entries = L .entries;
       pairs = L .pairs;
     }
 
 -- ---- back to the first rows
 
 -- the accounts below u have their heads there, and run is where the entries of u begin
-pub record Resetting (t : Table) (sc₀ : List ℕ) (u run : ℕ) (sc : List ℕ) : Type 0 where
+pub record Resetting (t : Table) (sc₀ : List ℕ) (u total : ℕ) (sc : List ℕ) : Type 0 where
   pub else : Else sc₀ sc
-  pub taken : run ≡ placeOf t u
-  pub heads : (v : ℕ) → v < u → v < 4096 → getD sc (4096 + v) 0 ≡ placeOf t v
+  pub taken : total ≡ offsetOf t u
+  pub heads : (v : ℕ) → v < u → v < 4096 → getD sc (4096 + v) 0 ≡ offsetOf t v
 
 pub resetting-start : (t : Table) (sc : List ℕ) → Resetting t sc 0 0 sc
-unfolding placeOf
+unfolding offsetOf
 resetting-start t sc = record { else = else-none sc; taken = refl; heads = λ v h. absurd (not-suc-le-zero h) }
 
-pub resetting-few : (t : Table) {sc₀ sc : List ℕ} {u run : ℕ} → size t ≤ 16384 → Resetting t sc₀ u run sc → run < 65536
+pub resetting-few : (t : Table) {sc₀ sc : List ℕ} {u total : ℕ} → size t ≤ 16384 → Resetting t sc₀ u total sc → total < 65536
 resetting-few t {u = u} m R = let a = R .taken in let b = places-most t u in omega arith
 
-pub resetting-next : {t : Table} {day u run end : ℕ} {sc₀ sc sc′ : List ℕ} → Linked t day sc₀ → Resetting t sc₀ u run sc → u < 4096
-    → end ≡ getD sc u 0 → sc′ ≡ set sc (4096 + u) run → Resetting t sc₀ (u + 1) end sc′
-resetting-next {t} {u = u} {run = run} {sc = sc} {sc′ = sc′} L R l ee e =
+pub resetting-next : {t : Table} {day u total end : ℕ} {sc₀ sc sc′ : List ℕ} → Adjacency t day sc₀ → Resetting t sc₀ u total sc → u < 4096
+    → end ≡ getD sc u 0 → sc′ ≡ set sc (4096 + u) total → Resetting t sc₀ (u + 1) end sc′
+resetting-next {t} {u = u} {total = total} {sc = sc} {sc′ = sc′} L R l ee e =
     record {
-      else = else-set run l (R .else) e;
-      taken = ee ∙ (R .else .low u l ∙ (L .cursors u l ∙ (sym (place-step t u) ∙ ap (placeOf t) (sym (add-one u)))));
+      else = else-set total l (R .else) e;
+      taken = ee ∙ (R .else .low u l ∙ (L .cursors u l ∙ (sym (place-step t u) ∙ ap (offsetOf t) (sym (add-one u)))));
       heads = λ v h k.
           ⊎-elim
           (λ y.
           ap (λ (a : ℕ). getD sc′ (4096 + a) 0) y
           ∙ (ap (λ (ys : List ℕ). getD ys (4096 + u) 0) e
-          ∙ (getD-set-same sc (4096 + u) run 0 (let a = L .long in let b = R .else .long in omega arith)
-          ∙ (R .taken ∙ ap (placeOf t) (sym y)))))
+          ∙ (getD-set-same sc (4096 + u) total 0 (let a = L .long in let b = R .else .long in omega arith)
+          ∙ (R .taken ∙ ap (offsetOf t) (sym y)))))
           (λ y.
           ap (λ (ys : List ℕ). getD ys (4096 + v) 0) e
-          ∙ (getD-set-other sc (4096 + u) (4096 + v) run 0 (λ z. omega arith) ∙ R .heads v y k))
+          ∙ (getD-set-other sc (4096 + u) (4096 + v) total 0 (λ z. omega arith) ∙ R .heads v y k))
           (eq-or-lt-of-le (omega arith));
     }
 
-pub resetting-end : {t : Table} {day u run : ℕ} {sc₀ sc : List ℕ} → Linked t day sc₀ → Resetting t sc₀ u run sc → 4096 ≤ u → Linked t 0 sc
-resetting-end {t} {sc = sc} L R h = linked-by L (R .else) (λ v l. head-first t v (getD sc (4096 + v) 0) (R .heads v (omega arith) l))
+pub resetting-end : {t : Table} {day u total : ℕ} {sc₀ sc : List ℕ} → Adjacency t day sc₀ → Resetting t sc₀ u total sc → 4096 ≤ u → Adjacency t 0 sc
+resetting-end {t} {sc = sc} L R h = adjacency-by L (R .else) (λ v l. head-first t v (getD sc (4096 + v) 0) (R .heads v (omega arith) l))
 
 -- ---- on to a later day
 
@@ -124,7 +126,7 @@ pub record Moving (t : Table) (sc₀ : List ℕ) (j : ℕ) (sc : List ℕ) : Typ
   pub heads : (u : ℕ) → u < 4096 → Ahead t u j (getD sc (4096 + u) 0)
 
 -- lo and the rows after it are not dated before the day of the heads
-ahead-of : {t : Table} {day u lo : ℕ} {sc : List ℕ} → Linked t day sc → u < 4096 → ((j : ℕ) → j < size t → lo ≤ j → day ≤ dayOf t j)
+ahead-of : {t : Table} {day u lo : ℕ} {sc : List ℕ} → Adjacency t day sc → u < 4096 → ((j : ℕ) → j < size t → lo ≤ j → day ≤ dayOf t j)
     → Ahead t u lo (getD sc (4096 + u) 0)
 ahead-of {u = u} {lo} L small late =
     let H = L .heads u small in
@@ -133,7 +135,7 @@ ahead-of {u = u} {lo} L small late =
       to = H .to;
       before = λ i l k h.
           ⊎-elim (λ y. let a = late i l (leb-true lo i y) in let b = H .before i l k h in absurd (omega arith)) (λ y. leb-false lo i y)
-          (look (leb lo i));
+          (true-or-false (leb lo i));
     }
 
 -- row j is one of u's: the head passes a row, which is j or an earlier one
@@ -144,14 +146,14 @@ ahead-pass t u j p l y A =
       to = let a = reached in let b = entry-below t u j y l in omega arith;
       before = λ i k h o.
           ⊎-elim (λ z. let m = leb-true i j z in omega arith)
-          (λ z. let m = rank-less t u j i y (leb-false i j z) in let a = reached in absurd (omega arith)) (look (leb i j));
+          (λ z. let m = rank-less t u j i y (leb-false i j z) in let a = reached in absurd (omega arith)) (true-or-false (leb i j));
     }
   where
-    reached : p ≤ placeOf t u + rank t u j
+    reached : p ≤ offsetOf t u + rank t u j
     reached =
-        ⊎-elim (λ z. leb-true p (placeOf t u + rank t u j) z)
-        (λ z. let m = A .before j l y (leb-false p (placeOf t u + rank t u j) z) in absurd (omega arith))
-        (look (leb p (placeOf t u + rank t u j)))
+        ⊎-elim (λ z. leb-true p (offsetOf t u + rank t u j) z)
+        (λ z. let m = A .before j l y (leb-false p (offsetOf t u + rank t u j) z) in absurd (omega arith))
+        (true-or-false (leb p (offsetOf t u + rank t u j)))
 
 ahead-on : {t : Table} {u j p : ℕ} → Ahead t u j p → Ahead t u (j + 1) p
 ahead-on A = record { from = A .from; to = A .to; before = λ i l k h. let m = A .before i l k h in omega arith }
@@ -160,7 +162,7 @@ module _ (d f g : List ℕ) (S : Sound d f g) where
   abbrev t : Table
   t = tableOf d f g
 
-  pub moving-start : {s lo : ℕ} {sc : List ℕ} → Linked t s sc → Split d s lo → Moving t sc lo sc
+  pub moving-start : {s lo : ℕ} {sc : List ℕ} → Adjacency t s sc → Split d s lo → Moving t sc lo sc
   unfolding dayOf at
   moving-start {sc = sc} L N = record { else = else-none sc; heads = λ u l. ahead-of L l (λ j k h. N .after j h k) }
 
@@ -243,12 +245,12 @@ module _ (d f g : List ℕ) (S : Sound d f g) where
                 subst (λ (c : ℕ). Ahead t c (j + 1) (getD sc₂ (4096 + c) 0)) (sym y)
                 (subst (Ahead t b (j + 1)) (sym set₂) (ahead-pass t b j (getD sc (4096 + b) 0) l has-b (M .heads b moving-second)))
 
-  pub moving-end : {s day next j : ℕ} {sc₀ sc : List ℕ} → Linked t s sc₀ → Moving t sc₀ j sc → j ≤ next → Split d day next → HeadsMoved t day sc₀ sc
+  pub moving-end : {s day next j : ℕ} {sc₀ sc : List ℕ} → Adjacency t s sc₀ → Moving t sc₀ j sc → j ≤ next → Split d day next → HeadsMoved t day sc₀ sc
   unfolding dayOf at
   moving-end L M h N =
       record {
-        linked =
-            linked-by L (M .else)
+        adjacency =
+            adjacency-by L (M .else)
             (λ u k.
             let A = M .heads u k in
             record { from = A .from; to = A .to; before = λ i l y o. N .before i (let m = A .before i l y o in omega arith) });

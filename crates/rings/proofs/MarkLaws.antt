@@ -21,16 +21,17 @@ use Rattle.rings.specs.Table.{Table, tableOf, size, dayOf, firstOf, seco
 use Rattle.rings.specs.Ring.{ring, members, query}
 use Rattle.rings.specs.CoreTimes.{never}
 use Rattle.rings.specs.Buffers.{mark, marks}
-use Rattle.rings.specs.Inner.Peeling.{Fall, nothing, allRows, QueueEmpty, Ready, Span}
+use Rattle.rings.specs.Inner.Peeling.{PeelState, nothing, allRows, QueueEmpty, Ready, Span}
 use Rattle.rings.specs.Inner.Answers.{WholeWindow, Remaining, RowAccounts, bothRemain, RingMarked}
 use Rattle.rings.specs.declared.Query.{Query}
 use Rattle.rings.specs.declared.frame.Frame.{Frame}
 use Rattle.rings.specs.declared.peel.Removal.{Removal}
-use Rattle.rings.proofs.WordLaws.{and-i, and-l, and-r, same-truth, tally-yes, tally-no, count-same}
+use Rattle.rings.proofs.WordLaws.{and-i, and-l, and-r, same-truth, sucIf-yes, sucIf-no, count-same}
 use Rattle.rings.proofs.RingLaws.{ring-sized, in-marked, marked-in, met-first, met-second}
-use Rattle.rings.proofs.LinkLaws.{first-small, second-small}
+use Rattle.rings.proofs.RankLaws.{first-small, second-small}
 use Rattle.rings.proofs.LeadLaws.{Opens, day-opens, opens-ring}
-use Rattle.rings.proofs.FallLaws.{fell-look, stays-met, fell-not}
+use Rattle.rings.proofs.PeelStateLaws.{removed-or-not}
+use Rattle.rings.proofs.PeelEndLaws.{stays-met, removed-not}
 
 pub is-zero : (x : List ℕ) {a v : ℕ} (b : ℕ) → a ≡ b → v ≡ getD x a 0 → v ≡ 0 → eqb (getD x b 0) 0 ≡ true
 is-zero x {a} {v} b ea ev z = eq-eqb (getD x b 0) 0 (ap (λ (c : ℕ). getD x c 0) (sym ea) ∙ (sym ev ∙ z))
@@ -62,7 +63,7 @@ mark-yes {g} {j} {n} {m₀} {m} M l y =
       long = length-set m j 1 ∙ M .long;
       done = mark-one 1 M l (sym (ap mark y));
       counted = let c = M .counted in
-          rw (add-one j) (let t = tally-yes (count g j) y in omega arith);
+          rw (add-one j) (let t = sucIf-yes (count g j) y in omega arith);
     }
 
 pub mark-no : {g : ℕ → Bool} {j n : ℕ} {m₀ m : List ℕ} → Marking g j n m₀ m → j < length m → g j ≡ false → Marking g (j + 1) n m₀ (set m j 0)
@@ -72,7 +73,7 @@ mark-no {g} {j} {n} {m₀} {m} M l y =
       long = length-set m j 0 ∙ M .long;
       done = mark-one 0 M l (sym (ap mark y));
       counted = let c = M .counted in
-          rw (add-one j) (let t = tally-no (count g j) y in omega arith);
+          rw (add-one j) (let t = sucIf-no (count g j) y in omega arith);
     }
 
 -- the count is at most the rows passed
@@ -105,21 +106,21 @@ module _ (d f s : List ℕ) (q : Frame) where
   rg = ring t (q .query) (q .start) (q .stop)
 
   -- peeling leaves those who are met in the ring
-  pub remaining-of : (links : List ℕ) → Ready d f s links q → q .start ≤ q .stop → {end : ℕ} → Span d (q .stop) (q .lo) end → {r : Removal} {x l w : List ℕ}
+  pub remaining-of : (scratch : List ℕ) → Ready d f s scratch q → q .start ≤ q .stop → {end : ℕ} → Span d (q .stop) (q .lo) end → {r : Removal} {x l w : List ℕ}
       → QueueEmpty d f s q (allRows end) r x l w → Remaining t q x
   unfolding dayOf at
-  remaining-of links R order {end} Sp {r} {x} {l} {w} Q =
+  remaining-of scratch R order {end} Sp {r} {x} {l} {w} Q =
       record {
         long = F .buffers .times;
         is-met = stays-met t q (R .setting) F (λ j h k. Sp .inside j h);
-        met-is = λ u k m. ⊎-elim (λ z. z) (λ g. absurd (fell-not t q (R .setting) F u k g order m)) (fell-look x u);
+        met-is = λ u k m. ⊎-elim (λ z. z) (λ g. absurd (removed-not t q (R .setting) F u k g order m)) (removed-or-not x u);
       }
     where
-      F : Fall t q 4096 never end (r .tail) (r .tail) nothing x l w
+      F : PeelState t q 4096 never end (r .tail) (r .tail) nothing x l w
       F =
-          subst (λ (c : ℕ). Fall t q 4096 never end c (r .tail) nothing x l w) (Q .idle)
-          (subst (λ (c : ℕ). Fall t q 4096 never c (r .head) (r .tail) nothing x l w) (Q .goes-on .end)
-          (subst (λ (c : ℕ). Fall t q 4096 c (r .end) (r .head) (r .tail) nothing x l w) (Q .goes-on .day) (Q .goes-on .state)))
+          subst (λ (c : ℕ). PeelState t q 4096 never end c (r .tail) nothing x l w) (Q .idle)
+          (subst (λ (c : ℕ). PeelState t q 4096 never c (r .head) (r .tail) nothing x l w) (Q .goes-on .end)
+          (subst (λ (c : ℕ). PeelState t q 4096 c (r .end) (r .head) (r .tail) nothing x l w) (Q .goes-on .day) (Q .goes-on .state)))
 
   module _ (W : WholeWindow d f s q) {x : List ℕ} (M : Remaining t q x) (j : ℕ) (b : j < length d) where
     rank-a : getD f j 0 < 4096

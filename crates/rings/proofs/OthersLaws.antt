@@ -15,14 +15,14 @@ use mathlib.Core.List.{List, [], _∷_, List·Memᴰ as Mem, List·Memᴰ·head 
 use lib.ListN.{length, getD}
 use lib.Dec.{eqb}
 use borrow.Author.Tests.{eq-eqb, ne-eqb}
-use Rattle.rings.specs.Words.{_and_, no, at, tally, count, run, chosen, Pairwise}
+use Rattle.rings.specs.Words.{_and_, no, at, sucIf, count, tabulate, filterBy, Pairwise}
 use Rattle.rings.specs.Words.Pairwise.{more}
 use Rattle.rings.specs.Table.{Table, size, firstOf, secondOf}
 use Rattle.rings.specs.Ring.{joins, neighbour, greatest, names, degree, touches, Shares, Others}
 use Rattle.rings.specs.TableCheck.{tableCheck}
 use Rattle.rings.specs.declared.refusal.Verdict.the-variants.{Accepted}
-use Rattle.rings.proofs.WordLaws.{look, clash, and-i, and-l, and-r, no-i, no-e, same-truth, tally-yes, tally-no, count-same, count-none}
-use Rattle.rings.proofs.ListLaws.{mem-run, mem-chosen, chosen-mem, pair-run, pair-chosen}
+use Rattle.rings.proofs.WordLaws.{true-or-false, clash, and-i, and-l, and-r, no-i, no-e, same-truth, sucIf-yes, sucIf-no, count-same, count-none}
+use Rattle.rings.proofs.ListLaws.{mem-tabulate, mem-filterBy, filterBy-mem, pair-tabulate, pair-filterBy}
 use Rattle.rings.proofs.RingLaws.{touch-cases, joins-cases, joins-touch, neighbour-i, neighbour-e}
 use Rattle.rings.proofs.TableLaws.{table-sound}
 use Rattle.rings.proofs.PairLaws.{joins-i}
@@ -46,18 +46,18 @@ count-without p r (suc n) x l a b f =
     ⊎-elim (λ e.
     let yes : p n ≡ true = rw e at a in
     let none : r n ≡ false = rw e at b in
-    tally-yes (count p n) yes ∙ (ap suc (count-same p r n (λ i k. f i (λ o. omega arith))) ∙ ap suc (sym (tally-no (count r n) none))))
+    sucIf-yes (count p n) yes ∙ (ap suc (count-same p r n (λ i k. f i (λ o. omega arith))) ∙ ap suc (sym (sucIf-no (count r n) none))))
     (λ k. let same : p n ≡ r n = f n (λ o. omega arith) in
-    ap (tally (p n)) (count-without p r n x k a b f) ∙ (ap (λ (c : Bool). tally c (suc (count r n))) same ∙ past (r n))) (eq-or-lt-of-le (le-of-suc-le-suc l))
+    ap (sucIf (p n)) (count-without p r n x k a b f) ∙ (ap (λ (c : Bool). sucIf c (suc (count r n))) same ∙ past (r n))) (eq-or-lt-of-le (le-of-suc-le-suc l))
   where
-    past : (c : Bool) → tally c (suc (count r n)) ≡ suc (tally c (count r n))
+    past : (c : Bool) → sucIf c (suc (count r n)) ≡ suc (sucIf c (count r n))
     past c =
-        ⊎-elim (λ y. tally-yes (suc (count r n)) y ∙ ap suc (sym (tally-yes (count r n) y)))
-        (λ y. tally-no (suc (count r n)) y ∙ ap suc (sym (tally-no (count r n) y))) (look c)
+        ⊎-elim (λ y. sucIf-yes (suc (count r n)) y ∙ ap suc (sym (sucIf-yes (count r n) y)))
+        (λ y. sucIf-no (suc (count r n)) y ∙ ap suc (sym (sucIf-no (count r n) y))) (true-or-false c)
 
 pub count-list : (p : ℕ → Bool) (n : ℕ) (xs : List ℕ) → Pairwise (λ v w. v ≡ w → ⊥) xs
     → ((v : ℕ) → Mem v xs → (v < n) × (p v ≡ true)) → ((v : ℕ) → v < n → p v ≡ true → Mem v xs) → count p n ≡ length xs
-count-list p n [] a f g = count-none p n (λ i l. ⊎-elim (λ h. absurd (not-nil (g i l h))) (λ h. h) (look (p i)))
+count-list p n [] a f g = count-none p n (λ i l. ⊎-elim (λ h. absurd (not-nil (g i l h))) (λ h. h) (true-or-false (p i)))
 count-list p n (x ∷ xs) (more d a) f g =
     count-without p rest n x (f x (here refl) .0) (f x (here refl) .1) gone others ∙ ap suc (count-list rest n xs a to back)
   where
@@ -65,7 +65,7 @@ count-list p n (x ∷ xs) (more d a) f g =
     rest v = p v and no (eqb v x)
 
     gone : rest x ≡ false
-    gone = ⊎-elim (λ h. clash (eq-eqb x x refl) (no-e (eqb x x) (and-r (p x) (no (eqb x x)) h))) (λ h. h) (look (rest x))
+    gone = ⊎-elim (λ h. clash (eq-eqb x x refl) (no-e (eqb x x) (and-r (p x) (no (eqb x x)) h))) (λ h. h) (true-or-false (rest x))
 
     others : (v : ℕ) → (v ≡ x → ⊥) → p v ≡ rest v
     others v o = same-truth (p v) (rest v) (λ h. and-i h (no-i (ne-eqb v x o))) (λ h. and-l (p v) (no (eqb v x)) h)
@@ -143,18 +143,18 @@ module _ (t : Table) (accepted : tableCheck t ≡ Accepted) where
         (λ v h. let n = neighbour-of v (o .each v h) in (neighbour-named t m u v n, n)) (λ v l h. o .whole v (shares v h))
 
     abbrev found : List ℕ
-    found = chosen (neighbour t m u) (run (λ v. v) 0 (names t))
+    found = filterBy (neighbour t m u) (tabulate (λ v. v) 0 (names t))
 
     are-others : Others t m u found
     are-others =
         record {
-          each = λ v h. shares v (chosen-mem (neighbour t m u) (run (λ v. v) 0 (names t)) h .1);
+          each = λ v h. shares v (filterBy-mem (neighbour t m u) (tabulate (λ v. v) 0 (names t)) h .1);
           whole = λ v w.
               let n = neighbour-of v w in
               let l = neighbour-named t m u v n in
-              mem-chosen (neighbour t m u) (run (λ v. v) 0 (names t)) (mem-run (λ v. v) 0 (names t) v (omega arith) (omega arith)) n;
-          once = pair-chosen (λ v w. v ≡ w → ⊥) (neighbour t m u) (run (λ v. v) 0 (names t))
-              (pair-run (λ v w. v ≡ w → ⊥) (λ v. v) 0 (names t) (λ a b l k o e. omega arith));
+              mem-filterBy (neighbour t m u) (tabulate (λ v. v) 0 (names t)) (mem-tabulate (λ v. v) 0 (names t) v (omega arith) (omega arith)) n;
+          once = pair-filterBy (λ v w. v ≡ w → ⊥) (neighbour t m u) (tabulate (λ v. v) 0 (names t))
+              (pair-tabulate (λ v w. v ≡ w → ⊥) (λ v. v) 0 (names t) (λ a b l k o e. omega arith));
         }
 
     pub distinct-others : DistinctOthers t m u

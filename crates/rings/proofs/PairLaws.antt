@@ -5,6 +5,7 @@
 --     joins-i, joins-ends, joins-other, joins-same, joins-swap    who is joined by a row
 --     joins-pair, pair-joins   rows of one pair join the same accounts
 --     before-yes, before-no    the last row of a pair among the first n
+--     Partner     a number with r for a number with p
 -- Assumes nothing.
 use Prim.Native.Nat.{ℕ, zero, suc, _≤_, _<_, zero-le}
 use native.Mathlib.Nat.{le-refl, eq-or-lt-of-le, not-suc-le-zero}
@@ -17,8 +18,8 @@ use borrow.Author.Tests.{eq-eqb, ne-eqb}
 use Rattle.rings.specs.Words.{_and_, _or_, no, count}
 use Rattle.rings.specs.Table.{Table, firstOf, secondOf}
 use Rattle.rings.specs.Ring.{joins, touches}
-use Rattle.rings.specs.Inner.Links.{pickOther, otherOf, pairBefore}
-use Rattle.rings.proofs.WordLaws.{look, clash, and-i, and-l, and-r, or-l, or-r, no-i, no-e, tally-yes, tally-no, count-less, count-same}
+use Rattle.rings.specs.Inner.Adjacency.{pickOther, otherOf, pairBefore}
+use Rattle.rings.proofs.WordLaws.{true-or-false, clash, and-i, and-l, and-r, or-l, or-r, no-i, no-e, sucIf-yes, sucIf-no, count-less, count-same}
 use Rattle.rings.proofs.RingLaws.{joins-cases, touch-cases}
 
 -- ---- counting by partners
@@ -38,11 +39,11 @@ count-inject p (suc n) r m R f one =
     let left : ℕ → Bool = λ j. r j and no (eqb j (w .it)) in
     let less : count left m < count r m = count-less left r m (w .it) (λ j l h. and-l (r j) (no (eqb j (w .it))) h) (w .below) (off (w .it)) (w .has) in
     let most : count p n ≤ count left m = count-inject p n left m R (λ i l h. let v = f i (omega arith) h in record { it = v .it; below = v .below; has = and-i (v .has) (no-i (ne-eqb (v .it) (w .it) (λ e. let q : i ≡ n = one i n (w .it) (subst (R i) e (v .to)) (w .to) in omega arith))); to = v .to }) one in
-    rw (tally-yes (count p n) a) (omega arith))
-    (λ a. rw (tally-no (count p n) a) (count-inject p n r m R (λ i l h. f i (omega arith) h) one)) (look (p n))
+    rw (sucIf-yes (count p n) a) (omega arith))
+    (λ a. rw (sucIf-no (count p n) a) (count-inject p n r m R (λ i l h. f i (omega arith) h) one)) (true-or-false (p n))
   where
     off : (j : ℕ) → r j and no (eqb j j) ≡ false
-    off j = ⊎-elim (λ h. clash (eq-eqb j j refl) (no-e (eqb j j) (and-r (r j) (no (eqb j j)) h))) (λ h. h) (look (r j and no (eqb j j)))
+    off j = ⊎-elim (λ h. clash (eq-eqb j j refl) (no-e (eqb j j) (and-r (r j) (no (eqb j j)) h))) (λ h. h) (true-or-false (r j and no (eqb j j)))
 
 pub count-drop : (p p′ : ℕ → Bool) (n j : ℕ) → j < n → p j ≡ true → p′ j ≡ false → ((i : ℕ) → (i ≡ j → ⊥) → p′ i ≡ p i) → count p n ≡ suc (count p′ n)
 unfolding count
@@ -50,11 +51,11 @@ count-drop p p′ zero j l a b f = absurd (not-suc-le-zero l)
 count-drop p p′ (suc n) j l a b f =
     ⊎-elim (λ e.
     let s : count p n ≡ count p′ n = count-same p p′ n (λ i o. sym (f i (λ x. omega arith))) in
-    tally-yes (count p n) (rw e at a) ∙ ap suc (s ∙ sym (tally-no (count p′ n) (rw e at b))))
+    sucIf-yes (count p n) (rw e at a) ∙ ap suc (s ∙ sym (sucIf-no (count p′ n) (rw e at b))))
     (λ k.
     let s : count p n ≡ suc (count p′ n) = count-drop p p′ n j k a b f in
     let g : p′ n ≡ p n = f n (λ x. omega arith) in
-    ⊎-elim (λ y. tally-yes (count p n) y ∙ ap suc (s ∙ sym (tally-yes (count p′ n) (g ∙ y)))) (λ y. tally-no (count p n) y ∙ (s ∙ ap suc (sym (tally-no (count p′ n) (g ∙ y))))) (look (p n)))
+    ⊎-elim (λ y. sucIf-yes (count p n) y ∙ ap suc (s ∙ sym (sucIf-yes (count p′ n) (g ∙ y)))) (λ y. sucIf-no (count p n) y ∙ (s ∙ ap suc (sym (sucIf-no (count p′ n) (g ∙ y))))) (true-or-false (p n)))
     (eq-or-lt-of-le (native.Mathlib.Nat.le-of-suc-le-suc l))
 
 -- ---- the other account of a row

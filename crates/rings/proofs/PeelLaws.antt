@@ -2,6 +2,9 @@
 -- Nothing here knows what the test is: a rule with more conditions changes `RingLaws.keep-monotone` and not this file.
 --     Stable test m      each row of m passes the test in m
 --     Monotone test      what passes in a set passes in a greater one
+--     within-refl, within-trans     row sets, by inclusion
+--     members-length     a row set has at most as many rows as marks
+--     peel-sized, peel-within, peel-stable, peel-greatest     what is left: a part of the start that passes the test in itself, and the greatest
 -- Assumes nothing.
 use Prim.Native.Nat.{ℕ, zero, suc, _≤_, _<_}
 use native.Mathlib.Omega.{arith}
@@ -12,7 +15,7 @@ use mathlib.Core.List.{List}
 use lib.ListN.{length}
 use Rattle.rings.specs.Words.{_and_, no, marked, some, count}
 use Rattle.rings.specs.Ring.{Within, round, rounds, peel, members}
-use Rattle.rings.proofs.WordLaws.{look, clash, and-i, and-l, and-r, no-i, no-e, some-none, some-e, count-le, count-less, count-pos, length-run, marked-run-e, marked-run-i, marked-below, same-marks}
+use Rattle.rings.proofs.WordLaws.{true-or-false, clash, and-i, and-l, and-r, no-i, no-e, some-none, some-e, count-le, count-less, count-pos, length-tabulate, marked-tabulate-e, marked-tabulate-i, marked-below, same-marks}
 
 pub record Stable (test : List Bool → ℕ → Bool) (m : List Bool) : Type 0 where
   pub passes : (j : ℕ) → marked m j ≡ true → test m j ≡ true
@@ -33,20 +36,20 @@ members-length m = count-le (marked m) (length m)
 module _ (test : List Bool → ℕ → Bool) where
   round-sized : (m : List Bool) → length (round test m) ≡ length m
   unfolding round
-  round-sized m = length-run (λ j. marked m j and test m j) 0 (length m)
+  round-sized m = length-tabulate (λ j. marked m j and test m j) 0 (length m)
 
   round-within : (m : List Bool) → Within (round test m) m
   unfolding round
-  round-within m = record { all = λ j h. and-l (marked m j) (test m j) (marked-run-e (λ i. marked m i and test m i) (length m) j h .1) }
+  round-within m = record { all = λ j h. and-l (marked m j) (test m j) (marked-tabulate-e (λ i. marked m i and test m i) (length m) j h .1) }
 
   -- a row of m that passes the test stays
   round-stays : (m : List Bool) (j : ℕ) → marked m j ≡ true → test m j ≡ true → marked (round test m) j ≡ true
   unfolding round
-  round-stays m j h k = marked-run-i (λ i. marked m i and test m i) (length m) j (marked-below m j h) (and-i h k)
+  round-stays m j h k = marked-tabulate-i (λ i. marked m i and test m i) (length m) j (marked-below m j h) (and-i h k)
 
   round-passes : (m : List Bool) (j : ℕ) → marked (round test m) j ≡ true → test m j ≡ true
   unfolding round
-  round-passes m j h = and-r (marked m j) (test m j) (marked-run-e (λ i. marked m i and test m i) (length m) j h .1)
+  round-passes m j h = and-r (marked m j) (test m j) (marked-tabulate-e (λ i. marked m i and test m i) (length m) j h .1)
 
   -- a set from which no row is dropped is left as it is
   round-same : (m : List Bool) → Stable test m → round test m ≡ m
@@ -81,7 +84,7 @@ module _ (test : List Bool → ℕ → Bool) where
       record { passes = λ j k. let p : 0 < count (marked m) (length m) = count-pos (marked m) (length m) j (marked-below m j k) k in absurd (omega arith) }
   rounds-stable (suc n) m h =
       ⊎-elim (λ e. let w = some-e dropped (length m) e in rounds-stable n (round test m) (less w.it (and-l (marked m w.it) (no (marked (round test m) w.it)) w.has) (no-e (marked (round test m) w.it) (and-r (marked m w.it) (no (marked (round test m) w.it)) w.has))))
-      (λ e. let s : Stable test m = steady e in subst (Stable test) (sym (ap (rounds test n) (round-same m s) ∙ rounds-same n m s)) s) (look (some dropped (length m)))
+      (λ e. let s : Stable test m = steady e in subst (Stable test) (sym (ap (rounds test n) (round-same m s) ∙ rounds-same n m s)) s) (true-or-false (some dropped (length m)))
     where
       dropped : ℕ → Bool
       dropped j = marked m j and no (marked (round test m) j)
@@ -90,7 +93,7 @@ module _ (test : List Bool → ℕ → Bool) where
       less j a b = let f : count (marked (round test m)) (length (round test m)) < count (marked m) (length m) = round-fewer m j a b in omega arith
 
       stays : some dropped (length m) ≡ false → (j : ℕ) → marked m j ≡ true → marked (round test m) j ≡ true
-      stays e j a = ⊎-elim (λ b. b) (λ b. clash (and-i a (no-i b)) (some-none dropped (length m) e j (marked-below m j a))) (look (marked (round test m) j))
+      stays e j a = ⊎-elim (λ b. b) (λ b. clash (and-i a (no-i b)) (some-none dropped (length m) e j (marked-below m j a))) (true-or-false (marked (round test m) j))
 
       steady : some dropped (length m) ≡ false → Stable test m
       steady e = record { passes = λ j a. round-passes m j (stays e j a) }

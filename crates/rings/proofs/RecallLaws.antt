@@ -19,7 +19,7 @@ use lib.ListN.{length, getD, set, replicate, length-set, length-map, length-repl
 use lib.Seq.{ext-getD, getD-set-same, getD-set-other}
 use lib.Dec.{leb, ltb, eqb}
 use borrow.Author.Tests.{ltb-true, lt-leb, le-leb, eqb-true, eqb-false, eq-eqb, ne-eqb}
-use Rattle.rings.specs.Words.{_and_, _or_, no, at, some, run, oneOf}
+use Rattle.rings.specs.Words.{_and_, _or_, no, at, some, tabulate, any}
 use Rattle.rings.specs.Table.{Table, tableOf, dayOf}
 use Rattle.rings.specs.Windows.{Entry, entries, recalled}
 use Rattle.rings.specs.Checks.{_when_, _then_, inOrder, rangeCheck}
@@ -31,8 +31,8 @@ use Rattle.rings.specs.declared.refusal.Refusal.{Refusal}
 use Rattle.rings.specs.declared.refusal.Refusal.the-variants.{BadLengths, BadEntry}
 use Rattle.rings.specs.declared.refusal.Verdict.{Verdict}
 use Rattle.rings.specs.declared.refusal.Verdict.the-variants.{Accepted, Refused}
-use Rattle.rings.proofs.WordLaws.{look, and-i, and-l, and-r, or-l, same-truth, some-i, some-e, length-run, getD-run}
-use Rattle.rings.proofs.ListLaws.{mem-run, run-mem, oneOf-i, oneOf-e}
+use Rattle.rings.proofs.WordLaws.{true-or-false, and-i, and-l, and-r, or-l, same-truth, some-i, some-e, length-tabulate, getD-tabulate}
+use Rattle.rings.proofs.ListLaws.{mem-tabulate, tabulate-mem, any-i, any-e}
 use Rattle.rings.proofs.CheckLaws.{then-refused, then-accepted, accepted-left, accepted-right, passed, order-accepted, order-refused, all-accepted}
 
 and-no-l : {a : Bool} (b : Bool) → a ≡ false → a and b ≡ false
@@ -125,11 +125,11 @@ module _ (d r b e : List ℕ) where
   pub judge-refused : {rb sb eb j row start end day : ℕ} {x : Refusal} → Judged d r b e rb sb eb j → j < length r → row ≡ getD r j 0
       → start ≡ getD b j 0 → end ≡ getD e j 0 → day ≡ at d row
       → Refused x ≡ judged j (length d) day (entryOf rb sb eb) (entryOf row start end)
-      → Refused x ≡ inOrder (run (entryCheck (dated d) c) 0 (length r))
+      → Refused x ≡ inOrder (tabulate (entryCheck (dated d) c) 0 (length r))
   judge-refused {j = j} p l h₁ h₂ h₃ h₄ h =
       sym (order-refused (entryCheck (dated d) c) 0 (length r) j (omega arith) (omega arith) (λ i a q. p .passed i q) (entry-here p h₁ h₂ h₃ h₄ h))
 
-  pub judge-end : {rb sb eb j : ℕ} → Judged d r b e rb sb eb j → length r ≤ j → Accepted ≡ inOrder (run (entryCheck (dated d) c) 0 (length r))
+  pub judge-end : {rb sb eb j : ℕ} → Judged d r b e rb sb eb j → length r ≤ j → Accepted ≡ inOrder (tabulate (entryCheck (dated d) c) 0 (length r))
   judge-end p l = sym (order-accepted (entryCheck (dated d) c) 0 (length r) (λ i a q. p .passed i (omega arith)))
 
 -- ---- the answer
@@ -162,10 +162,10 @@ module _ (d f g r b e : List ℕ) (lo hi p : ℕ) where
   days-alone = refl
 
   abbrev listed : Verdict
-  listed = inOrder (run (entryCheck t c′) 0 (length r))
+  listed = inOrder (tabulate (entryCheck t c′) 0 (length r))
 
-  to-listed : {v : Verdict} → v ≡ inOrder (run (entryCheck (dated d) c′) 0 (length r)) → listed ≡ v
-  to-listed h = sym (h ∙ ap (λ (x : ℕ → Verdict). inOrder (run x 0 (length r))) days-alone)
+  to-listed : {v : Verdict} → v ≡ inOrder (tabulate (entryCheck (dated d) c′) 0 (length r)) → listed ≡ v
+  to-listed h = sym (h ∙ ap (λ (x : ℕ → Verdict). inOrder (tabulate x 0 (length r))) days-alone)
 
   pub answer-table : {x : Refusal} → Refused x ≡ tableCheck t → Refused x ≡ recallAnswer t c′ lo hi p
   unfolding recallAnswer
@@ -179,7 +179,7 @@ module _ (d f g r b e : List ℕ) (lo hi p : ℕ) where
       (sym h₂))
 
   pub answer-entries : {x : Refusal} → Accepted ≡ tableCheck t → Accepted ≡ (BadLengths when unequal)
-      → Refused x ≡ inOrder (run (entryCheck (dated d) c′) 0 (length r)) → Refused x ≡ recallAnswer t c′ lo hi p
+      → Refused x ≡ inOrder (tabulate (entryCheck (dated d) c′) 0 (length r)) → Refused x ≡ recallAnswer t c′ lo hi p
   unfolding recallAnswer
   answer-entries h₁ h₂ h₃ =
       sym
@@ -187,7 +187,7 @@ module _ (d f g r b e : List ℕ) (lo hi p : ℕ) where
       ∙ (then-accepted (listed then rangeCheck lo hi) (sym h₂) ∙ then-refused (rangeCheck lo hi) (to-listed h₃)))
 
   pub answer-window : {v : Verdict} → Accepted ≡ tableCheck t → Accepted ≡ (BadLengths when unequal)
-      → Accepted ≡ inOrder (run (entryCheck (dated d) c′) 0 (length r)) → v ≡ rangeCheck lo hi → v ≡ recallAnswer t c′ lo hi p
+      → Accepted ≡ inOrder (tabulate (entryCheck (dated d) c′) 0 (length r)) → v ≡ rangeCheck lo hi → v ≡ recallAnswer t c′ lo hi p
   unfolding recallAnswer
   answer-window h₁ h₂ h₃ h₄ =
       sym
@@ -282,7 +282,7 @@ module _ (r b e : List ℕ) (lo hi : ℕ) where
       record {
         inside = omega arith;
         long = length-set m row 1 ∙ p .long;
-        mark-at = λ k o. ⊎-elim (λ x. here k (eqb-true (getD r i 0) k x) x) (λ x. other k o x) (look (eqb (getD r i 0) k));
+        mark-at = λ k o. ⊎-elim (λ x. here k (eqb-true (getD r i 0) k x) x) (λ x. other k o x) (true-or-false (eqb (getD r i 0) k));
       }
     where
       room : row < length m
@@ -305,7 +305,7 @@ module _ (r b e : List ℕ) (lo hi : ℕ) where
   -- a row is recalled if some entry hits it
   recalled-is : (k : ℕ) → recalled (entries r b e) lo hi k ≡ some (hits c″ lo hi k) (length r)
   unfolding recalled entries hits
-  recalled-is k = same-truth (oneOf test (run it 0 (length r))) (some (hits c″ lo hi k) (length r)) found kept
+  recalled-is k = same-truth (any test (tabulate it 0 (length r))) (some (hits c″ lo hi k) (length r)) found kept
     where
       test : Entry → Bool
       test x = eqb (x .row) k and leb lo (x .start) and leb (x .end) hi
@@ -313,29 +313,29 @@ module _ (r b e : List ℕ) (lo hi : ℕ) where
       it : ℕ → Entry
       it i = entryOf (at r i) (at b i) (at e i)
 
-      found : oneOf test (run it 0 (length r)) ≡ true → some (hits c″ lo hi k) (length r) ≡ true
+      found : any test (tabulate it 0 (length r)) ≡ true → some (hits c″ lo hi k) (length r) ≡ true
       found h =
-          let w = oneOf-e test (run it 0 (length r)) h in
-          let m = run-mem it 0 (length r) (w .member) in
+          let w = any-e test (tabulate it 0 (length r)) h in
+          let m = tabulate-mem it 0 (length r) (w .member) in
           let l = m .below in
           some-i (hits c″ lo hi k) (length r) (m .it) (omega arith) (subst (λ (x : Entry). test x ≡ true) (m .is) (w .has))
 
-      kept : some (hits c″ lo hi k) (length r) ≡ true → oneOf test (run it 0 (length r)) ≡ true
+      kept : some (hits c″ lo hi k) (length r) ≡ true → any test (tabulate it 0 (length r)) ≡ true
       kept h =
           let w = some-e (hits c″ lo hi k) (length r) h in
           let l = w .below in
-          oneOf-i test (run it 0 (length r)) (it (w .it)) (mem-run it 0 (length r) (w .it) (omega arith) (omega arith)) (w .has)
+          any-i test (tabulate it 0 (length r)) (it (w .it)) (mem-tabulate it 0 (length r) (w .it) (omega arith) (omega arith)) (w .has)
 
   pub mark-end : {n i : ℕ} {m : List ℕ} → Marking r b e lo hi n i m → length r ≤ i → m ≡ marksOf c″ lo hi n
   unfolding marks mark
   mark-end {n} {i} {m} p l =
-      ext-getD 0 m (map mark rows) (p .long ∙ sym (length-map rows mark ∙ length-run row 0 n)) each
+      ext-getD 0 m (map mark rows) (p .long ∙ sym (length-map rows mark ∙ length-tabulate row 0 n)) each
     where
       row : ℕ → Bool
       row = recalled (entries r b e) lo hi
 
       rows : List Bool
-      rows = run row 0 n
+      rows = tabulate row 0 n
 
       last : i ≡ length r
       last = let o = p .inside in omega arith
@@ -345,4 +345,4 @@ module _ (r b e : List ℕ) (lo hi : ℕ) where
           let o′ : k < n = subst (λ (x : ℕ). k < x) (p .long) o in
           p .mark-at k o′
           ∙ (ap (λ (x : ℕ). mark (some (hits c″ lo hi k) x)) last
-          ∙ (ap mark (sym (recalled-is k) ∙ sym (getD-run row 0 n k false o′ ∙ ap row (zero-add k))) ∙ sym (List·getD-map mark rows k false)))
+          ∙ (ap mark (sym (recalled-is k) ∙ sym (getD-tabulate row 0 n k false o′ ∙ ap row (zero-add k))) ∙ sym (List·getD-map mark rows k false)))

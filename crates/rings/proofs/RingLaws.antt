@@ -8,6 +8,11 @@
 --     ring-degree              an account met in the ring has at least k neighbours there
 --     two-met                  a row of the window between two accounts of the ring is in the ring
 --     ring-holds               a good set of the window's rows is within the ring
+--     Inside, window-e, window-i, window-sized, window-grows     the rows of a window
+--     touch-first, touch-second, joins-touch     the accounts of a row
+--     Meets, met-mono     an account that is met, by a row
+--     Joined, neighbour-i, neighbour-e, degree-mono     a neighbour, by a row
+--     ring-sized, ring-within, ring-good, in-marked, marked-in, in-grows     a ring as a row set, and as a test of rows
 -- Assumes nothing.
 use Prim.Native.Nat.{ℕ, _≤_, _<_}
 use native.Mathlib.Nat.{le-trans}
@@ -18,11 +23,11 @@ use mathlib.Core.List.{List}
 use lib.ListN.{length}
 use lib.Dec.{leb, eqb}
 use borrow.Author.Tests.{leb-true, le-leb, eqb-true, eq-eqb}
-use Rattle.rings.specs.Words.{_and_, _or_, marked, run}
+use Rattle.rings.specs.Words.{_and_, _or_, marked, tabulate}
 use Rattle.rings.specs.Table.{Table, size, dayOf, firstOf, secondOf, inWindow, windowRows}
 use Rattle.rings.specs.Ring.{joins, neighbour, names, degree, touches, met, Good, Within, IsRing, keep, ring, inRing}
 use Rattle.rings.specs.declared.Query.{Query}
-use Rattle.rings.proofs.WordLaws.{and-i, and-l, and-r, or-l, or-r, or-e, some-i, some-e, count-mono, length-run, marked-run-e, marked-run-i, same-marks}
+use Rattle.rings.proofs.WordLaws.{and-i, and-l, and-r, or-l, or-r, or-e, some-i, some-e, count-mono, length-tabulate, marked-tabulate-e, marked-tabulate-i, same-marks}
 use Rattle.rings.proofs.PeelLaws.{Stable, Monotone, within-trans, peel-sized, peel-within, peel-stable, peel-greatest}
 
 -- ---- windows
@@ -35,16 +40,16 @@ pub record Inside (t : Table) (s e j : ℕ) : Type 0 where
 pub window-e : (t : Table) (s e j : ℕ) → marked (windowRows t s e) j ≡ true → Inside t s e j
 unfolding windowRows inWindow
 window-e t s e j h =
-    let w = marked-run-e (λ i. inWindow s e (dayOf t i)) (size t) j h in
+    let w = marked-tabulate-e (λ i. inWindow s e (dayOf t i)) (size t) j h in
     record { row = w.0; from = leb-true s (dayOf t j) (and-l (leb s (dayOf t j)) (leb (dayOf t j) e) w.1); to = leb-true (dayOf t j) e (and-r (leb s (dayOf t j)) (leb (dayOf t j) e) w.1) }
 
 pub window-i : (t : Table) (s e j : ℕ) → Inside t s e j → marked (windowRows t s e) j ≡ true
 unfolding windowRows inWindow
-window-i t s e j i = marked-run-i (λ n. inWindow s e (dayOf t n)) (size t) j (i .row) (and-i (le-leb s (dayOf t j) (i .from)) (le-leb (dayOf t j) e (i .to)))
+window-i t s e j i = marked-tabulate-i (λ n. inWindow s e (dayOf t n)) (size t) j (i .row) (and-i (le-leb s (dayOf t j) (i .from)) (le-leb (dayOf t j) e (i .to)))
 
 pub window-sized : (t : Table) (s e : ℕ) → length (windowRows t s e) ≡ size t
 unfolding windowRows
-window-sized t s e = length-run (λ j. inWindow s e (dayOf t j)) 0 (size t)
+window-sized t s e = length-tabulate (λ j. inWindow s e (dayOf t j)) 0 (size t)
 
 pub window-grows : (t : Table) {s s′ e e′ : ℕ} → s′ ≤ s → e ≤ e′ → Within (windowRows t s e) (windowRows t s′ e′)
 window-grows t {s} {s′} {e} {e′} p r =
@@ -199,19 +204,19 @@ module _ (t : Table) (q : Query) where
     unfolding inRing
     two-met j i a b =
         ring-holds more more-within (record { neighbours = more-good }) .all j
-        (marked-run-i also (size t) j (i .row) (or-r (marked (ring t q s e) j) (eqb j j) (eq-eqb j j refl)))
+        (marked-tabulate-i also (size t) j (i .row) (or-r (marked (ring t q s e) j) (eqb j j) (eq-eqb j j refl)))
       where
         also : ℕ → Bool
         also n = marked (ring t q s e) n or eqb n j
 
         more : List Bool
-        more = run also 0 (size t)
+        more = tabulate also 0 (size t)
 
         more-within : Within more (windowRows t s e)
-        more-within = record { all = λ n h. ⊎-elim (ring-within .all n) (λ p. window-i t s e n (subst (Inside t s e) (sym (eqb-true n j p)) i)) (or-e (marked (ring t q s e) n) (eqb n j) (marked-run-e also (size t) n h .1)) }
+        more-within = record { all = λ n h. ⊎-elim (ring-within .all n) (λ p. window-i t s e n (subst (Inside t s e) (sym (eqb-true n j p)) i)) (or-e (marked (ring t q s e) n) (eqb n j) (marked-tabulate-e also (size t) n h .1)) }
 
         fewer : Within (ring t q s e) more
-        fewer = record { all = λ n h. marked-run-i also (size t) n (window-e t s e n (ring-within .all n h) .row) (or-l (marked (ring t q s e) n) (eqb n j) h) }
+        fewer = record { all = λ n h. marked-tabulate-i also (size t) n (window-e t s e n (ring-within .all n h) .row) (or-l (marked (ring t q s e) n) (eqb n j) h) }
 
         old : (u : ℕ) → met t (ring t q s e) u ≡ true → q .k ≤ degree t more u
         old u h = le-trans (ring-degree u h) (degree-mono t u fewer)
@@ -222,7 +227,7 @@ module _ (t : Table) (q : Query) where
             ⊎-elim (λ p. old u (met-i t (ring t q s e) (x .row) u (x .below) p (x .touch)))
             (λ p. ⊎-elim (λ f. subst (λ (v : ℕ). q .k ≤ degree t more v) (ap (firstOf t) (sym (eqb-true (x .row) j p)) ∙ f) (old (firstOf t j) a))
             (λ f. subst (λ (v : ℕ). q .k ≤ degree t more v) (ap (secondOf t) (sym (eqb-true (x .row) j p)) ∙ f) (old (secondOf t j) b)) (touch-cases t (x .row) u (x .touch)))
-            (or-e (marked (ring t q s e) (x .row)) (eqb (x .row) j) (marked-run-e also (size t) (x .row) (x .has) .1))
+            (or-e (marked (ring t q s e) (x .row)) (eqb (x .row) j) (marked-tabulate-e also (size t) (x .row) (x .has) .1))
 
     -- the accounts of a row of the ring are met in it
     pub met-first : (j : ℕ) → inRing t q s e j ≡ true → met t (ring t q s e) (firstOf t j) ≡ true

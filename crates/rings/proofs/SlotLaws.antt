@@ -1,9 +1,10 @@
--- The earlier row of each row's pair, found by chains of rows whose pairs have the same slot (src/links.rt).
+-- The earlier row of each row's pair, found by chains of rows whose pairs have the same slot (src/adjacency.rt).
 --     slot-is                                  what `slot_of` returns
 --     Emptying, emptying-start, emptying-next, emptying-end    the loop of `clear_slots`
 --     slot-hit, slot-gap                       the last row with a slot, and that no later one has it
 --     chain-start, chain-last, chain-next, chain-end       the loop of `chain_rows`
 --     pairing-start, Seeking, seek-start, seek-row, seek-place, seek-less, seek-found, seek-next, seek-none, pairing-end     the search of `find_pairs`
+--     row-slot     what the code reads of a row
 -- Assumes nothing.
 use Prim.Native.Nat.{ℕ, zero, suc, _+_, _-_, _*_, _%_, _≤_, _<_}
 use native.Mathlib.Nat.{le-refl, le-antisymm, mod-lt, eq-or-lt-of-le, not-suc-le-zero, le-of-suc-le-suc}
@@ -21,8 +22,8 @@ use Rattle.rings.specs.Words.{at}
 use Rattle.rings.specs.Table.{Table, tableOf, firstOf, secondOf}
 use Rattle.rings.specs.Ring.{joins}
 use Rattle.rings.specs.Sound.{Sound}
-use Rattle.rings.specs.Inner.Links.{pairBefore, earlier, slot, slotOf, slotBefore, Emptied, Chained, Pairing, SlotFound}
-use Rattle.rings.proofs.WordLaws.{look, clash, same-or}
+use Rattle.rings.specs.Inner.Adjacency.{pairBefore, earlier, slot, slotOf, slotBefore, Emptied, Chained, Pairing, SlotFound}
+use Rattle.rings.proofs.WordLaws.{true-or-false, clash, same-or}
 use Rattle.rings.proofs.RingLaws.{joins-cases}
 use Rattle.rings.proofs.PairLaws.{joins-ends, before-yes, before-no}
 
@@ -211,7 +212,7 @@ module _ (d f s : List ℕ) (S : Sound d f s) where
         hit = λ i y. slot-hit t (slotOf t j) j i (sym at-j ∙ y);
         none = λ i a b.
             ⊎-elim (λ y. absurd (slot-gap t (slotOf t j) j i (omega arith) b (joined-slot i j (omega arith) (omega arith) y))) (λ y. y)
-            (look (joins t i (firstOf t j) (secondOf t j)));
+            (true-or-false (joins t i (firstOf t j) (secondOf t j)));
       }
 
   -- the earlier row of row j is stored
@@ -286,11 +287,11 @@ module _ (d f s : List ℕ) (S : Sound d f s) where
                 (joined-slot k j (let r = X .row in omega arith) (X .row) z ∙ sym (X .hit i is-suc))))
                 (λ v. clash z (X .none k (omega arith) o)) (apart k w))
                 (same-or k i))
-                (λ z. z) (look (joins t k (firstOf t j) (secondOf t j)));
+                (λ z. z) (true-or-false (joins t k (firstOf t j) (secondOf t j)));
           }
         where
           apart : (k : ℕ) → (k ≡ i → ⊥) → (k < i) ⊎ (i < k)
-          apart k n = ⊎-elim (λ z. ⊎-elim (λ w. absurd (n w)) _⊎_.inl (eq-or-lt-of-le (leb-true k i z))) (λ z. _⊎_.inr (leb-false k i z)) (look (leb k i))
+          apart k n = ⊎-elim (λ z. ⊎-elim (λ w. absurd (n w)) _⊎_.inl (eq-or-lt-of-le (leb-true k i z))) (λ z. _⊎_.inr (leb-false k i z)) (true-or-false (leb k i))
 
           both : (q r : Bool) → q ≡ true → r ≡ true → (q && r) ≡ true
           both q r e g = ap (λ (w : Bool). w && r) e ∙ g
@@ -303,7 +304,7 @@ module _ (d f s : List ℕ) (S : Sound d f s) where
               (ey ∙ both (eqb (getD f i 0) a) (eqb (getD s i 0) b) (eq-eqb (getD f i 0) a (pair-first i j (X .row) seek-row z ∙ sym ea))
               (eq-eqb (getD s i 0) b (pair-second i j (X .row) seek-row z ∙ sym eb)))
               h)
-              (λ z. z) (look (joins t i (firstOf t j) (secondOf t j)))
+              (λ z. z) (true-or-false (joins t i (firstOf t j) (secondOf t j)))
 
   pub seek-none : {j p : ℕ} {sc sc′ : List ℕ} → Seeking d f s j p sc → p ≤ 0 → sc′ ≡ set sc (8192 + 2 * length d + j) 0 → Pairing t j sc′
   unfolding earlier

@@ -1,6 +1,6 @@
 -- The starts of a range (specs/Starts.antt): what a part above knows of a state that stays shut, and the loop of `first_time`.
 --     start-sound, start-prepared, start-times, start-counts    what a start has: an accepted table, a scratch that is ready, the accounts' times, the rows' day counts
---     times-long, spare-long                        how long its arrays are
+--     times-long, slack-long                        how long its arrays are
 --     Least, least-start, least-next, least-end     the least core time of the rows dated s
 -- Assumes nothing.
 use Prim.Native.Nat.{ℕ, min, _+_, _≤_, _<_}
@@ -22,21 +22,21 @@ use Rattle.rings.specs.Inner.Peeling.{Framed}
 use Rattle.rings.specs.declared.frame.Frame.{Frame}
 use Rattle.rings.specs.Starts.{CountsAt, DatedTime, Earliest, Prepared, TimesAt, AtStart}
 use Rattle.rings.specs.declared.Query.{Query}
-use Rattle.rings.proofs.WordLaws.{look}
+use Rattle.rings.proofs.WordLaws.{true-or-false}
 use Rattle.rings.proofs.CoreTimeLaws.{row-past}
-use Rattle.rings.proofs.DayLaws.{open-framed, shelves-paired}
+use Rattle.rings.proofs.DayLaws.{ready-pruned-framed, pruned-paired}
 
 -- ---- the state at a start
 
-module _ {t : Table} {q : Query} {hi s lo : ℕ} {sc times spare counts : List ℕ} (A : AtStart t q hi s lo sc times spare counts) where
+module _ {t : Table} {q : Query} {hi s lo : ℕ} {sc times slack counts : List ℕ} (A : AtStart t q hi s lo sc times slack counts) where
   pub start-sound : Sound (t .days) (t .first) (t .second)
   start-sound = A .inside .opened .sound
 
   pub start-prepared : Prepared t sc
-  start-prepared = record { inside = shelves-paired (A .inside .opened .shelves) }
+  start-prepared = record { inside = pruned-paired (A .inside .opened .pruned) }
 
   pub start-times : TimesAt t q hi s lo times
-  start-times = record { inside = (open-framed (A .inside .opened), A .inside .times-are) }
+  start-times = record { inside = (ready-pruned-framed (A .inside .opened), A .inside .times-are) }
 
   pub start-counts : CountsAt t q hi s counts
   start-counts = record { long = A .inside .timed .long; each = A .inside .timed .each }
@@ -44,8 +44,8 @@ module _ {t : Table} {q : Query} {hi s lo : ℕ} {sc times spare counts : List �
   pub times-long : length times ≡ 4096
   times-long = A .inside .times-are .long
 
-  pub spare-long : length spare ≡ 4096
-  spare-long = A .inside .spares .long
+  pub slack-long : length slack ≡ 4096
+  slack-long = A .inside .slacks .long
 
 -- ---- the least core time of the rows dated s
 
@@ -59,7 +59,7 @@ least-start f lo = record { top = le-refl never; lower = λ i a b. absurd (omega
 
 pub least-next : {f : ℕ → ℕ} {lo j r time r′ : ℕ} → lo ≤ j → Least f lo j r → time ≡ f j → r′ ≡ min r time → Least f lo (j + 1) r′
 least-next {f} {lo} {j} {r} {time} {r′} o L et er =
-    record { top = let a = L .top in omega arith; lower = λ i a b. ⊎-elim (λ y. let z : f i ≡ f j = ap f y in omega arith) (λ l. let z = L .lower i a l in omega arith) (eq-or-lt-of-le (omega arith)); reached = which (look (leb r time)) }
+    record { top = let a = L .top in omega arith; lower = λ i a b. ⊎-elim (λ y. let z : f i ≡ f j = ap f y in omega arith) (λ l. let z = L .lower i a l in omega arith) (eq-or-lt-of-le (omega arith)); reached = which (true-or-false (leb r time)) }
   where
     old : r′ ≡ r → (r ≡ never) ⊎ ((i : ℕ) × (lo ≤ i) × (i < j) × (f i ≡ r)) → (r′ ≡ never) ⊎ ((i : ℕ) × (lo ≤ i) × (i < j + 1) × (f i ≡ r′))
     old e (_⊎_.inl n) = _⊎_.inl (e ∙ n)
@@ -79,7 +79,7 @@ least-end {d} {f} {s} {p} {j} {next} {r} R N a b L = record { lower = lower; rea
         (λ y.
         let k = leb-false (length d) i y in
         ⊎-elim (λ x. let z = R .setting .before-lo i (ltb-true i (p .lo) x) in absurd (omega arith))
-        (λ x. ⊎-elim (λ v. let z = N .after i (leb-true next i v) k in absurd (omega arith)) (λ v. let g = leb-false next i v in L .lower i (ltb-false i (p .lo) x) (omega arith)) (look (leb next i))) (look (ltb i (p .lo)))) (look (leb (length d) i))
+        (λ x. ⊎-elim (λ v. let z = N .after i (leb-true next i v) k in absurd (omega arith)) (λ v. let g = leb-false next i v in L .lower i (ltb-false i (p .lo) x) (omega arith)) (true-or-false (leb next i))) (true-or-false (ltb i (p .lo)))) (true-or-false (leb (length d) i))
 
     reach : (r ≡ never) ⊎ ((i : ℕ) × (p .lo ≤ i) × (i < j) × (rowTime (tableOf d f s) (p .query) (p .stop) (p .start) i ≡ r)) → (r ≡ never) ⊎ DatedTime (tableOf d f s) (p .query) (p .stop) (p .start) r
     reach (_⊎_.inl n) = _⊎_.inl n

@@ -2,6 +2,7 @@
 --     Passed d f s before j    the loop over rows has passed the rows below j: none has a fault
 --     pass-start, pass-next, pass-refused, pass-end    the loop's laws
 --     table-sound              what the checks say of an accepted table
+--     row-here     the row that is checked
 -- Assumes nothing.
 use Prim.Native.Nat.{ℕ, suc, _+_, _≤_, _<_}
 use native.Mathlib.Nat.{eq-or-lt-of-le, not-suc-le-zero, le-of-suc-le-suc}
@@ -14,7 +15,7 @@ use mathlib.Core.List.{List}
 use lib.ListN.{length, getD}
 use lib.Dec.{leb, ltb, eqb}
 use borrow.Author.Tests.{leb-true, ltb-true, ltb-false, eqb-true}
-use Rattle.rings.specs.Words.{_and_, _or_, no, at, run}
+use Rattle.rings.specs.Words.{_and_, _or_, no, at, tabulate}
 use Rattle.rings.specs.Table.{tableOf, dayOf, firstOf, secondOf}
 use Rattle.rings.specs.Sound.{Sound}
 use Rattle.rings.specs.Checks.{_when_, _then_, inOrder}
@@ -23,7 +24,7 @@ use Rattle.rings.specs.declared.refusal.Refusal.{Refusal}
 use Rattle.rings.specs.declared.refusal.Refusal.the-variants.{UnequalColumns, TooManyRows, BadDay, BadAccounts, OutOfOrder}
 use Rattle.rings.specs.declared.refusal.Verdict.{Verdict}
 use Rattle.rings.specs.declared.refusal.Verdict.the-variants.{Accepted, Refused}
-use Rattle.rings.proofs.WordLaws.{look, clash, and-l, and-r, or-l, or-r, not-no}
+use Rattle.rings.proofs.WordLaws.{true-or-false, clash, and-l, and-r, or-l, or-r, not-no}
 use Rattle.rings.proofs.CheckLaws.{accepted-left, accepted-right, when-accepted, order-accepted, order-refused, all-accepted}
 
 pub record Passed (d f s : List ℕ) (before j : ℕ) : Type 0 where
@@ -55,12 +56,12 @@ module _ (d f s : List ℕ) where
 
   pub pass-refused : (before j : ℕ) (r : Refusal) → Passed d f s before j → j < length d
       → Refused r ≡ rowFaults j before (getD d j 0) (getD f j 0) (getD s j 0)
-      → Refused r ≡ inOrder (run (rowCheck (tableOf d f s)) 0 (length d))
+      → Refused r ≡ inOrder (tabulate (rowCheck (tableOf d f s)) 0 (length d))
   pass-refused before j r p l e =
       sym
       (order-refused (rowCheck (tableOf d f s)) 0 (length d) j (omega arith) (omega arith) (λ i a b. p .passed i b) (row-here before j p e))
 
-  pub pass-end : (before j : ℕ) → Passed d f s before j → length d ≤ j → Accepted ≡ inOrder (run (rowCheck (tableOf d f s)) 0 (length d))
+  pub pass-end : (before j : ℕ) → Passed d f s before j → length d ≤ j → Accepted ≡ inOrder (tabulate (rowCheck (tableOf d f s)) 0 (length d))
   pass-end before j p l = sym (order-accepted (rowCheck (tableOf d f s)) 0 (length d) (λ i a b. p .passed i (omega arith)))
 
 -- ---- an accepted table
@@ -85,10 +86,10 @@ faults-none j before day a b e =
     )
   where
     left-false : (x y : Bool) → x or y ≡ false → x ≡ false
-    left-false x y h = ⊎-elim (λ z. clash (or-l x y z) h) (λ z. z) (look x)
+    left-false x y h = ⊎-elim (λ z. clash (or-l x y z) h) (λ z. z) (true-or-false x)
 
     right-false : (x y : Bool) → x or y ≡ false → y ≡ false
-    right-false x y h = ⊎-elim (λ z. clash (or-r x y z) h) (λ z. z) (look y)
+    right-false x y h = ⊎-elim (λ z. clash (or-r x y z) h) (λ z. z) (true-or-false y)
 
 row-sound : (d f s : List ℕ) (j : ℕ) → rowCheck (tableOf d f s) j ≡ Accepted
     → (1 ≤ getD d j 0) × (getD d j 0 ≤ 1024) × (getD f j 0 < getD s j 0) × (getD s j 0 ≤ 4095) × (dayBefore (tableOf d f s) j ≤ getD d j 0)
@@ -100,7 +101,7 @@ unfolding tableCheck dayBefore dayOf at
 table-sound d f s e =
     let b = no (eqb (length f) (length d) and eqb (length s) (length d)) in
     let g = ltb 16384 (length d) in
-    let rest = inOrder (run (rowCheck (tableOf d f s)) 0 (length d)) in
+    let rest = inOrder (tabulate (rowCheck (tableOf d f s)) 0 (length d)) in
     let e₁ = when-accepted UnequalColumns b (accepted-left (UnequalColumns when b) (TooManyRows when g then rest) e) in
     let e′ = accepted-right (UnequalColumns when b) (TooManyRows when g then rest) e in
     let e₂ = when-accepted TooManyRows g (accepted-left (TooManyRows when g) rest e′) in
@@ -114,6 +115,6 @@ table-sound d f s e =
       rising = record { next = λ j l. row e₃ (suc j) l .4 };
     }
   where
-    row : inOrder (run (rowCheck (tableOf d f s)) 0 (length d)) ≡ Accepted → (j : ℕ) → j < length d
+    row : inOrder (tabulate (rowCheck (tableOf d f s)) 0 (length d)) ≡ Accepted → (j : ℕ) → j < length d
         → (1 ≤ getD d j 0) × (getD d j 0 ≤ 1024) × (getD f j 0 < getD s j 0) × (getD s j 0 ≤ 4095) × (dayBefore (tableOf d f s) j ≤ getD d j 0)
     row h j l = row-sound d f s j (all-accepted (rowCheck (tableOf d f s)) 0 (length d) h j (omega arith) (omega arith))

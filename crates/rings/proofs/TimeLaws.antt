@@ -2,6 +2,7 @@
 --     row-early, row-late, row-mid       what `row_time` returns
 --     Filled, fill-start, fill-next, fill-end      a column filled from the front
 --     accounts-are       the account column
+--     row-reads     what the code reads of a row
 -- Assumes nothing.
 use Prim.Native.Nat.{ℕ, _+_, max, _≤_, _<_}
 use native.Mathlib.Nat.{eq-or-lt-of-le, not-suc-le-zero, zero-add}
@@ -11,15 +12,15 @@ use mathlib.Core.Logic.{⊎-elim}
 use mathlib.Core.List.{List}
 use lib.ListN.{length, getD, set, length-set}
 use lib.Seq.{ext-getD, getD-set-same, getD-set-other}
-use Rattle.rings.specs.Words.{at, run}
+use Rattle.rings.specs.Words.{at, tabulate}
 use Rattle.rings.specs.Table.{tableOf, dayOf, firstOf, secondOf}
 use Rattle.rings.specs.CoreTimes.{never, accountTime, rowTime}
 use Rattle.rings.specs.Ring.{query}
-use Rattle.rings.specs.Inner.Links.{openDay}
+use Rattle.rings.specs.Inner.Adjacency.{openDay}
 use Rattle.rings.specs.Inner.Peeling.{Framed, Span, CoreTimesAre, TimesKnown}
 use Rattle.rings.specs.declared.frame.Frame.{Frame}
-use Rattle.rings.proofs.WordLaws.{length-run, getD-run}
-use Rattle.rings.proofs.LinkLaws.{first-small, second-small}
+use Rattle.rings.proofs.WordLaws.{length-tabulate, getD-tabulate}
+use Rattle.rings.proofs.RankLaws.{first-small, second-small}
 use Rattle.rings.proofs.LeadLaws.{counts-here, open-is, day-opens, row-opens}
 use Rattle.rings.proofs.CoreTimeLaws.{row-before, row-after}
 
@@ -88,12 +89,12 @@ fill-next {g} {j} {m₀} {m} {v} F l e =
           (λ o. getD-set-other m j i v 0 (λ y. omega arith) ∙ F .done i o) (eq-or-lt-of-le (omega arith));
     }
 
-pub fill-end : (g : ℕ → ℕ) {j n : ℕ} {m₀ m : List ℕ} → Filled g j m₀ m → length m₀ ≡ n → n ≤ j → m ≡ run g 0 n
+pub fill-end : (g : ℕ → ℕ) {j n : ℕ} {m₀ m : List ℕ} → Filled g j m₀ m → length m₀ ≡ n → n ≤ j → m ≡ tabulate g 0 n
 fill-end g {j} {n} {m₀} {m} F e h =
-    ext-getD 0 m (run g 0 n) (F .long ∙ (e ∙ sym (length-run g 0 n)))
-    (λ i l. let a = F .long in F .done i (omega arith) ∙ sym (getD-run g 0 n i 0 (omega arith) ∙ ap g (zero-add i)))
+    ext-getD 0 m (tabulate g 0 n) (F .long ∙ (e ∙ sym (length-tabulate g 0 n)))
+    (λ i l. let a = F .long in F .done i (omega arith) ∙ sym (getD-tabulate g 0 n i 0 (omega arith) ∙ ap g (zero-add i)))
 
 pub accounts-are : {d f s : List ℕ} {q : Frame} {x : List ℕ} → CoreTimesAre d f s q x
-    → x ≡ run (accountTime (tableOf d f s) (q .query) (q .stop) (q .start)) 0 4096
+    → x ≡ tabulate (accountTime (tableOf d f s) (q .query) (q .stop) (q .start)) 0 4096
 accounts-are {d} {f} {s} {q} {x} C =
     fill-end (accountTime (tableOf d f s) (q .query) (q .stop) (q .start)) {j = 4096} {m₀ = x} (record { long = refl; done = C .times }) (C .long) (omega arith)

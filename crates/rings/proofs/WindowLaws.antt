@@ -9,6 +9,7 @@
 --     recalled-e, recalled-i        the test `recalled` says what `ListedInside` says
 --     inside-ring, ring-inside      a row is in the ring of a window of the range exactly if an entry of such a list lies inside
 --     recall-ring                   so recall from such a list marks the ring of every window inside the range
+--     Smaller, Inner, OfRange, Earlier     a smaller window; a minimal one inside; a window of the range; the order by start, then end
 -- Assumes nothing.
 use Prim.Native.Nat.{ℕ, zero, suc, _-_, _≤_, _<_}
 use native.Mathlib.Nat.{le-refl, le-trans, eq-or-lt-of-le}
@@ -16,17 +17,17 @@ use native.Mathlib.Omega.{arith}
 use mathlib.Core.Path.{_≡_, refl, sym, ap, subst}
 use mathlib.Core.Logic.{_⊎_, ⊎-elim}
 use mathlib.Core.Bool.{Bool, true, false}
-use mathlib.Core.List.{List, List·Memᴰ as Mem}
+use mathlib.Core.List.{List, List·Memᴰ as Mem, flatten}
 use lib.Dec.{leb, eqb}
 use borrow.Author.Tests.{leb-true, leb-false, le-leb, eqb-true, eq-eqb}
-use Rattle.rings.specs.Words.{_and_, no, every, run, joined, chosen, Pairwise}
+use Rattle.rings.specs.Words.{_and_, no, every, tabulate, filterBy, Pairwise}
 use Rattle.rings.specs.Table.{Table, size}
 use Rattle.rings.specs.Ring.{inRing}
 use Rattle.rings.specs.CoreTimes.{never, rowTime}
 use Rattle.rings.specs.Windows.{Window, windowsFrom, windows, Entry, smaller, minimal, IsMinimal, minimalOf, minimalWindows, Listed, Before, IsMinimalList, recalled, ListedInside}
 use Rattle.rings.specs.declared.Query.{Query}
-use Rattle.rings.proofs.WordLaws.{look, clash, and-i, and-l, and-r, no-i, no-e, every-i, every-e, same-truth}
-use Rattle.rings.proofs.ListLaws.{mem-run, run-mem, mem-joined, joined-mem, mem-chosen, chosen-mem, mem-map, map-mem, oneOf-i, oneOf-e, pair-run, pair-joined, pair-chosen, pair-map, pair-weaken, pair-unique}
+use Rattle.rings.proofs.WordLaws.{true-or-false, clash, and-i, and-l, and-r, no-i, no-e, every-i, every-e, same-truth}
+use Rattle.rings.proofs.ListLaws.{mem-tabulate, tabulate-mem, mem-flatten, flatten-mem, mem-filterBy, filterBy-mem, mem-map, map-mem, any-i, any-e, pair-tabulate, pair-flatten, pair-filterBy, pair-map, pair-weaken, pair-unique}
 use Rattle.rings.proofs.RingLaws.{in-window, in-grows}
 use Rattle.rings.proofs.CoreTimeLaws.{time-day, row-time, row-reach-i, row-reach-e, row-later}
 
@@ -44,7 +45,7 @@ smaller-i s e s′ e′ w =
     and-i (le-leb s s′ (w .from)) (and-i (le-leb s′ e′ (w .order)) (and-i (le-leb e′ e (w .to)) (no-i differ)))
   where
     differ : eqb s s′ and eqb e e′ ≡ false
-    differ = ⊎-elim (λ h. absurd (w .other (eqb-true s s′ (and-l (eqb s s′) (eqb e e′) h), eqb-true e e′ (and-r (eqb s s′) (eqb e e′) h)))) (λ h. h) (look (eqb s s′ and eqb e e′))
+    differ = ⊎-elim (λ h. absurd (w .other (eqb-true s s′ (and-l (eqb s s′) (eqb e e′) h), eqb-true e e′ (and-r (eqb s s′) (eqb e e′) h)))) (λ h. h) (true-or-false (eqb s s′ and eqb e e′))
 
 smaller-e : (s e s′ e′ : ℕ) → smaller s e s′ e′ ≡ true → Smaller s e s′ e′
 unfolding smaller
@@ -78,7 +79,7 @@ module _ (t : Table) (q : Query) where
         has = and-l (inRing t q s e j) all h;
         none-smaller = λ s′ e′ a b c d.
             let k = every-e (none-inside j s e s′) (suc e) (every-e (λ s″. every (none-inside j s e s″) (suc e)) (suc e) (and-r (inRing t q s e j) all h) s′ (omega arith)) e′ (omega arith) in
-            ⊎-elim (λ y. clash (and-i (smaller-i s e s′ e′ (record { from = a; order = b; to = c; other = d })) y) (no-e (smaller s e s′ e′ and inRing t q s′ e′ j) k)) (λ y. y) (look (inRing t q s′ e′ j));
+            ⊎-elim (λ y. clash (and-i (smaller-i s e s′ e′ (record { from = a; order = b; to = c; other = d })) y) (no-e (smaller s e s′ e′ and inRing t q s′ e′ j) k)) (λ y. y) (true-or-false (inRing t q s′ e′ j));
       }
 
   pub minimal-i : (j s e : ℕ) → IsMinimal t q j s e → minimal t q j s e ≡ true
@@ -87,7 +88,7 @@ module _ (t : Table) (q : Query) where
       and-i (m .has)
       (every-i (λ s′. every (none-inside j s e s′) (suc e)) (suc e)
       (λ s′ l. every-i (none-inside j s e s′) (suc e)
-      (λ e′ k. no-i (⊎-elim (λ y. let w = smaller-e s e s′ e′ (and-l (smaller s e s′ e′) (inRing t q s′ e′ j) y) in clash (and-r (smaller s e s′ e′) (inRing t q s′ e′ j) y) (m .none-smaller s′ e′ (w .from) (w .order) (w .to) (w .other))) (λ y. y) (look (smaller s e s′ e′ and inRing t q s′ e′ j))))))
+      (λ e′ k. no-i (⊎-elim (λ y. let w = smaller-e s e s′ e′ (and-l (smaller s e s′ e′) (inRing t q s′ e′ j) y) in clash (and-r (smaller s e s′ e′) (inRing t q s′ e′ j) y) (m .none-smaller s′ e′ (w .from) (w .order) (w .to) (w .other))) (λ y. y) (true-or-false (smaller s e s′ e′ and inRing t q s′ e′ j))))))
 
   -- ---- by core times
 
@@ -114,7 +115,7 @@ module _ (t : Table) (q : Query) where
 
     pub minimal-of-times : (j s e : ℕ) → e ≤ hi → rowTime t q hi s j ≡ e → (rowTime t q hi (suc s) j ≡ e → ⊥) → IsMinimal t q j s e
     minimal-of-times j s e h now later =
-        record { has = row-reach-e t q hi s fits j e h (omega arith); none-smaller = λ s′ e′ a b c d. ⊎-elim (λ y. absurd (inside s′ e′ a b c d y)) (λ y. y) (look (inRing t q s′ e′ j)) }
+        record { has = row-reach-e t q hi s fits j e h (omega arith); none-smaller = λ s′ e′ a b c d. ⊎-elim (λ y. absurd (inside s′ e′ a b c d y)) (λ y. y) (true-or-false (inRing t q s′ e′ j)) }
       where
         inside : (s′ e′ : ℕ) → s ≤ s′ → s′ ≤ e′ → e′ ≤ e → ((s ≡ s′) × (e ≡ e′) → ⊥) → inRing t q s′ e′ j ≡ true → ⊥
         inside s′ e′ a b c d y =
@@ -156,8 +157,8 @@ module _ (t : Table) (q : Query) where
       wider a w = let f = w .from in record { start = w .start; end = w .end; from = omega arith; order = w .order; to = w .to; is-minimal = w .is-minimal }
 
       go : (n a : ℕ) → e - a ≤ n → inRing t q a e j ≡ true → Inner j a e
-      go zero a l y = last a y (⊎-elim (λ z. let o : suc a ≤ e = in-order (suc a) e j z in absurd (omega arith)) (λ z. z) (look (inRing t q (suc a) e j)))
-      go (suc n) a l y = ⊎-elim (λ z. wider a (go n (suc a) (omega arith) z)) (λ z. last a y z) (look (inRing t q (suc a) e j))
+      go zero a l y = last a y (⊎-elim (λ z. let o : suc a ≤ e = in-order (suc a) e j z in absurd (omega arith)) (λ z. z) (true-or-false (inRing t q (suc a) e j)))
+      go (suc n) a l y = ⊎-elim (λ z. wider a (go n (suc a) (omega arith) z)) (λ z. last a y z) (true-or-false (inRing t q (suc a) e j))
 
   pub minimal-inner : (j s e : ℕ) → Inner j s e → inRing t q s e j ≡ true
   minimal-inner j s e w = in-grows t q j (w .from) (w .to) (w .is-minimal .has)
@@ -172,9 +173,9 @@ pub record OfRange (lo hi : ℕ) (w : Window) : Type 0 where
 pub windows-e : (lo hi : ℕ) (w : Window) → Mem w (windows lo hi) → OfRange lo hi w
 unfolding windows windowsFrom
 windows-e lo hi w m =
-    let a = joined-mem (run (windowsFrom hi) lo (suc hi - lo)) m in
-    let b = run-mem (windowsFrom hi) lo (suc hi - lo) (a .is-part) in
-    let c = run-mem (λ e. record { start = b .it; end = e }) (b .it) (suc hi - b .it) (subst (Mem w) (b .is) (a .has)) in
+    let a = flatten-mem (tabulate (windowsFrom hi) lo (suc hi - lo)) m in
+    let b = tabulate-mem (windowsFrom hi) lo (suc hi - lo) (a .is-part) in
+    let c = tabulate-mem (λ e. record { start = b .it; end = e }) (b .it) (suc hi - b .it) (subst (Mem w) (b .is) (a .has)) in
     let x = b .from in let y = b .below in let u = c .from in let v = c .below in
     let s : w .start ≡ b .it = ap (λ (z : Window). z .start) (c .is) in
     let f : w .end ≡ c .it = ap (λ (z : Window). z .end) (c .is) in
@@ -184,7 +185,7 @@ pub windows-i : (lo hi : ℕ) (w : Window) → OfRange lo hi w → Mem w (window
 unfolding windows windowsFrom
 windows-i lo hi w o =
     let a = o .from in let b = o .order in let c = o .to in
-    mem-joined (mem-run (windowsFrom hi) lo (suc hi - lo) (w .start) a (omega arith)) (mem-run (λ e. record { start = w .start; end = e }) (w .start) (suc hi - w .start) (w .end) b (omega arith))
+    mem-flatten (mem-tabulate (windowsFrom hi) lo (suc hi - lo) (w .start) a (omega arith)) (mem-tabulate (λ e. record { start = w .start; end = e }) (w .start) (suc hi - w .start) (w .end) b (omega arith))
 
 -- by start, then end
 abbrev pub Earlier : Window → Window → Type 0
@@ -193,10 +194,10 @@ Earlier v w = (v .start < w .start) ⊎ ((v .start ≡ w .start) × (v .end < w 
 pub windows-order : (lo hi : ℕ) → Pairwise Earlier (windows lo hi)
 unfolding windows windowsFrom
 windows-order lo hi =
-    pair-joined Earlier (run (windowsFrom hi) lo (suc hi - lo))
-    (λ ws m. let b = run-mem (windowsFrom hi) lo (suc hi - lo) m in subst (Pairwise Earlier) (sym (b .is)) (pair-run Earlier (λ e. record { start = b .it; end = e }) (b .it) (suc hi - b .it) (λ x y l k o. _⊎_.inr (refl, k))))
-    (pair-run (λ xs ys. (x y : Window) → Mem x xs → Mem y ys → Earlier x y) (windowsFrom hi) lo (suc hi - lo)
-    (λ a b l k o x y m n. _⊎_.inl (starts a b x y k (run-mem (λ e. record { start = a; end = e }) a (suc hi - a) m .is) (run-mem (λ e. record { start = b; end = e }) b (suc hi - b) n .is))))
+    pair-flatten Earlier (tabulate (windowsFrom hi) lo (suc hi - lo))
+    (λ ws m. let b = tabulate-mem (windowsFrom hi) lo (suc hi - lo) m in subst (Pairwise Earlier) (sym (b .is)) (pair-tabulate Earlier (λ e. record { start = b .it; end = e }) (b .it) (suc hi - b .it) (λ x y l k o. _⊎_.inr (refl, k))))
+    (pair-tabulate (λ xs ys. (x y : Window) → Mem x xs → Mem y ys → Earlier x y) (windowsFrom hi) lo (suc hi - lo)
+    (λ a b l k o x y m n. _⊎_.inl (starts a b x y k (tabulate-mem (λ e. record { start = a; end = e }) a (suc hi - a) m .is) (tabulate-mem (λ e. record { start = b; end = e }) b (suc hi - b) n .is))))
   where
     starts : (a b : ℕ) (x y : Window) → a < b → {e f : ℕ} → x ≡ record { start = a; end = e } → y ≡ record { start = b; end = f } → x .start < y .start
     starts a b x y k p r =
@@ -220,7 +221,7 @@ inside s e j x = eqb (x .row) j and leb s (x .start) and leb (x .end) e
 pub recalled-e : (es : List Entry) (s e j : ℕ) → recalled es s e j ≡ true → ListedInside es s e j
 unfolding recalled
 recalled-e es s e j h =
-    let w = oneOf-e (inside s e j) es h in
+    let w = any-e (inside s e j) es h in
     let x = w .it in
     let a = eqb (x .row) j in
     let b = leb s (x .start) in
@@ -238,7 +239,7 @@ pub recalled-i : (es : List Entry) (s e j : ℕ) → ListedInside es s e j → r
 unfolding recalled
 recalled-i es s e j w =
     let x = w .it in
-    oneOf-i (inside s e j) es x (w .member) (and-i (eq-eqb (x .row) j (w .of-row)) (and-i (le-leb s (x .start) (w .from)) (le-leb (x .end) e (w .to))))
+    any-i (inside s e j) es x (w .member) (and-i (eq-eqb (x .row) j (w .of-row)) (and-i (le-leb s (x .start) (w .from)) (le-leb (x .end) e (w .to))))
 
 -- ---- the list of a range
 
@@ -252,8 +253,8 @@ module _ (t : Table) (q : Query) (lo hi : ℕ) where
   pub of-row-e : (j : ℕ) (x : Entry) → Mem x (minimalOf t q lo hi j) → (x .row ≡ j) × OfRange lo hi (record { start = x .start; end = x .end }) × IsMinimal t q j (x .start) (x .end)
   unfolding minimalOf
   of-row-e j x m =
-      let a = map-mem (entry j) (chosen (test j) (windows lo hi)) m in
-      let b = chosen-mem (test j) (windows lo hi) (a .member) in
+      let a = map-mem (entry j) (filterBy (test j) (windows lo hi)) m in
+      let b = filterBy-mem (test j) (windows lo hi) (a .member) in
       let w = a .it in
       let ps : w .start ≡ x .start = ap (λ (z : Entry). z .start) (sym (a .is)) in
       let pe : w .end ≡ x .end = ap (λ (z : Entry). z .end) (sym (a .is)) in
@@ -262,8 +263,8 @@ module _ (t : Table) (q : Query) (lo hi : ℕ) where
   pub of-row-i : (x : Entry) → OfRange lo hi (record { start = x .start; end = x .end }) → IsMinimal t q (x .row) (x .start) (x .end) → Mem x (minimalOf t q lo hi (x .row))
   unfolding minimalOf
   of-row-i x o m =
-      mem-map (entry (x .row)) (chosen (test (x .row)) (windows lo hi))
-      (mem-chosen (test (x .row)) (windows lo hi) (windows-i lo hi (record { start = x .start; end = x .end }) o) (minimal-i t q (x .row) (x .start) (x .end) m))
+      mem-map (entry (x .row)) (filterBy (test (x .row)) (windows lo hi))
+      (mem-filterBy (test (x .row)) (windows lo hi) (windows-i lo hi (record { start = x .start; end = x .end }) o) (minimal-i t q (x .row) (x .start) (x .end) m))
 
   -- two minimal windows of one row do not begin on one day: the shorter lies inside the longer
   starts-rise : (j : ℕ) (v w : Window) → test j v ≡ true → test j w ≡ true → Earlier v w → v .start < w .start
@@ -279,16 +280,16 @@ module _ (t : Table) (q : Query) (lo hi : ℕ) where
   ends-rise x y a b e l =
       ⊎-elim (λ h. clash (subst (λ (j : ℕ). inRing t q (y .start) (y .end) j ≡ true) (sym e) (b .is-minimal .has))
       (a .is-minimal .none-smaller (y .start) (y .end) (omega arith) (b .order) (leb-true (y .end) (x .end) h) (λ z. let u = z .0 in omega arith)))
-      (λ h. leb-false (y .end) (x .end) h) (look (leb (y .end) (x .end)))
+      (λ h. leb-false (y .end) (x .end) h) (true-or-false (leb (y .end) (x .end)))
 
   pub row-order : (j : ℕ) → Pairwise Before (minimalOf t q lo hi j)
   unfolding minimalOf
   row-order j =
-      pair-map (entry j) Before (chosen (test j) (windows lo hi))
-      (pair-weaken Earlier (λ v w. Before (entry j v) (entry j w)) (chosen (test j) (windows lo hi)) (pair-chosen Earlier (test j) (windows lo hi) (windows-order lo hi))
+      pair-map (entry j) Before (filterBy (test j) (windows lo hi))
+      (pair-weaken Earlier (λ v w. Before (entry j v) (entry j w)) (filterBy (test j) (windows lo hi)) (pair-filterBy Earlier (test j) (windows lo hi) (windows-order lo hi))
       (λ v w m n e.
-      let a = chosen-mem (test j) (windows lo hi) m in
-      let b = chosen-mem (test j) (windows lo hi) n in
+      let a = filterBy-mem (test j) (windows lo hi) m in
+      let b = filterBy-mem (test j) (windows lo hi) n in
       _⊎_.inr (refl, starts-rise j v w (a .1) (b .1) e)))
 
   -- the computed list holds exactly the minimal windows of the range, in order
@@ -297,27 +298,27 @@ module _ (t : Table) (q : Query) (lo hi : ℕ) where
   list-is = record { each = each-one; whole = whole-list; in-order = ordered }
     where
       rows : List (List Entry)
-      rows = run (minimalOf t q lo hi) 0 (size t)
+      rows = tabulate (minimalOf t q lo hi) 0 (size t)
 
-      each-one : (x : Entry) → Mem x (joined rows) → Listed t q lo hi x
+      each-one : (x : Entry) → Mem x (flatten rows) → Listed t q lo hi x
       each-one x m =
-          let a = joined-mem rows m in
-          let b = run-mem (minimalOf t q lo hi) 0 (size t) (a .is-part) in
+          let a = flatten-mem rows m in
+          let b = tabulate-mem (minimalOf t q lo hi) 0 (size t) (a .is-part) in
           let c = of-row-e (b .it) x (subst (Mem x) (b .is) (a .has)) in
           let l = b .below in
           let e = c .0 in
           let o = c .1 in
           record { in-table = omega arith; from = o .from; order = o .order; to = o .to; is-minimal = subst (λ (j : ℕ). IsMinimal t q j (x .start) (x .end)) (sym e) (c .2) }
 
-      whole-list : (x : Entry) → Listed t q lo hi x → Mem x (joined rows)
+      whole-list : (x : Entry) → Listed t q lo hi x → Mem x (flatten rows)
       whole-list x l =
           let h = l .in-table in
-          mem-joined (mem-run (minimalOf t q lo hi) 0 (size t) (x .row) (omega arith) (omega arith)) (of-row-i x (record { from = l .from; order = l .order; to = l .to }) (l .is-minimal))
+          mem-flatten (mem-tabulate (minimalOf t q lo hi) 0 (size t) (x .row) (omega arith) (omega arith)) (of-row-i x (record { from = l .from; order = l .order; to = l .to }) (l .is-minimal))
 
-      ordered : Pairwise Before (joined rows)
+      ordered : Pairwise Before (flatten rows)
       ordered =
-          pair-joined Before rows (λ xs m. let b = run-mem (minimalOf t q lo hi) 0 (size t) m in subst (Pairwise Before) (sym (b .is)) (row-order (b .it)))
-          (pair-run (λ xs ys. (x y : Entry) → Mem x xs → Mem y ys → Before x y) (minimalOf t q lo hi) 0 (size t)
+          pair-flatten Before rows (λ xs m. let b = tabulate-mem (minimalOf t q lo hi) 0 (size t) m in subst (Pairwise Before) (sym (b .is)) (row-order (b .it)))
+          (pair-tabulate (λ xs ys. (x y : Entry) → Mem x xs → Mem y ys → Before x y) (minimalOf t q lo hi) 0 (size t)
           (λ a b l k o x y m n. let u = of-row-e a x m .0 in let v = of-row-e b y n .0 in _⊎_.inl (omega arith)))
 
   -- and is the only such list

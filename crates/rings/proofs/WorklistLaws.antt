@@ -3,6 +3,7 @@
 --     unmoved-attempt    what the long way makes of it is what both ways make
 --     moved-more         a wider bound on the rows that scans passed
 --     Settles            the loop over those who wait
+--     walkedTo     the worklist with another number of rows passed
 use Prim.Native.Nat.{ℕ, _+_, _≤_}
 use native.Mathlib.Omega.{arith}
 use mathlib.Core.Path.{_≡_, sym, _∙_, ap, subst}
@@ -10,24 +11,24 @@ use mathlib.Core.Bool.{Bool}
 use mathlib.Core.List.{List}
 use lib.ListN.{length}
 use Rattle.rings.specs.Table.{Table, tableOf}
-use Rattle.rings.specs.Inner.Links.{Covered}
-use Rattle.rings.specs.Inner.Peeling.{guess}
+use Rattle.rings.specs.Inner.Adjacency.{Covered}
+use Rattle.rings.specs.Inner.Peeling.{estimate}
 use Rattle.rings.specs.Inner.Settling.{Days, Rising}
 use Rattle.rings.specs.Inner.Counting.{CountsBy, WhereCounted}
 use Rattle.rings.specs.Inner.Worklist.{Arrays, Working, Moved, Unmoved, AttemptIs}
 use Rattle.rings.specs.declared.frame.Frame.{Frame}
-use Rattle.rings.specs.declared.look.Scan.{Scan}
+use Rattle.rings.specs.declared.scan.Scan.{Scan}
 use Rattle.rings.specs.declared.settle.Worklist.{Worklist}
 use Rattle.rings.specs.declared.settle.Attempt.{Attempt}
-use Rattle.rings.proofs.SettleLaws.{same-rising, same-covered, same-counted}
+use Rattle.rings.proofs.SettleNearLaws.{same-rising, same-covered, same-counted}
 
 -- the worklist with another number of rows passed
 abbrev pub walkedTo : Worklist → ℕ → Worklist
-walkedTo list walked = record { head = list .head; tail = list .tail; risen = list .risen; walked = walked }
+walkedTo list walked = record { head = list .head; tail = list .tail; raised = list .raised; walked = walked }
 
-pub unmoved-working : {d f g links : List ℕ} {p : Frame} {counting : Bool} {list : Worklist} {s : Scan} {a a′ : Arrays} {walked day : ℕ}
-    → Unmoved (tableOf d f g) p list s a a′ walked day → Working d f g links p counting list 65536 a
-    → Working d f g links p counting (walkedTo list walked) 98304 a′
+pub unmoved-working : {d f g scratch : List ℕ} {p : Frame} {counting : Bool} {list : Worklist} {s : Scan} {a a′ : Arrays} {walked day : ℕ}
+    → Unmoved (tableOf d f g) p list s a a′ walked day → Working d f g scratch p counting list 65536 a
+    → Working d f g scratch p counting (walkedTo list walked) 98304 a′
 unmoved-working {d} {f} {g} {p = p} U w =
     record {
       opened = w .opened;
@@ -37,7 +38,7 @@ unmoved-working {d} {f} {g} {p = p} U w =
       behind = w .behind;
       few = let x = U .few in let y = w .few in omega arith;
       times-long = ap length (U .same-times) ∙ w .times-long;
-      spare-long = ap length (U .same-spare) ∙ w .spare-long;
+      slack-long = ap length (U .same-slack) ∙ w .slack-long;
       queue-long = U .behind .long;
       days = subst (λ (ys : List ℕ). Days (p .stop) ys) (sym (U .same-times)) (w .days);
       counted = λ y. record {
@@ -66,17 +67,17 @@ unmoved-attempt counting a″ (Attempt.Settled list′) U M =
       next = M .next;
       within = M .within;
       walked = let x = U .few in let y = M .walked in omega arith;
-      rising = λ xs Z. M .rising xs (same-rising (U .same-times) (U .same-spare) (U .behind) Z);
-      nevers = λ v e. M .nevers v (ap (λ (ys : List ℕ). guess ys v) (U .same-times) ∙ e);
+      rising = λ xs Z. M .rising xs (same-rising (U .same-times) (U .same-slack) (U .behind) Z);
+      nevers = λ v e. M .nevers v (ap (λ (ys : List ℕ). estimate ys v) (U .same-times) ∙ e);
       counted = record { counted = M .counted .counted; same = λ y. M .counted .same y ∙ U .same-counts };
     }
 unmoved-attempt counting a″ Attempt.GaveUp U K = record { same = λ y. K .same y ∙ U .same-counts }
 
 -- a₀ are the arrays as they were lent
-pub record Settles (d f g links : List ℕ) (p : Frame) (counting : Bool) (budget : ℕ) (a₀ : Arrays) (list : Worklist) (a : Arrays) : Type 0 where
-  pub covered : Covered (tableOf d f g) (guess (a .times)) (p .lo) links
+pub record Settles (d f g scratch : List ℕ) (p : Frame) (counting : Bool) (budget : ℕ) (a₀ : Arrays) (list : Worklist) (a : Arrays) : Type 0 where
+  pub covered : Covered (tableOf d f g) (estimate (a .times)) (p .lo) scratch
   pub within : list .tail ≤ 4352
   pub few : list .walked ≤ budget + 131072
-  pub rising : Rising (tableOf d f g) (p .query) (p .stop) (p .start) (a₀ .times) (a .times) (a .spare) (a .queue) (list .head) (list .tail) (list .risen)
+  pub rising : Rising (tableOf d f g) (p .query) (p .stop) (p .start) (a₀ .times) (a .times) (a .slack) (a .queue) (list .head) (list .tail) (list .raised)
   pub long-counts : length (a .counts) ≡ length (a₀ .counts)
   pub counted : WhereCounted counting (CountsBy d f g (p .start) (p .stop) (a .times) (a .counts)) (a₀ .counts) (a .counts)

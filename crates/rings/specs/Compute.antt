@@ -1,5 +1,6 @@
 -- For worked examples: a theorem that says `unfolding compute` computes with every definition of this crate.
-use Rattle.rings.specs.Words.{_and_, _or_, no, at, marked, some, every, tally, count, run, joined, kept, chosen, oneOf}
+use mathlib.Core.List.{flatten}
+use Rattle.rings.specs.Words.{_and_, _or_, no, at, marked, some, every, sucIf, count, tabulate, consIf, filterBy, any}
 use Rattle.rings.specs.Table.{dayOf, firstOf, secondOf, inWindow, windowRows}
 use Rattle.rings.specs.Ring.{joins, neighbour, greatest, names, degree, touches, met, keep, round, rounds, peel, ring, inRing, members}
 use Rattle.rings.specs.CoreTimes.{least, accountTime, rowTime}
@@ -15,7 +16,7 @@ use Rattle.rings.specs.RecallCall.{entryAt, comesAfter, inPlace, fits, e
 
 unfoldable pub compute : Unit {0}
 unfolding
-    _and_ _or_ no at marked some every tally count run joined kept chosen oneOf
+    _and_ _or_ no at marked some every sucIf count tabulate flatten consIf filterBy any
     dayOf firstOf secondOf inWindow windowRows
     joins neighbour greatest names degree touches met keep round rounds peel ring inRing members
     least accountTime rowTime

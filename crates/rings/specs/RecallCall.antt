@@ -1,19 +1,19 @@
 -- Recall (a table, a minimal-window list, s, e): the answer, and the marks at exit. The list is three lent columns.
---     Columns            the list as it is lent: row, start, end
---     columnsOf r s e    the list of three columns
---     entryAt c i        entry i of the list
---     comesAfter x y     y comes after x
---     inPlace c i        entry i comes after the one before
---     fits t x           the row of x is in the table, and its window is right for it
---     entryCheck t c i   14 at entry i
---     recallAnswer       the answer: what stops the call, in order
---     recallMarks        the marks at exit
+--     Columns           the list as it is lent: row, start, end
+--     columnsOf r s e   the list of three columns
+--     entryAt c i       entry i of the list
+--     comesAfter x y    y comes after x
+--     inPlace c i       entry i comes after the one before
+--     fits t x          the row of x is in the table, and its window is right for it
+--     entryCheck t c i  14 at entry i
+--     recallAnswer      the answer: what stops the call, in order
+--     recallMarks       the marks at exit
 use Prim.Native.Nat.{ℕ, zero, suc}
 use mathlib.Core.Bool.{Bool, true}
 use mathlib.Core.List.{List}
 use lib.ListN.{length}
 use lib.Dec.{leb, ltb, eqb}
-use Rattle.rings.specs.Words.{_and_, _or_, no, at, run}
+use Rattle.rings.specs.Words.{_and_, _or_, no, at, tabulate}
 use Rattle.rings.specs.Table.{Table, size, dayOf}
 use Rattle.rings.specs.Windows.{Entry, entries, recalled}
 use Rattle.rings.specs.Checks.{_when_, _then_, inOrder, rangeCheck}
@@ -54,10 +54,10 @@ unfoldable pub recallAnswer : Table → Columns → ℕ → ℕ → ℕ → Verd
 recallAnswer t c s e markPlaces =
     tableCheck t
     then BadLengths when no (eqb (length (c .starts)) (length (c .rows)) and eqb (length (c .ends)) (length (c .rows)) and eqb markPlaces (size t))
-    then inOrder (run (entryCheck t c) 0 (length (c .rows)))
+    then inOrder (tabulate (entryCheck t c) 0 (length (c .rows)))
     then rangeCheck s e
 
 -- 01: "marks 1 each row with a listed window inside [s, e], 0 every other"
 unfoldable pub recallMarks : Verdict → Table → Columns → ℕ → ℕ → List ℕ → List ℕ
-recallMarks Verdict.Accepted t c s e old = marks (run (recalled (entries (c .rows) (c .starts) (c .ends)) s e) 0 (size t))
+recallMarks Verdict.Accepted t c s e old = marks (tabulate (recalled (entries (c .rows) (c .starts) (c .ends)) s e) 0 (size t))
 recallMarks (Verdict.Refused r) t c s e old = old

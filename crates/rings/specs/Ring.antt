@@ -25,7 +25,7 @@ use mathlib.Core.Bool.{Bool, true}
 use mathlib.Core.List.{List, [], _∷_, List·Memᴰ as Mem}
 use lib.ListN.{length}
 use lib.Dec.{leb, eqb}
-use Rattle.rings.specs.Words.{_and_, _or_, marked, some, count, run, Pairwise}
+use Rattle.rings.specs.Words.{_and_, _or_, marked, some, count, tabulate, Pairwise}
 use Rattle.rings.specs.Table.{Table, size, firstOf, secondOf, windowRows}
 use Rattle.rings.specs.declared.Query.{Query}
 
@@ -89,7 +89,7 @@ keep t q m j = leb (q .k) (degree t m (firstOf t j)) and leb (q .k) (degree t m 
 
 -- one round: of the rows of m those that pass the test in m
 unfoldable pub round : (List Bool → ℕ → Bool) → List Bool → List Bool
-round test m = run (λ j. marked m j and test m j) 0 (length m)
+round test m = tabulate (λ j. marked m j and test m j) 0 (length m)
 
 unfoldable pub rounds : (List Bool → ℕ → Bool) → ℕ → List Bool → List Bool
 rounds test zero m = m

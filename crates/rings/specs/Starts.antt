@@ -1,11 +1,11 @@
 -- The starts of a range, one after the other: what a part above this crate is lent to walk them (src/starts.rt).
 -- What the buffers hold from one call to the next is a state that stays shut. A part above knows it by its name, by what the calls promise, and by the laws of proofs/StartsLaws.antt; it never opens it.
---     CountsAt t q hi s xs     xs holds, for each day, how many rows have it as their core time at s
---     DatedTime t q hi s r     a row dated s has the core time r at s
---     Earliest t q hi s r      r is the least core time at s of the rows dated s, never if none has one
---     Prepared t sc            the scratch is ready for a start
---     TimesAt t q hi s lo x    x has the core times at s of the accounts; lo is the first row from s on
---     AtStart t q hi s lo sc times spare counts    the scratch and the arrays at start s
+--     CountsAt t q hi s xs   xs holds, for each day, how many rows have it as their core time at s
+--     DatedTime t q hi s r   a row dated s has the core time r at s
+--     Earliest t q hi s r    r is the least core time at s of the rows dated s, never if none has one
+--     Prepared t sc          the scratch is ready for a start
+--     TimesAt t q hi s lo x  x has the core times at s of the accounts; lo is the first row from s on
+--     AtStart t q hi s lo sc times slack counts  the scratch and the arrays at start s
 use Prim.Native.Nat.{ℕ, _≤_, _<_}
 use mathlib.Core.Path.{_≡_}
 use mathlib.Core.Logic.{_⊎_}
@@ -15,8 +15,8 @@ use lib.Dec.{eqb}
 use Rattle.rings.specs.Words.{count}
 use Rattle.rings.specs.Table.{Table, size, dayOf}
 use Rattle.rings.specs.CoreTimes.{never, rowTime}
-use Rattle.rings.specs.Inner.Links.{Paired}
-use Rattle.rings.specs.Inner.Peeling.{season, Framed, CoreTimesAre}
+use Rattle.rings.specs.Inner.Adjacency.{Paired}
+use Rattle.rings.specs.Inner.Peeling.{frameOf, Framed, CoreTimesAre}
 use Rattle.rings.specs.Inner.Counting.{Started}
 use Rattle.rings.specs.declared.Query.{Query}
 
@@ -40,8 +40,8 @@ pub record Prepared (t : Table) (sc : List ℕ) : Type 0 where
   pub inside : Paired t sc
 
 pub record TimesAt (t : Table) (q : Query) (hi s lo : ℕ) (x : List ℕ) : Type 0 where
-  pub inside : Framed (t .days) (t .first) (t .second) (season (q .k) s hi lo)
-      × CoreTimesAre (t .days) (t .first) (t .second) (season (q .k) s hi lo) x
+  pub inside : Framed (t .days) (t .first) (t .second) (frameOf (q .k) s hi lo)
+      × CoreTimesAre (t .days) (t .first) (t .second) (frameOf (q .k) s hi lo) x
 
-pub record AtStart (t : Table) (q : Query) (hi s lo : ℕ) (sc times spare counts : List ℕ) : Type 0 where
-  pub inside : Started (t .days) (t .first) (t .second) sc (season (q .k) s hi lo) times spare counts
+pub record AtStart (t : Table) (q : Query) (hi s lo : ℕ) (sc times slack counts : List ℕ) : Type 0 where
+  pub inside : Started (t .days) (t .first) (t .second) sc (frameOf (q .k) s hi lo) times slack counts

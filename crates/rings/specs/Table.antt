@@ -12,7 +12,7 @@ use mathlib.Core.Bool.{Bool}
 use mathlib.Core.List.{List}
 use lib.ListN.{length, getD}
 use lib.Dec.{leb}
-use Rattle.rings.specs.Words.{_and_, at, run}
+use Rattle.rings.specs.Words.{_and_, at, tabulate}
 
 -- 01: "A row is one payment: a day and two accounts. A table is three lent columns of 16-bit numbers." A temporal graph, a row a temporal edge (001, section II)
 pub record Table : Type 0 where
@@ -40,7 +40,7 @@ inWindow s e d = leb s d and leb d e
 
 -- 01: "A window [s, e] takes the rows with s ≤ day ≤ e"
 unfoldable pub windowRows : Table → ℕ → ℕ → List Bool
-windowRows t s e = run (λ j. inWindow s e (dayOf t j)) 0 (size t)
+windowRows t s e = tabulate (λ j. inWindow s e (dayOf t j)) 0 (size t)
 
 -- 01: "Days never fall from row to row": so a day parts the rows in two
 pub record Split (d : List ℕ) (day r : ℕ) : Type 0 where

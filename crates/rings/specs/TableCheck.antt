@@ -1,12 +1,12 @@
 -- Table check: first in each call that takes a table.
---     dayBefore t j      the day of the row before row j, 0 before row 0
---     rowFaults j before day a b    the faults of a row, in their order: 3, 4, 5
---     rowCheck t j       those of row j of a table
---     tableCheck t       the answer: 1, 2, then the lowest faulty row
+--     dayBefore t j               the day of the row before row j, 0 before row 0
+--     rowFaults j before day a b  the faults of a row, in their order: 3, 4, 5
+--     rowCheck t j                those of row j of a table
+--     tableCheck t                the answer: 1, 2, then the lowest faulty row
 use Prim.Native.Nat.{ℕ, zero, suc}
 use lib.ListN.{length}
 use lib.Dec.{leb, ltb, eqb}
-use Rattle.rings.specs.Words.{_and_, _or_, no, run}
+use Rattle.rings.specs.Words.{_and_, _or_, no, tabulate}
 use Rattle.rings.specs.Table.{Table, size, dayOf, firstOf, secondOf}
 use Rattle.rings.specs.Checks.{_when_, _then_, inOrder}
 use Rattle.rings.specs.declared.refusal.Refusal.the-variants.{UnequalColumns, TooManyRows, BadDay, BadAccounts, OutOfOrder}
@@ -32,4 +32,4 @@ unfoldable pub tableCheck : Table → Verdict
 tableCheck t =
     UnequalColumns when no (eqb (length (t .first)) (size t) and eqb (length (t .second)) (size t))
     then TooManyRows when ltb 16384 (size t)
-    then inOrder (run (rowCheck t) 0 (size t))
+    then inOrder (tabulate (rowCheck t) 0 (size t))

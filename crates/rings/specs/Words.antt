@@ -1,20 +1,19 @@
 -- Words on truth values, lists and counts that the definitions share. Each computes, and each stays shut until a proof opens it.
---     _and_, _or_, no    both; one or the other; not
---     at xs i            the number at place i of a list, 0 past its end
---     marked m j         row j belongs to the row set m: a row set is a list of marks, one for each row
---     some p n           p holds of a number below n
---     every p n          p holds of each number below n
---     tally b n          n, or one more where b holds
---     count p n          how many numbers below n have p
---     run f i n          the list f i, f (i + 1), .., n entries long
---     joined xss         the lists of a list, one after the other
---     kept b x xs        xs, with x before it where b holds
---     chosen p xs        the entries of a list that have p, in their order
---     oneOf p xs         an entry of a list has p
---     Pairwise R xs      each entry of a list stands in R to every later one
+--     _and_, _or_, no  both; one or the other; not
+--     at xs i          the number at place i of a list, 0 past its end
+--     marked m j       row j belongs to the row set m: a row set is a list of marks, one for each row
+--     some p n         p holds of a number below n
+--     every p n        p holds of each number below n
+--     sucIf b n        n, or one more where b holds
+--     count p n        how many numbers below n have p
+--     tabulate f i n   the list f i, f (i + 1), .., n entries long
+--     consIf b x xs    xs, with x before it where b holds
+--     filterBy p xs    the entries of a list that have p, in their order
+--     any p xs         an entry of a list has p
+--     Pairwise R xs    each entry of a list stands in R to every later one
 use Prim.Native.Nat.{ℕ, zero, suc}
 use mathlib.Core.Bool.{Bool, true, false}
-use mathlib.Core.List.{List, [], _∷_, _++_, List·Memᴰ as Mem}
+use mathlib.Core.List.{List, [], _∷_, List·Memᴰ as Mem}
 use lib.ListN.{getD}
 
 infixr 40 _and_
@@ -45,33 +44,29 @@ unfoldable pub every : (ℕ → Bool) → ℕ → Bool
 every p zero = true
 every p (suc n) = p n and every p n
 
-unfoldable pub tally : Bool → ℕ → ℕ
-tally true n = suc n
-tally false n = n
+unfoldable pub sucIf : Bool → ℕ → ℕ
+sucIf true n = suc n
+sucIf false n = n
 
 unfoldable pub count : (ℕ → Bool) → ℕ → ℕ
 count p zero = 0
-count p (suc n) = tally (p n) (count p n)
+count p (suc n) = sucIf (p n) (count p n)
 
-unfoldable pub run : {A : Type 0} → (ℕ → A) → ℕ → ℕ → List A
-run f i zero = []
-run f i (suc n) = f i ∷ run f (suc i) n
+unfoldable pub tabulate : {A : Type 0} → (ℕ → A) → ℕ → ℕ → List A
+tabulate f i zero = []
+tabulate f i (suc n) = f i ∷ tabulate f (suc i) n
 
-unfoldable pub joined : {A : Type 0} → List (List A) → List A
-joined [] = []
-joined (xs ∷ xss) = xs ++ joined xss
+unfoldable pub consIf : {A : Type 0} → Bool → A → List A → List A
+consIf true x xs = x ∷ xs
+consIf false x xs = xs
 
-unfoldable pub kept : {A : Type 0} → Bool → A → List A → List A
-kept true x xs = x ∷ xs
-kept false x xs = xs
+unfoldable pub filterBy : {A : Type 0} → (A → Bool) → List A → List A
+filterBy p [] = []
+filterBy p (x ∷ xs) = consIf (p x) x (filterBy p xs)
 
-unfoldable pub chosen : {A : Type 0} → (A → Bool) → List A → List A
-chosen p [] = []
-chosen p (x ∷ xs) = kept (p x) x (chosen p xs)
-
-unfoldable pub oneOf : {A : Type 0} → (A → Bool) → List A → Bool
-oneOf p [] = false
-oneOf p (x ∷ xs) = p x or oneOf p xs
+unfoldable pub any : {A : Type 0} → (A → Bool) → List A → Bool
+any p [] = false
+any p (x ∷ xs) = p x or any p xs
 
 pub data Pairwise {A : Type 0} (R : A → A → Type 0) : List A → Type 0 where
   none : Pairwise R []

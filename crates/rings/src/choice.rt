@@ -23,3 +23,10 @@ pub(crate) fn lesser(a: u16, b: u16) -> u16
 {
     if a < b { a } else { b }
 }
+
+// The greater of two numbers.
+pub(crate) fn greater(a: u16, b: u16) -> u16
+    ensures { λ r. ⌜ r ≡ Prim.Native.Nat.max a b ⌝ }
+{
+    if a < b { b } else { a }
+}

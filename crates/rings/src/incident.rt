@@ -2,8 +2,8 @@
 ghost use Rattle.rings.specs.Table.{tableOf};
 ghost use Rattle.rings.specs.Inner.Incident.{RowStands, RowRead};
 use crate::limits::ADJACENCY;
-use crate::links::entry;
-use crate::links::other;
+use crate::pairs::other;
+use crate::slices::entry;
 
 // A row as a walk over the rows of one of its accounts meets it: the row, its day, its other account,
 // and, for a row at lo or later, whether it is the first of its pair from lo on, so that it brings a new neighbour.
@@ -19,23 +19,23 @@ pub(crate) fn row_at(
     days: &[u16],
     first: &[u16],
     second: &[u16],
-    links: &[u16],
+    scratch: &[u16],
     lo: usize,
     u: usize,
     p: usize,
 ) -> Incident
-    requires { ⌜ RowStands (now days) (now first) (now second) (now links) u p ⌝ }
+    requires { ⌜ RowStands (now days) (now first) (now second) (now scratch) u p ⌝ }
     ensures { λ r. ⌜ (
         let t = tableOf (now (days .entry)) (now (first .entry)) (now (second .entry)) in
-        RowRead t (now (links .entry)) lo u p r) ⌝ }
+        RowRead t (now (scratch .entry)) lo u p r) ⌝ }
 {
     let n = days.len();
-    let row = entry(links, ADJACENCY + p);
+    let row = entry(scratch, ADJACENCY + p);
     let day = days[row];
     let a = entry(first, row);
     let b = entry(second, row);
     let v = other(a, b, u);
-    let earlier = entry(links, ADJACENCY + 2 * n + row);
+    let earlier = entry(scratch, ADJACENCY + 2 * n + row);
     Incident {
         row: row,
         day: day,

@@ -1,28 +1,30 @@
 // Rings of a dated payment table.
 // A customer's calls are re-exported here. Two modules are for the parts above: the checks that calls share, and the starts of a range.
 
+mod adjacency;
 pub mod checks;
 mod choice;
-mod counts;
 mod frame;
+mod heads;
+mod histogram;
 mod incident;
 mod limits;
-mod links;
-mod look;
-mod loss;
+mod pairs;
 mod peel;
+mod prune;
 mod recalling;
 mod refusal;
 mod ring;
+mod scan;
 mod settle;
-mod shelf;
+mod slices;
 pub mod starts;
+mod supporters;
 mod table;
 mod times;
 mod windows;
 
 pub use frame::Frame;
-pub use links::clear;
 pub use recalling::recall;
 pub use refusal::Counted;
 pub use refusal::Place;
@@ -31,6 +33,7 @@ pub use refusal::Told;
 pub use refusal::Verdict;
 pub use refusal::tell;
 pub use ring::window_ring;
+pub use slices::clear;
 pub use table::check_table;
 pub use times::core_times;
 pub use windows::minimal_windows;

@@ -1,21 +1,19 @@
-// Core times of one start from nothing, by peeling: accounts fall where fewer than k neighbours are left, as the rows leave from the last day on.
-// times: 0 while an account has not fallen, then its core time; left: its neighbours left; queue: who fell and is still to be walked.
+// Core times of one start from nothing, by peeling: accounts are removed where fewer than k neighbours are left, as the rows leave from the last day on.
+// times: 0 while an account has not been removed, then its core time; left: its neighbours left; queue: who was removed and is still to be walked.
 // Each account is walked once, from its head on, and each row leaves once, so the work is linear in the rows of the window.
-ghost use mathlib.Core.Path.{_≡_};
-ghost use Prim.Native.Nat.{_-_, _≤_};
+ghost use Prim.Native.Nat.{_-_};
 ghost use Rattle.rings.specs.Table.{tableOf};
-ghost use Rattle.rings.specs.Inner.Peeling.{EarlierStands, freshBy, PeelBuffers, Losable, Lost, Ready, Span, Counted, CoreTimesAre};
-ghost use Rattle.rings.specs.Inner.Peeling.{allRows, Falling, Continues, HeadWaits, HeadWalked, QueueEmpty, Fade, FadedTo, RowLeaves};
+ghost use Rattle.rings.specs.Inner.Peeling.{PeelBuffers, Droppable, DroppedNeighbour, Ready, Span, NeighbourCounts, CoreTimesAre, allRows, PeelStateOf, Continues, HeadWaits, HeadWalked, QueueEmpty, RowRemoval, RowsRemovedTo, RowRemovable};
 use crate::frame::Frame;
 use crate::incident::row_at;
 use crate::limits::ACCOUNTS;
-use crate::limits::ADJACENCY;
 use crate::limits::NEVER;
-use crate::links::clear;
-use crate::links::entry;
-use crate::links::put;
+use crate::pairs::leads;
+use crate::slices::clear;
+use crate::slices::entry;
+use crate::slices::put;
 
-// How far the removal has come: the day that is the core time of who falls now, the end of the rows that have not left,
+// How far the removal has come: the day that is the core time of who is removed now, the end of the rows that have not left,
 // and the queue of the fallen from head to tail.
 pub struct Removal {
     pub day: u16,
@@ -24,18 +22,9 @@ pub struct Removal {
     pub tail: usize,
 }
 
-// Row j is the first of its pair from row lo on: it brings a new neighbour.
-pub(crate) fn is_fresh(links: &[u16], n: usize, lo: usize, j: usize) -> bool
-    requires { ⌜ EarlierStands (now links) n j ⌝ }
-    ensures { λ r. ⌜ r ≡ freshBy (now (links .entry)) n lo j ⌝ }
-{
-    let earlier = entry(links, ADJACENCY + 2 * n + j);
-    (lo <= j) & (earlier <= lo)
-}
-
-// Account v loses a neighbour; with the k-th it falls, dated e, and waits in the queue. Who fell before has fewer left,
-// so one test that nearly always fails is enough, and whether v fell, which no processor foresees, is not asked.
-fn lose(
+// Account v loses a neighbour; with the k-th it is removed, dated e, and waits in the queue. Who was removed before has fewer left,
+// so one test that nearly always fails is enough, and whether v was removed, which no processor foresees, is not asked.
+fn drop_neighbour(
     k: u16,
     e: u16,
     tail: usize,
@@ -44,8 +33,8 @@ fn lose(
     left: &mut [u16],
     queue: &mut [u16],
 ) -> usize
-    requires { ⌜ Losable k tail v (now times) (now left) (now queue) ⌝ }
-    ensures { λ r. ⌜ Lost k e tail v (now (times .entry)) (now (left .entry)) (now (queue .entry))
+    requires { ⌜ Droppable k tail v (now times) (now left) (now queue) ⌝ }
+    ensures { λ r. ⌜ DroppedNeighbour k e tail v (now (times .entry)) (now (left .entry)) (now (queue .entry))
         (now (times .exit)) (now (left .exit)) (now (queue .exit)) r ⌝ }
 {
     let n = left[v];
@@ -58,29 +47,29 @@ fn lose(
     tail + 1
 }
 
-// The rows of the account at the head of the queue: by each fresh row that has not left the other account loses a neighbour.
-fn walk(
+// The rows of the account at the head of the queue: by each leading row that has not left the other account loses a neighbour.
+fn remove_account(
     days: &[u16],
     first: &[u16],
     second: &[u16],
-    links: &[u16],
+    scratch: &[u16],
     frame: Frame,
     removal: Removal,
     times: &mut [u16],
     left: &mut [u16],
     queue: &mut [u16],
 ) -> Removal
-    requires { ⌜ Ready (now days) (now first) (now second) (now links) frame ⌝ }
+    requires { ⌜ Ready (now days) (now first) (now second) (now scratch) frame ⌝ }
     requires { ⌜ HeadWaits (now days) (now first) (now second) frame removal (now times) (now left) (now queue) ⌝ }
     ensures { λ r. ⌜ HeadWalked (now (days .entry)) (now (first .entry)) (now (second .entry)) frame removal r
         (now (times .exit)) (now (left .exit)) (now (queue .exit)) ⌝ }
 {
     let u = entry(queue, removal.head);
-    let end = entry(links, u);
-    let mut p = entry(links, ACCOUNTS + u);
+    let end = entry(scratch, u);
+    let mut p = entry(scratch, ACCOUNTS + u);
     let mut tail = removal.tail;
     while p < end {
-        let here = row_at(days, first, second, links, frame.lo, u, p);
+        let here = row_at(days, first, second, scratch, frame.lo, u, p);
         let j = here.row;
         if removal.end <= j {
             return Removal {
@@ -93,7 +82,7 @@ fn walk(
         p += 1;
         if (frame.lo <= j) & here.leads {
             let v = here.other;
-            tail = lose(frame.query.k, removal.day, tail, v, times, left, queue);
+            tail = drop_neighbour(frame.query.k, removal.day, tail, v, times, left, queue);
             continue;
         }
     }
@@ -106,36 +95,46 @@ fn walk(
 }
 
 // Who waits is walked, until nobody does.
-fn drain(
+fn remove_queued(
     days: &[u16],
     first: &[u16],
     second: &[u16],
-    links: &[u16],
+    scratch: &[u16],
     frame: Frame,
     removal: Removal,
     times: &mut [u16],
     left: &mut [u16],
     queue: &mut [u16],
 ) -> Removal
-    requires { ⌜ Ready (now days) (now first) (now second) (now links) frame ⌝ }
-    requires { ⌜ Falling (now days) (now first) (now second) frame 4096 removal (now times) (now left) (now queue) ⌝ }
+    requires { ⌜ Ready (now days) (now first) (now second) (now scratch) frame ⌝ }
+    requires { ⌜ PeelStateOf (now days) (now first) (now second) frame 4096 removal (now times) (now left) (now queue) ⌝ }
     ensures { λ r. ⌜ QueueEmpty (now (days .entry)) (now (first .entry)) (now (second .entry)) frame removal r
         (now (times .exit)) (now (left .exit)) (now (queue .exit)) ⌝ }
 {
     let mut state = removal;
     while state.head < state.tail {
-        state = walk(days, first, second, links, frame, state, times, left, queue);
+        state = remove_account(
+            days,
+            first,
+            second,
+            scratch,
+            frame,
+            state,
+            times,
+            left,
+            queue,
+        );
     }
     state
 }
 
 // The last of the rows that have not left, the one before `end`, leaves: the new end of the queue. Who falls by it has its day.
 // The two numbers go in and one comes back: this is done for each row, and a struct would go through memory.
-fn leave(
+fn remove_row(
     days: &[u16],
     first: &[u16],
     second: &[u16],
-    links: &[u16],
+    scratch: &[u16],
     frame: Frame,
     end: usize,
     tail: usize,
@@ -143,15 +142,15 @@ fn leave(
     left: &mut [u16],
     queue: &mut [u16],
 ) -> usize
-    requires { ⌜ Ready (now days) (now first) (now second) (now links) frame ⌝ }
-    requires { ⌜ RowLeaves (now days) (now first) (now second) frame end tail (now times) (now left) (now queue) ⌝ }
-    ensures { λ r. ⌜ FadedTo (now (days .entry)) (now (first .entry)) (now (second .entry)) frame (end - 1) r
+    requires { ⌜ Ready (now days) (now first) (now second) (now scratch) frame ⌝ }
+    requires { ⌜ RowRemovable (now days) (now first) (now second) frame end tail (now times) (now left) (now queue) ⌝ }
+    ensures { λ r. ⌜ RowsRemovedTo (now (days .entry)) (now (first .entry)) (now (second .entry)) frame (end - 1) r
         (now (times .exit)) (now (left .exit)) (now (queue .exit)) ⌝ }
 {
     let n = days.len();
     let j = end - 1;
     let e = days[j];
-    if is_fresh(links, n, frame.lo, j) {
+    if leads(scratch, n, frame.lo, j) {
         let a = entry(first, j);
         let b = entry(second, j);
         if entry(times, a) != 0 {
@@ -160,21 +159,21 @@ fn leave(
         if entry(times, b) != 0 {
             return tail;
         }
-        let one = lose(frame.query.k, e, tail, a, times, left, queue);
-        let two = lose(frame.query.k, e, one, b, times, left, queue);
-        let fallen = Removal {
+        let one = drop_neighbour(frame.query.k, e, tail, a, times, left, queue);
+        let two = drop_neighbour(frame.query.k, e, one, b, times, left, queue);
+        let removed = Removal {
             day: e,
             end: j,
             head: tail,
             tail: two,
         };
-        let idle = drain(
+        let idle = remove_queued(
             days,
             first,
             second,
-            links,
+            scratch,
             frame,
-            fallen,
+            removed,
             times,
             left,
             queue,
@@ -184,30 +183,30 @@ fn leave(
     tail
 }
 
-// The rows leave, from the last on: who falls meanwhile has the day of the leaving row for its core time.
-fn fade(
+// The rows leave, from the last on: who is removed meanwhile has the day of the leaving row for its core time.
+fn remove_rows_from_the_end(
     days: &[u16],
     first: &[u16],
     second: &[u16],
-    links: &[u16],
+    scratch: &[u16],
     frame: Frame,
     removal: Removal,
     times: &mut [u16],
     left: &mut [u16],
     queue: &mut [u16],
 )
-    requires { ⌜ Ready (now days) (now first) (now second) (now links) frame ⌝ }
-    requires { ⌜ Fade (now days) (now first) (now second) frame removal (now times) (now left) (now queue) ⌝ }
+    requires { ⌜ Ready (now days) (now first) (now second) (now scratch) frame ⌝ }
+    requires { ⌜ RowRemoval (now days) (now first) (now second) frame removal (now times) (now left) (now queue) ⌝ }
     ensures { λ _. ⌜ CoreTimesAre (now (days .entry)) (now (first .entry)) (now (second .entry)) frame (now (times .exit)) ⌝ }
 {
     let mut end = removal.end;
     let mut tail = removal.tail;
     while frame.lo < end {
-        tail = leave(
+        tail = remove_row(
             days,
             first,
             second,
-            links,
+            scratch,
             frame,
             end,
             tail,
@@ -224,22 +223,22 @@ fn count_neighbours(
     days: &[u16],
     first: &[u16],
     second: &[u16],
-    links: &[u16],
+    scratch: &[u16],
     frame: Frame,
     end: usize,
     left: &mut [u16],
 )
-    requires { ⌜ Ready (now days) (now first) (now second) (now links) frame ⌝ }
+    requires { ⌜ Ready (now days) (now first) (now second) (now scratch) frame ⌝ }
     requires { ⌜ Span (now days) (frame .stop) (frame .lo) end ⌝ }
-    requires { ⌜ Counted (tableOf (now days) (now first) (now second)) (frame .lo) (frame .lo) (now left) ⌝ }
+    requires { ⌜ NeighbourCounts (tableOf (now days) (now first) (now second)) (frame .lo) (frame .lo) (now left) ⌝ }
     ensures { λ _. ⌜ (
         let t = tableOf (now (days .entry)) (now (first .entry)) (now (second .entry)) in
-        Counted t (frame .lo) end (now (left .exit))) ⌝ }
+        NeighbourCounts t (frame .lo) end (now (left .exit))) ⌝ }
 {
     let n = days.len();
     let mut j = frame.lo;
     while j < end {
-        if is_fresh(links, n, frame.lo, j) {
+        if leads(scratch, n, frame.lo, j) {
             let a = entry(first, j);
             let b = entry(second, j);
             let x = entry(left, a);
@@ -253,20 +252,20 @@ fn count_neighbours(
     }
 }
 
-// Who has fewer than k neighbours to begin with falls, with no core time.
-fn weed(
+// Who has fewer than k neighbours to begin with is removed, with no core time.
+fn queue_low_degree(
     days: &[u16],
     first: &[u16],
     second: &[u16],
-    links: &[u16],
+    scratch: &[u16],
     frame: Frame,
     end: usize,
     times: &mut [u16],
     left: &mut [u16],
     queue: &mut [u16],
 ) -> Removal
-    requires { ⌜ Ready (now days) (now first) (now second) (now links) frame ⌝ }
-    requires { ⌜ Falling (now days) (now first) (now second) frame 0 (allRows end) (now times) (now left) (now queue) ⌝ }
+    requires { ⌜ Ready (now days) (now first) (now second) (now scratch) frame ⌝ }
+    requires { ⌜ PeelStateOf (now days) (now first) (now second) frame 0 (allRows end) (now times) (now left) (now queue) ⌝ }
     ensures { λ r. ⌜ Continues (now (days .entry)) (now (first .entry)) (now (second .entry)) frame (allRows end) r
         (now (times .exit)) (now (left .exit)) (now (queue .exit)) ⌝ }
 {
@@ -290,19 +289,19 @@ fn weed(
     }
 }
 
-// The ring of the whole window: who has not fallen when nobody waits is met in it.
+// The ring of the whole window: who has not been removed when nobody waits is met in it.
 pub(crate) fn core(
     days: &[u16],
     first: &[u16],
     second: &[u16],
-    links: &[u16],
+    scratch: &[u16],
     frame: Frame,
     end: usize,
     times: &mut [u16],
     left: &mut [u16],
     queue: &mut [u16],
 ) -> Removal
-    requires { ⌜ Ready (now days) (now first) (now second) (now links) frame ⌝ }
+    requires { ⌜ Ready (now days) (now first) (now second) (now scratch) frame ⌝ }
     requires { ⌜ Span (now days) (frame .stop) (frame .lo) end ⌝ }
     requires { ⌜ PeelBuffers (now times) (now left) (now queue) ⌝ }
     ensures { λ r. ⌜ QueueEmpty (now (days .entry)) (now (first .entry)) (now (second .entry)) frame (allRows end) r
@@ -310,9 +309,9 @@ pub(crate) fn core(
 {
     clear(times);
     clear(left);
-    count_neighbours(days, first, second, links, frame, end, left);
-    let low = weed(days, first, second, links, frame, end, times, left, queue);
-    drain(days, first, second, links, frame, low, times, left, queue)
+    count_neighbours(days, first, second, scratch, frame, end, left);
+    let low = queue_low_degree(days, first, second, scratch, frame, end, times, left, queue);
+    remove_queued(days, first, second, scratch, frame, low, times, left, queue)
 }
 
 // The core times of all accounts at one start.
@@ -320,18 +319,28 @@ pub(crate) fn peel(
     days: &[u16],
     first: &[u16],
     second: &[u16],
-    links: &[u16],
+    scratch: &[u16],
     frame: Frame,
     end: usize,
     times: &mut [u16],
     left: &mut [u16],
     queue: &mut [u16],
 )
-    requires { ⌜ Ready (now days) (now first) (now second) (now links) frame ⌝ }
+    requires { ⌜ Ready (now days) (now first) (now second) (now scratch) frame ⌝ }
     requires { ⌜ Span (now days) (frame .stop) (frame .lo) end ⌝ }
     requires { ⌜ PeelBuffers (now times) (now left) (now queue) ⌝ }
     ensures { λ _. ⌜ CoreTimesAre (now (days .entry)) (now (first .entry)) (now (second .entry)) frame (now (times .exit)) ⌝ }
 {
-    let ring = core(days, first, second, links, frame, end, times, left, queue);
-    fade(days, first, second, links, frame, ring, times, left, queue);
+    let ring = core(days, first, second, scratch, frame, end, times, left, queue);
+    remove_rows_from_the_end(
+        days,
+        first,
+        second,
+        scratch,
+        frame,
+        ring,
+        times,
+        left,
+        queue,
+    );
 }

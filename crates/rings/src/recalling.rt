@@ -5,15 +5,15 @@
 ghost use mathlib.Core.Path.{_≡_};
 ghost use lib.ListN.{length, replicate};
 ghost use lib.Dec.{eqb};
-ghost use Rattle.rings.specs.Words.{_and_, no, at, run};
+ghost use Rattle.rings.specs.Words.{_and_, no, at, tabulate};
 ghost use Rattle.rings.specs.Table.{tableOf};
 ghost use Rattle.rings.specs.Checks.{_when_, inOrder, rangeCheck};
 ghost use Rattle.rings.specs.RecallCall.{columnsOf, entryCheck, recallAnswer, recallMarks};
 ghost use Rattle.rings.specs.Inner.Recalling.{entryOf, dated, judged, EqualLists, Markable, marksOf};
 ghost use Rattle.rings.specs.declared.refusal.Refusal.the-variants.{BadLengths};
-use crate::links::entry;
 use crate::refusal::Refusal;
 use crate::refusal::Verdict;
+use crate::slices::entry;
 use crate::table::check_table;
 
 // 8: three list columns of one length, and a mark for each row.
@@ -110,7 +110,7 @@ fn check_entries(days: &[u16], rows: &[u16], starts: &[u16], ends: &[u16]) -> Ve
     requires { ⌜ EqualLists (columnsOf (now rows) (now starts) (now ends)) ⌝ }
     ensures { λ r. ⌜ (
         let c = columnsOf (now (rows .entry)) (now (starts .entry)) (now (ends .entry)) in
-        r ≡ inOrder (run (entryCheck (dated (now (days .entry))) c) 0 (length (c .rows)))) ⌝ }
+        r ≡ inOrder (tabulate (entryCheck (dated (now (days .entry))) c) 0 (length (c .rows)))) ⌝ }
 {
     let mut lastrow = 0;
     let mut laststart = 0;

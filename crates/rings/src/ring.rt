@@ -7,21 +7,21 @@ ghost use Rattle.rings.specs.WindowRingCall.{ringAnswer, ringMarks};
 ghost use Rattle.rings.specs.Sound.{Sound};
 ghost use Rattle.rings.specs.Inner.Answers.{Asked, RingBuffers, WholeWindow, Remaining, RowAccounts, bothRemain, RingMarked, RingFound};
 use crate::Query;
+use crate::adjacency::prepare_adjacency;
 use crate::checks::check_call;
 use crate::checks::is_window;
 use crate::frame::Frame;
 use crate::limits::ACCOUNTS;
 use crate::limits::ADJACENCY;
-use crate::links::clear;
-use crate::links::entry;
-use crate::links::link;
 use crate::peel::core;
 use crate::recalling::clear_marks;
 use crate::refusal::Counted;
 use crate::refusal::Verdict;
+use crate::slices::clear;
+use crate::slices::entry;
 use crate::table::rows_before;
 
-// Neither account of row j has fallen.
+// Neither account of row j has been removed.
 fn stays(first: &[u16], second: &[u16], times: &[u16], j: usize) -> bool
     requires { ⌜ RowAccounts (now first) (now second) (now times) j ⌝ }
     ensures { λ r. ⌜ r ≡ bothRemain (now (first .entry)) (now (second .entry)) (now (times .entry)) j ⌝ }
@@ -87,7 +87,7 @@ fn mark_part(
     let mut times = [0u16; ACCOUNTS];
     let mut left = [0u16; ACCOUNTS];
     let mut queue = [0u16; ACCOUNTS];
-    link(days, first, second, scratch);
+    prepare_adjacency(days, first, second, scratch);
     core(
         days,
         first,
@@ -103,7 +103,7 @@ fn mark_part(
 }
 
 // The ring of [start, stop] of an accepted table. Days never fall, so the window's rows stand side by side:
-// only they are linked and peeled, and every other mark is 0.
+// only they go into the adjacency and are peeled, and every other mark is 0.
 fn mark_ring(
     days: &[u16],
     first: &[u16],

@@ -7,19 +7,19 @@ ghost use Rattle.rings.specs.Table.{tableOf, Split};
 ghost use Rattle.rings.specs.Ring.{query};
 ghost use Rattle.rings.specs.Sound.{Sound};
 ghost use Rattle.rings.specs.Starts.{Earliest, Prepared, TimesAt, AtStart};
+use crate::adjacency::build_adjacency;
 use crate::choice::lesser;
-use crate::counts::count_times;
-use crate::counts::drop_rows;
 use crate::frame::Frame;
 use crate::frame::next_frame;
-use crate::links::bind;
-use crate::links::move_heads;
-use crate::links::pair_rows;
+use crate::heads::move_heads;
+use crate::heads::pass_heads;
+use crate::histogram::count_times;
+use crate::histogram::drop_rows;
+use crate::pairs::pair_rows;
+use crate::prune::prune;
 use crate::settle::Settled;
-use crate::settle::begin;
+use crate::settle::peel_start;
 use crate::settle::step;
-use crate::shelf::pass_heads;
-use crate::shelf::trim;
 pub use crate::table::rows_before;
 pub use crate::table::rows_through;
 use crate::times::row_time;
@@ -33,7 +33,7 @@ pub fn prepare(days: &[u16], first: &[u16], second: &[u16], scratch: &mut [u16])
     pair_rows(days, first, second, scratch);
 }
 
-// The times of a start and their counts, from nothing: the whole book, a peel, and of the book what is still of use.
+// The times of a start and their counts, from nothing: the whole adjacency, a peel, and of the adjacency what is still of use.
 pub fn first_start(
     days: &[u16],
     first: &[u16],
@@ -42,21 +42,21 @@ pub fn first_start(
     frame: Frame,
     end: usize,
     times: &mut [u16],
-    spare: &mut [u16],
+    slack: &mut [u16],
     queue: &mut [u16],
     counts: &mut [u16],
 )
     requires { ⌜ Sound (now days) (now first) (now second) ⌝ }
     requires { ⌜ Prepared (tableOf (now days) (now first) (now second)) (now scratch) ⌝ }
     requires { ⌜ (1 ≤ frame .query .k) × (frame .start ≤ frame .stop + 1) × (frame .stop ≤ 1024) × Split (now days) (frame .start) (frame .lo) × Split (now days) (frame .stop + 1) end ⌝ }
-    requires { ⌜ (length (now times) ≡ 4096) × (length (now spare) ≡ 4096) × (length (now queue) ≡ 4352) × (length (now counts) ≡ 1025) ⌝ }
+    requires { ⌜ (length (now times) ≡ 4096) × (length (now slack) ≡ 4096) × (length (now queue) ≡ 4352) × (length (now counts) ≡ 1025) ⌝ }
     ensures { λ _. ⌜ (
         let t = tableOf (now (days .entry)) (now (first .entry)) (now (second .entry)) in
-        AtStart t (frame .query) (frame .stop) (frame .start) (frame .lo) (now (scratch .exit)) (now (times .exit)) (now (spare .exit)) (now (counts .exit))) ⌝ }
+        AtStart t (frame .query) (frame .stop) (frame .start) (frame .lo) (now (scratch .exit)) (now (times .exit)) (now (slack .exit)) (now (counts .exit))) ⌝ }
 {
-    bind(days, first, second, scratch);
+    build_adjacency(days, first, second, scratch);
     move_heads(days, first, second, scratch, 0, frame.start, 0, frame.lo);
-    begin(
+    peel_start(
         days,
         first,
         second,
@@ -64,11 +64,11 @@ pub fn first_start(
         frame,
         end,
         times,
-        spare,
+        slack,
         queue,
     );
     count_times(days, first, second, frame, end, times, counts);
-    trim(days, first, second, scratch, frame.start, times);
+    prune(days, first, second, scratch, frame.start, times);
 }
 
 // The times of the next start and their counts, from those of this one: what a start costs is what changes in it. Where that grows dear, from nothing.
@@ -81,16 +81,16 @@ pub fn next_start(
     next: usize,
     end: usize,
     times: &mut [u16],
-    spare: &mut [u16],
+    slack: &mut [u16],
     queue: &mut [u16],
     counts: &mut [u16],
 )
-    requires { ⌜ AtStart (tableOf (now days) (now first) (now second)) (frame .query) (frame .stop) (frame .start) (frame .lo) (now scratch) (now times) (now spare) (now counts) ⌝ }
+    requires { ⌜ AtStart (tableOf (now days) (now first) (now second)) (frame .query) (frame .stop) (frame .start) (frame .lo) (now scratch) (now times) (now slack) (now counts) ⌝ }
     requires { ⌜ (frame .start ≤ frame .stop) × (frame .stop ≤ 1024) × Split (now days) (frame .start) (frame .lo) × Split (now days) (frame .start + 1) next × Split (now days) (frame .stop + 1) end ⌝ }
     requires { ⌜ length (now queue) ≡ 4352 ⌝ }
     ensures { λ _. ⌜ (
         let t = tableOf (now (days .entry)) (now (first .entry)) (now (second .entry)) in
-        AtStart t (frame .query) (frame .stop) (frame .start + 1) next (now (scratch .exit)) (now (times .exit)) (now (spare .exit)) (now (counts .exit))) ⌝ }
+        AtStart t (frame .query) (frame .stop) (frame .start + 1) next (now (scratch .exit)) (now (times .exit)) (now (slack .exit)) (now (counts .exit))) ⌝ }
 {
     drop_rows(days, first, second, frame, next, end, times, counts);
     pass_heads(days, first, second, scratch, frame.lo, next);
@@ -103,13 +103,13 @@ pub fn next_start(
         next,
         end,
         times,
-        spare,
+        slack,
         queue,
         true,
         counts,
     );
     match found {
-        Settled::Risen(_) => {}
+        Settled::Raised(_) => {}
         Settled::GaveUp => {
             let after = next_frame(frame, next);
             first_start(
@@ -120,7 +120,7 @@ pub fn next_start(
                 after,
                 end,
                 times,
-                spare,
+                slack,
                 queue,
                 counts,
             );

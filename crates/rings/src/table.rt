@@ -1,7 +1,7 @@
 // Table check: the first check of every call that takes a table.
 ghost use mathlib.Core.Path.{_≡_};
 ghost use Prim.Native.Nat.{_+_};
-ghost use Rattle.rings.specs.Words.{run};
+ghost use Rattle.rings.specs.Words.{tabulate};
 ghost use Rattle.rings.specs.Table.{tableOf, size, Split};
 ghost use Rattle.rings.specs.Sound.{EqualColumns, NeverFall};
 ghost use Rattle.rings.specs.Checks.{inOrder};
@@ -37,7 +37,7 @@ fn check_rows(days: &[u16], first: &[u16], second: &[u16]) -> Verdict
     requires { ⌜ EqualColumns (now days) (now first) (now second) ⌝ }
     ensures { λ r. ⌜ (
         let t = tableOf (now (days .entry)) (now (first .entry)) (now (second .entry)) in
-        r ≡ inOrder (run (rowCheck t) 0 (size t))) ⌝ }
+        r ≡ inOrder (tabulate (rowCheck t) 0 (size t))) ⌝ }
 {
     let mut before: u16 = 0;
     let mut j = 0;

@@ -2,7 +2,7 @@
 ghost use mathlib.Core.Path.{_≡_};
 ghost use Prim.Native.Nat.{_<_};
 ghost use lib.ListN.{length};
-ghost use Rattle.rings.specs.Words.{run};
+ghost use Rattle.rings.specs.Words.{tabulate};
 ghost use Rattle.rings.specs.Table.{tableOf};
 ghost use Rattle.rings.specs.CoreTimes.{rowTime};
 ghost use Rattle.rings.specs.Buffers.{verdictScratch};
@@ -11,26 +11,20 @@ ghost use Rattle.rings.specs.Sound.{Sound};
 ghost use Rattle.rings.specs.Inner.Peeling.{TimesKnown};
 ghost use Rattle.rings.specs.Inner.Answers.{Asked, TimesBuffers, TimesFound};
 use crate::Query;
+use crate::adjacency::prepare_adjacency;
 use crate::checks::are_equal;
 use crate::checks::check_call;
 use crate::checks::is_start;
+use crate::choice::greater;
 use crate::frame::Frame;
+use crate::heads::move_heads;
 use crate::limits::ACCOUNTS;
 use crate::limits::NEVER;
-use crate::links::clear;
-use crate::links::entry;
-use crate::links::link;
-use crate::links::move_heads;
 use crate::peel::peel;
 use crate::refusal::Verdict;
+use crate::slices::clear;
+use crate::slices::entry;
 use crate::table::rows_before;
-
-// The greater of two numbers.
-pub(crate) fn greater(a: u16, b: u16) -> u16
-    ensures { λ r. ⌜ r ≡ Prim.Native.Nat.max a b ⌝ }
-{
-    if a < b { b } else { a }
-}
 
 // The core time of row j: never outside the window's rows, else the greatest of its accounts' core times and its own day.
 pub(crate) fn row_time(
@@ -73,7 +67,7 @@ fn time_rows(
     requires { ⌜ length (now rows) ≡ length (now days) ⌝ }
     ensures { λ _. ⌜ (
         let t = tableOf (now (days .entry)) (now (first .entry)) (now (second .entry)) in
-        now (rows .exit) ≡ run (rowTime t (frame .query) (frame .stop) (frame .start)) 0 (length (now (days .entry)))) ⌝ }
+        now (rows .exit) ≡ tabulate (rowTime t (frame .query) (frame .stop) (frame .start)) 0 (length (now (days .entry)))) ⌝ }
 {
     let mut j = 0;
     while j < days.len() {
@@ -111,7 +105,7 @@ fn find_times(
     };
     let mut left = [0u16; ACCOUNTS];
     let mut queue = [0u16; ACCOUNTS];
-    link(days, first, second, scratch);
+    prepare_adjacency(days, first, second, scratch);
     move_heads(days, first, second, scratch, 0, start, 0, lo);
     peel(
         days,

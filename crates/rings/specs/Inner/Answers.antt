@@ -1,18 +1,18 @@
 -- Behind Window ring (src/ring.rt) and Core times (src/times.rt): what the checks have shown, and what is answered.
---     Asked                     a query and a window that passed the checks
+--     Asked                    a query and a window that passed the checks
 --     RingBuffers, TimesBuffers the lengths of what the calls are lent
---     WholeWindow               a sound table all of whose rows lie in the window of the frame
---     Remaining                 x is 0 exactly for the accounts that are met in the ring of the frame's window
---     RowAccounts, bothRemain   the two accounts of row j, and whether x is 0 for both
---     RingMarked, RingFound     a ring as marks, with its number of rows; and the scratch is cleared
---     TimesFound                the core times of accounts and rows; and the scratch is cleared
+--     WholeWindow              a sound table all of whose rows lie in the window of the frame
+--     Remaining                x is 0 exactly for the accounts that are met in the ring of the frame's window
+--     RowAccounts, bothRemain  the two accounts of row j, and whether x is 0 for both
+--     RingMarked, RingFound    a ring as marks, with its number of rows; and the scratch is cleared
+--     TimesFound               the core times of accounts and rows; and the scratch is cleared
 use Prim.Native.Nat.{ℕ, _+_, _*_, _≤_, _<_}
 use mathlib.Core.Path.{_≡_}
 use mathlib.Core.Bool.{Bool, true}
 use mathlib.Core.List.{List}
 use lib.ListN.{length, getD, replicate}
 use lib.Dec.{eqb}
-use Rattle.rings.specs.Words.{_and_, run}
+use Rattle.rings.specs.Words.{_and_, tabulate}
 use Rattle.rings.specs.Table.{Table, size, Split}
 use Rattle.rings.specs.Ring.{met, ring, members}
 use Rattle.rings.specs.CoreTimes.{accountTime, rowTime}
@@ -65,6 +65,6 @@ pub record RingFound (t : Table) (q : Query) (start stop n : ℕ) (bytes sc₀ s
   pub cleared : sc ≡ replicate (length sc₀) 0
 
 pub record TimesFound (t : Table) (q : Query) (start stop : ℕ) (xs rs sc₀ sc : List ℕ) : Type 0 where
-  pub accounts : xs ≡ run (accountTime t q stop start) 0 4096
-  pub rows : rs ≡ run (rowTime t q stop start) 0 (size t)
+  pub accounts : xs ≡ tabulate (accountTime t q stop start) 0 4096
+  pub rows : rs ≡ tabulate (rowTime t q stop start) 0 (size t)
   pub cleared : sc ≡ replicate (length sc₀) 0

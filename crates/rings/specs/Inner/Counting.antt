@@ -1,20 +1,20 @@
 -- Day counts: how many rows have each day as their time, kept up as the times of the accounts rise.
---     timeBy t x s hi j     the time of row j where x gives those of the accounts: the greatest of both and of the day on which it opens; never if it does not open from s to hi
---     IsTime x              x is a day, or never
---     Histogram g n xs      xs holds, for each day, how many of the first n rows have it by g
---     CountsBy              that histogram, by the times that the accounts have
---     WhereCounted          what a walk with the flag `counting` promises: where days are counted P, where they are not the counts as they were
---     owed new m e          m on the day new, else 0
---     Owing g n new m xs    the same but for m rows that are still to be counted on the day new
---     Adding, Removing      m rows more with a time, and one fewer
---     Taking                one row fewer, and one more of those that are still to be counted, if a test says so
---     Moving                m rows go from one time to another at once
---     RoomOn, HasOne        a day has room for m rows more; it has one
---     AddAsks, RemoveAsks, TakeAsks, MoveAsks    what adding, removing, taking and moving ask
---     CountAsks, DropAsks   what counting the rows of a start asks, and taking off those of its first day
---     Raised                the counts by the times before an account rose
---     Timed t q hi s n xs   the histogram of the core times at s
---     Started               what a start hands on to the next: the book, the times of the accounts, what they can spare, and the counts
+--     timeBy t x s hi j              the time of row j where x gives those of the accounts: the greatest of both and of the day on which it opens; never if it does not open from s to hi
+--     IsTime x                       x is a day, or never
+--     Histogram g n xs               xs holds, for each day, how many of the first n rows have it by g
+--     CountsBy                       that histogram, by the times that the accounts have
+--     WhereCounted                   what a walk with the flag `counting` promises: where days are counted P, where they are not the counts as they were
+--     pendingOn new m e              m on the day new, else 0
+--     PendingHistogram g n new m xs  the same but for m rows that are still to be counted on the day new
+--     Adding, Removing               m rows more with a time, and one fewer
+--     Taking                         one row fewer, and one more of those that are still to be counted, if a test says so
+--     Moving                         m rows go from one time to another at once
+--     RoomOn, HasOne                 a day has room for m rows more; it has one
+--     AddAsks, RemoveAsks, TakeAsks, MoveAsks  what adding, removing, taking and moving ask
+--     CountAsks, DropAsks            what counting the rows of a start asks, and taking off those of its first day
+--     CountsBeforeRise               the counts by the times before an account rose
+--     Timed t q hi s n xs            the histogram of the core times at s
+--     Started                        what a start hands on to the next: the adjacency, the times of the accounts, what they can spare, and the counts
 use Prim.Native.Nat.{ℕ, max, _+_, _-_, _≤_, _<_}
 use mathlib.Core.Path.{_≡_}
 use mathlib.Core.Logic.{_⊎_}
@@ -26,10 +26,10 @@ use Rattle.rings.specs.Words.{count}
 use Rattle.rings.specs.Table.{Table, tableOf, size, firstOf, secondOf, Split}
 use Rattle.rings.specs.CoreTimes.{never, rowTime}
 use Rattle.rings.specs.Ring.{query}
-use Rattle.rings.specs.Inner.Peeling.{guess, Open, CoreTimesAre, TimesKnown}
+use Rattle.rings.specs.Inner.Peeling.{estimate, ReadyPruned, CoreTimesAre, TimesKnown}
 use Rattle.rings.specs.declared.frame.Frame.{Frame}
-use Rattle.rings.specs.Inner.Links.{openDay, opensBy, Covered}
-use Rattle.rings.specs.Inner.Settling.{Spare}
+use Rattle.rings.specs.Inner.Adjacency.{openDay, opensBy, Covered}
+use Rattle.rings.specs.Inner.Settling.{Slack}
 use Rattle.rings.specs.declared.Query.{Query}
 
 unfoldable pub timeBy : Table → (ℕ → ℕ) → ℕ → ℕ → ℕ → ℕ
@@ -43,19 +43,19 @@ pub record Histogram (g : ℕ → ℕ) (n : ℕ) (xs : List ℕ) : Type 0 where
   pub each : (e : ℕ) → e < 1025 → getD xs e 0 ≡ count (λ j. eqb (g j) e) n
 
 abbrev pub CountsBy : (d f g : List ℕ) (s hi : ℕ) (times xs : List ℕ) → Type 0
-CountsBy d f g s hi times xs = Histogram (timeBy (tableOf d f g) (guess times) s hi) (length d) xs
+CountsBy d f g s hi times xs = Histogram (timeBy (tableOf d f g) (estimate times) s hi) (length d) xs
 
 -- xs the counts before, xs′ those after
 pub record WhereCounted (counting : Bool) (P : Type 0) (xs xs′ : List ℕ) : Type 0 where
   pub counted : counting ≡ true → P
   pub same : counting ≡ false → xs′ ≡ xs
 
-unfoldable pub owed : ℕ → ℕ → ℕ → ℕ
-owed new m e = elim (eqb new e) [ true ↦ m | false ↦ 0 ]
+unfoldable pub pendingOn : ℕ → ℕ → ℕ → ℕ
+pendingOn new m e = elim (eqb new e) [ true ↦ m | false ↦ 0 ]
 
-pub record Owing (g : ℕ → ℕ) (n new m : ℕ) (xs : List ℕ) : Type 0 where
+pub record PendingHistogram (g : ℕ → ℕ) (n new m : ℕ) (xs : List ℕ) : Type 0 where
   pub long : length xs ≡ 1025
-  pub each : (e : ℕ) → e < 1025 → getD xs e 0 + owed new m e ≡ count (λ j. eqb (g j) e) n
+  pub each : (e : ℕ) → e < 1025 → getD xs e 0 + pendingOn new m e ≡ count (λ j. eqb (g j) e) n
 
 pub data Adding (m time : ℕ) (xs xs′ : List ℕ) : Type 0 where
   pass : time ≡ never → xs′ ≡ xs → Adding m time xs xs′
@@ -71,7 +71,7 @@ pub data Taking (test : Bool) (time m : ℕ) (xs xs′ : List ℕ) (m′ : ℕ) 
 
 pub record Moving (m old new : ℕ) (xs xs′ : List ℕ) : Type 0 where
   pub long : length xs′ ≡ 1025
-  pub each : (e : ℕ) → e < 1025 → getD xs′ e 0 + owed old m e ≡ getD xs e 0 + owed new m e
+  pub each : (e : ℕ) → e < 1025 → getD xs′ e 0 + pendingOn old m e ≡ getD xs e 0 + pendingOn new m e
 
 -- ---- what these ask: the counts are by day, and a day that is counted on has its place
 
@@ -105,7 +105,7 @@ pub record MoveAsks (m old new : ℕ) (xs : List ℕ) : Type 0 where
   pub room : (new ≡ never → ⊥) → RoomOn m new xs
 
 -- u rose from old to new; xs are the times after that
-pub record Raised (t : Table) (s hi u old new : ℕ) (xs counts : List ℕ) : Type 0 where
+pub record CountsBeforeRise (t : Table) (s hi u old new : ℕ) (xs counts : List ℕ) : Type 0 where
   pub was : List ℕ
   pub long : length was ≡ 4096
   pub then : xs ≡ set was u new
@@ -113,7 +113,7 @@ pub record Raised (t : Table) (s hi u old new : ℕ) (xs counts : List ℕ) : Ty
   pub up : old < new
   pub day : old ≤ hi
   pub top : hi ≤ 1024
-  pub counted : Histogram (timeBy t (guess was) s hi) (size t) counts
+  pub counted : Histogram (timeBy t (estimate was) s hi) (size t) counts
 
 abbrev pub Timed : Table → Query → ℕ → ℕ → ℕ → List ℕ → Type 0
 Timed t q hi s n xs = Histogram (rowTime t q hi s) n xs
@@ -128,9 +128,9 @@ pub record DropAsks (d f g : List ℕ) (p : Frame) (next : ℕ) (counts : List �
   pub follows : Split d (p .start + 1) next
   pub timed : Timed (tableOf d f g) (p .query) (p .stop) (p .start) (length d) counts
 
-pub record Started (d f g sc : List ℕ) (p : Frame) (times spare counts : List ℕ) : Type 0 where
-  pub opened : Open d f g sc p
-  pub covered : Covered (tableOf d f g) (guess times) (p .lo) sc
+pub record Started (d f g sc : List ℕ) (p : Frame) (times slack counts : List ℕ) : Type 0 where
+  pub opened : ReadyPruned d f g sc p
+  pub covered : Covered (tableOf d f g) (estimate times) (p .lo) sc
   pub times-are : CoreTimesAre d f g p times
-  pub spares : Spare (tableOf d f g) (p .query) (p .start) times spare
+  pub slacks : Slack (tableOf d f g) (p .query) (p .start) times slack
   pub timed : Timed (tableOf d f g) (p .query) (p .stop) (p .start) (length d) counts

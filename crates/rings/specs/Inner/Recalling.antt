@@ -1,19 +1,19 @@
 -- What the functions of src/recalling.rt promise one another.
---     entryOf r s e      an entry by its numbers
---     dated d            a table as 14 sees it: the days alone
---     judged j n day before x     14 by numbers: x is entry j, `before` stands before it, the table has n rows, and the row of x is of that day
---     hits c s e j i     entry i is of row j, and its window lies inside [s, e]
---     InTable n r        each row number of a list column is below n
---     EqualLists c       the columns of a list are of one length
---     Markable c m       the same, its rows are in a table of as many rows as there are marks, and all marks are 0
---     marksOf c s e n    the marks that recall writes for n rows
+--     entryOf r s e            an entry by its numbers
+--     dated d                  a table as 14 sees it: the days alone
+--     judged j n day before x  14 by numbers: x is entry j, `before` stands before it, the table has n rows, and the row of x is of that day
+--     hits c s e j i           entry i is of row j, and its window lies inside [s, e]
+--     InTable n r              each row number of a list column is below n
+--     EqualLists c             the columns of a list are of one length
+--     Markable c m             the same, its rows are in a table of as many rows as there are marks, and all marks are 0
+--     marksOf c s e n          the marks that recall writes for n rows
 use Prim.Native.Nat.{ℕ, _<_}
 use mathlib.Core.Bool.{Bool}
 use mathlib.Core.List.{List, []}
 use mathlib.Core.Path.{_≡_}
 use lib.ListN.{length, getD, replicate}
 use lib.Dec.{leb, ltb, eqb}
-use Rattle.rings.specs.Words.{_and_, _or_, no, at, run}
+use Rattle.rings.specs.Words.{_and_, _or_, no, at, tabulate}
 use Rattle.rings.specs.Table.{Table, tableOf}
 use Rattle.rings.specs.Windows.{Entry, entries, recalled}
 use Rattle.rings.specs.Checks.{_when_}
@@ -50,4 +50,4 @@ pub record Markable (c : Columns) (m : List ℕ) : Type 0 where
   pub clear : m ≡ replicate (length m) 0
 
 abbrev pub marksOf : Columns → ℕ → ℕ → ℕ → List ℕ
-marksOf c s e n = marks (run (recalled (entries (c .rows) (c .starts) (c .ends)) s e) 0 n)
+marksOf c s e n = marks (tabulate (recalled (entries (c .rows) (c .starts) (c .ends)) s e) 0 n)

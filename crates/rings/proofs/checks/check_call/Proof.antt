@@ -1,7 +1,6 @@
 use Rattle.rings.proofs.TableLaws.{table-sound}
 use Rattle.rings.proofs.CheckLaws.{then-refused, then-accepted}
 use mathlib.Core.Path.{_∙_, sym}
-use native.Mathlib.Omega.{arith}
 use borrow.Author.Needs.{needs}
 use Rattle.rings.proofs.checks.check_call.Statement.{statement}
 use Rattle.rings.proofs.checks.check_call.Tie as tie

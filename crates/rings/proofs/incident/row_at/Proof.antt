@@ -5,8 +5,8 @@ use Rattle.rings.proofs.incident.row_at.Statement.{statement}
 use Rattle.rings.proofs.incident.row_at.Tie as tie
 use Rattle.rings.proofs.incident.row_at.Reads as reads
 use Rattle.rings.proofs.incident.row_at.Lts as lts
-use Rattle.rings.proofs.links.entry.Reads as entry-reads
-use Rattle.rings.proofs.links.other.Reads as other-reads
+use Rattle.rings.proofs.slices.entry.Reads as entry-reads
+use Rattle.rings.proofs.pairs.other.Reads as other-reads
 
 -- src/incident.rt:33:28
 add-entry : tie.Need-add-entry

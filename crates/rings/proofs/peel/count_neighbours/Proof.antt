@@ -1,24 +1,24 @@
--- `peel::count_neighbours` meets its contract. The loop's invariant: the rows below j have been counted (StageLaws).
+-- `peel::count_neighbours` meets its contract. The loop's invariant: the rows below j have been counted (PeelLoopLaws).
 -- Assumes nothing.
 use native.Mathlib.Omega.{arith}
 use Prim.Native.Nat.{_-_}
 use mathlib.Core.Path.{refl}
-use Rattle.rings.proofs.StageLaws.{Counting, count-start, count-below, count-place, count-first, count-second}
-use Rattle.rings.proofs.StageLaws.{count-skip, count-row, count-end}
+use Rattle.rings.proofs.PeelLoopLaws.{Counting, count-end}
+use Rattle.rings.proofs.CountNeighbourLaws.{count-start, count-below, count-place, count-first, count-second, count-skip, count-row}
 use Rattle.rings.proofs.peel.count_neighbours.Statement.{statement}
 use Rattle.rings.proofs.peel.count_neighbours.Tie as tie
 use Rattle.rings.proofs.peel.count_neighbours.Reads as reads
 use Rattle.rings.proofs.peel.count_neighbours.Lts as lts
-use Rattle.rings.proofs.links.entry.Reads as entry-reads
-use Rattle.rings.proofs.links.put.Reads as put-reads
-use Rattle.rings.proofs.peel.is_fresh.Reads as is-fresh-reads
+use Rattle.rings.proofs.slices.entry.Reads as entry-reads
+use Rattle.rings.proofs.slices.put.Reads as put-reads
+use Rattle.rings.proofs.pairs.leads.Reads as leads-reads
 
 abbrev Inv-loop : tie.InvT-loop
-Inv-loop days first second links frame end left₀ n j₀ left j =
+Inv-loop days first second scratch frame end left₀ n j₀ left j =
     Counting days first second frame j end left₀ left
 
 abbrev μ-loop : tie.MeasureT-loop
-μ-loop days first second links frame end left₀ n j₀ left j = end - j
+μ-loop days first second scratch frame end left₀ n j₀ left j = end - j
 
 loop-holds : tie.Need-loop-holds Inv-loop μ-loop
 loop-holds c =
@@ -28,8 +28,8 @@ loop-holds c =
     let counted = pre .1 .1 in
     count-start _ _ _ _ _ ready span counted
 
-is-fresh-requires : tie.Need-is-fresh-requires Inv-loop μ-loop
-is-fresh-requires c κs =
+leads-requires : tie.Need-leads-requires Inv-loop μ-loop
+leads-requires c κs =
     let loop = c .before .loop in
     let pre = c .before .before .before .before .before .before .before .pre in
     let ready = pre .0 in
@@ -195,9 +195,9 @@ loop-again c =
     let if1 =
     c .before .before .before .before .before .before .before .before .before .before .before .before .before
     .before .if1 in
-    let is-fresh =
+    let leads =
     c .before .before .before .before .before .before .before .before .before .before .before .before .before
-    .before .before .is-fresh in
+    .before .before .leads in
     let loop-test =
     c .before .before .before .before .before .before .before .before .before .before .before .before .before
     .before .before .before .loop-test in
@@ -209,7 +209,7 @@ loop-again c =
     .before .before .before .before .before .before .before .before .before .before .pre in
     let ready = pre .0 in
     let span = pre .1 .0 in
-    count-row _ _ _ _ _ ready (loop .inv) (loop-test .taken) span (is-fresh .ensures) (if1 .taken)
+    count-row _ _ _ _ _ ready (loop .inv) (loop-test .taken) span (leads .ensures) (if1 .taken)
     (entry .ensures) (entry2 .ensures) (entry3 .ensures) (put .ensures) (entry4 .ensures) (put2 .ensures)
 
 add-j-2 : tie.Need-add-j-2 Inv-loop μ-loop
@@ -228,14 +228,14 @@ loop-less-2 c =
 
 loop-again-2 : tie.Need-loop-again-2 Inv-loop μ-loop
 loop-again-2 c =
-    let is-fresh = c .before .is-fresh in
+    let leads = c .before .leads in
     let loop-test = c .before .before .loop-test in
     let loop = c .before .before .before .loop in
     let pre = c .before .before .before .before .before .before .before .before .before .pre in
     let ready = pre .0 in
     let span = pre .1 .0 in
     let if1 = c .if1 in
-    count-skip _ _ _ _ _ ready (loop .inv) (loop-test .taken) span (is-fresh .ensures) (if1 .left)
+    count-skip _ _ _ _ _ ready (loop .inv) (loop-test .taken) span (leads .ensures) (if1 .left)
 
 same-length : tie.Need-same-length Inv-loop μ-loop
 same-length c =
@@ -251,7 +251,7 @@ pub count-neighbours-spec : {M : Type 1} → statement M
 count-neighbours-spec =
     tie.close
     (
-    tie.spec Inv-loop μ-loop loop-holds is-fresh-requires entry-requires entry-requires-2 entry-requires-3 add-put
+    tie.spec Inv-loop μ-loop loop-holds leads-requires entry-requires entry-requires-2 entry-requires-3 add-put
     put-requires entry-requires-4 add-put-2 put-requires-2 add-j loop-less loop-again add-j-2 loop-less-2
     loop-again-2 same-length returns
     )

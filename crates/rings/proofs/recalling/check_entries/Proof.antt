@@ -10,7 +10,7 @@ use Rattle.rings.proofs.recalling.check_entries.Statement.{statement}
 use Rattle.rings.proofs.recalling.check_entries.Tie as tie
 use Rattle.rings.proofs.recalling.check_entries.Reads as reads
 use Rattle.rings.proofs.recalling.check_entries.Lts as lts
-use Rattle.rings.proofs.links.entry.Reads as entry-reads
+use Rattle.rings.proofs.slices.entry.Reads as entry-reads
 use Rattle.rings.proofs.recalling.check_entry.Reads as check-entry-reads
 use Rattle.rings.proofs.recalling.day_at.Reads as day-at-reads
 

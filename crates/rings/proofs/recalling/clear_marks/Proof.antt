@@ -1,6 +1,6 @@
 -- `recalling::clear_marks` meets its contract. The loop's invariant: each mark below i is 0.
 -- Assumes nothing.
-use Rattle.rings.proofs.BookLaws.{Zeros, zeros-next, zeros-end}
+use Rattle.rings.proofs.AdjacencyLaws.{Zeros, zeros-next, zeros-end}
 use mathlib.Core.Path.{refl}
 use native.Mathlib.Nat.{not-suc-le-zero}
 use lib.ListN.{length}

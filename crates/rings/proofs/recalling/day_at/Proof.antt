@@ -8,7 +8,7 @@ use Rattle.rings.proofs.recalling.day_at.Statement.{statement}
 use Rattle.rings.proofs.recalling.day_at.Tie as tie
 use Rattle.rings.proofs.recalling.day_at.Reads as reads
 use Rattle.rings.proofs.recalling.day_at.Lts as lts
-use Rattle.rings.proofs.links.entry.Reads as entry-reads
+use Rattle.rings.proofs.slices.entry.Reads as entry-reads
 
 -- src/recalling.rt:56:9
 returns : tie.Need-returns

@@ -9,7 +9,7 @@ use Rattle.rings.proofs.recalling.mark_entries.Statement.{statement}
 use Rattle.rings.proofs.recalling.mark_entries.Tie as tie
 use Rattle.rings.proofs.recalling.mark_entries.Reads as reads
 use Rattle.rings.proofs.recalling.mark_entries.Lts as lts
-use Rattle.rings.proofs.links.entry.Reads as entry-reads
+use Rattle.rings.proofs.slices.entry.Reads as entry-reads
 
 abbrev Inv-loop : tie.InvT-loop
 Inv-loop rows starts ends s e marks₀ next₀ marks next = Marking rows starts ends s e (length marks₀) next marks

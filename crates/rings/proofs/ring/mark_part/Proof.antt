@@ -3,7 +3,7 @@
 -- Assumes nothing.
 use native.Mathlib.Omega.{arith}
 use mathlib.Core.Path.{refl}
-use Rattle.rings.proofs.HeadLaws.{linked-later}
+use Rattle.rings.proofs.HeadLaws.{adjacency-later}
 use Rattle.rings.proofs.DayLaws.{ready-of, span-of}
 use Rattle.rings.proofs.MarkLaws.{remaining-of}
 use borrow.Author.Needs.{needs}
@@ -11,12 +11,12 @@ use Rattle.rings.proofs.ring.mark_part.Statement.{statement}
 use Rattle.rings.proofs.ring.mark_part.Tie as tie
 use Rattle.rings.proofs.ring.mark_part.Reads as reads
 use Rattle.rings.proofs.ring.mark_part.Lts as lts
-use Rattle.rings.proofs.links.link.Reads as link-reads
+use Rattle.rings.proofs.adjacency.prepare_adjacency.Reads as prepare-adjacency-reads
 use Rattle.rings.proofs.peel.core.Reads as core-reads
 use Rattle.rings.proofs.ring.mark_rows.Reads as mark-rows-reads
 
-link-requires : tie.Need-link-requires
-link-requires c κs = search needs
+prepare-adjacency-requires : tie.Need-prepare-adjacency-requires
+prepare-adjacency-requires c κs = search needs
 
 slice-aggregate-core : tie.Need-slice-aggregate-core
 slice-aggregate-core c = search needs
@@ -29,13 +29,13 @@ slice-aggregate-core-3 c = search needs
 
 core-requires : tie.Need-core-requires
 core-requires c κs =
-    let link = c .before .before .before .before .before .before .link in
+    let prepare-adjacency = c .before .before .before .before .before .before .prepare-adjacency in
     let pre =
     c .before .before .before .before .before .before .before .before .before .before .before .before
     .before .pre in
     let whole = pre .0 in
     let asked = whole .asked in (
-      ready-of (whole .sound) (linked-later (link .ensures) (omega (arith, whole .from))) (asked .some-k)
+      ready-of (whole .sound) (adjacency-later (prepare-adjacency .ensures) (omega (arith, whole .from))) (asked .some-k)
           (asked .last-day) (whole .from),
       (span-of (asked .ordered) (whole .from) (whole .to), record { times = refl; left = refl; queue = omega arith }),
     )
@@ -46,8 +46,8 @@ slice-aggregate-mark-rows c = search needs
 mark-rows-requires : tie.Need-mark-rows-requires
 mark-rows-requires c κs =
     let core = c .before .before .before .before .before .core in
-    let link =
-    c .before .before .before .before .before .before .before .before .before .before .before .before .link in
+    let prepare-adjacency =
+    c .before .before .before .before .before .before .before .before .before .before .before .before .prepare-adjacency in
     let pre =
     c .before .before .before .before .before .before .before .before .before .before .before .before .before
     .before .before .before .before .before .before .pre in
@@ -57,7 +57,7 @@ mark-rows-requires c κs =
       (
         remaining-of _ _ _ _ _
             (
-            ready-of (whole .sound) (linked-later (link .ensures) (omega (arith, whole .from))) (asked .some-k)
+            ready-of (whole .sound) (adjacency-later (prepare-adjacency .ensures) (omega (arith, whole .from))) (asked .some-k)
             (asked .last-day) (whole .from)
             ) (asked .ordered) (span-of (asked .ordered) (whole .from) (whole .to)) (core .ensures),
         pre .1 .marks,
@@ -79,6 +79,6 @@ pub mark-part-spec : {M : Type 1} → statement M
 mark-part-spec =
     tie.close
     (
-    tie.spec link-requires slice-aggregate-core slice-aggregate-core-2 slice-aggregate-core-3 core-requires
+    tie.spec prepare-adjacency-requires slice-aggregate-core slice-aggregate-core-2 slice-aggregate-core-3 core-requires
     slice-aggregate-mark-rows mark-rows-requires same-length same-length-2 returns
     )

@@ -4,15 +4,14 @@
 use mathlib.Core.Path.{refl, _∙_, ap}
 use Prim.Native.Nat.{ℕ}
 use lib.ListN.{replicate}
-use Rattle.rings.proofs.PartLaws.{part-sound, part-same, room-long, part-room, part-from, part-to, part-members}
-use Rattle.rings.proofs.PartLaws.{part-marks}
+use Rattle.rings.proofs.PartTableLaws.{part-sound, part-same, room-long, part-room, part-from, part-to, part-members, part-marks}
 use Rattle.rings.proofs.DayLaws.{span-of}
 use borrow.Author.Needs.{needs}
 use Rattle.rings.proofs.ring.mark_ring.Statement.{statement}
 use Rattle.rings.proofs.ring.mark_ring.Tie as tie
 use Rattle.rings.proofs.ring.mark_ring.Reads as reads
 use Rattle.rings.proofs.ring.mark_ring.Lts as lts
-use Rattle.rings.proofs.links.clear.Reads as clear-reads
+use Rattle.rings.proofs.slices.clear.Reads as clear-reads
 use Rattle.rings.proofs.recalling.clear_marks.Reads as clear-marks-reads
 use Rattle.rings.proofs.ring.mark_part.Reads as mark-part-reads
 use Rattle.rings.proofs.table.rows_before.Reads as rows-before-reads

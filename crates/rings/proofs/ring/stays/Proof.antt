@@ -8,7 +8,7 @@ use Rattle.rings.proofs.ring.stays.Statement.{statement}
 use Rattle.rings.proofs.ring.stays.Tie as tie
 use Rattle.rings.proofs.ring.stays.Reads as reads
 use Rattle.rings.proofs.ring.stays.Lts as lts
-use Rattle.rings.proofs.links.entry.Reads as entry-reads
+use Rattle.rings.proofs.slices.entry.Reads as entry-reads
 
 -- src/ring.rt:31:9
 entry-requires : tie.Need-entry-requires

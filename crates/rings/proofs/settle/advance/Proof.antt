@@ -1,16 +1,16 @@
 use native.Mathlib.Omega.{arith}
 use mathlib.Core.Path.{_∙_, refl}
 use Rattle.rings.proofs.WordLaws.{clash}
-use Rattle.rings.proofs.SettleLaws.{all-risen}
-use Rattle.rings.proofs.DayLaws.{open-of, span-after}
-use Rattle.rings.proofs.ShelfLaws.{linked-shelves, linked-covered}
+use Rattle.rings.proofs.SettleStartLaws.{all-raised}
+use Rattle.rings.proofs.DayLaws.{ready-pruned-of, span-after}
+use Rattle.rings.proofs.PrunedLaws.{adjacency-pruned, adjacency-covered}
 use borrow.Author.Needs.{needs}
 use Rattle.rings.proofs.settle.advance.Statement.{statement}
 use Rattle.rings.proofs.settle.advance.Tie as tie
 use Rattle.rings.proofs.settle.advance.Reads as reads
 use Rattle.rings.proofs.settle.advance.Lts as lts
 use Rattle.rings.proofs.frame.next_frame.Reads as next-frame-reads
-use Rattle.rings.proofs.settle.begin.Reads as begin-reads
+use Rattle.rings.proofs.settle.peel_start.Reads as peel-start-reads
 use Rattle.rings.proofs.settle.list_all.Reads as list-all-reads
 use Rattle.rings.proofs.settle.step.Reads as step-reads
 
@@ -24,16 +24,16 @@ step-requires c κs =
     let pre = c .before .before .before .before .before .before .before .before .before .before .before .pre in
     let ready = pre .ready in
     record {
-      opened = open-of (ready .sound) (linked-shelves (ready .linked)) (ready .setting .some-k) (pre .in-days) (pre .follows);
+      opened = ready-pruned-of (ready .sound) (adjacency-pruned (ready .adjacency)) (ready .setting .some-k) (pre .in-days) (pre .follows);
       ordered = pre .ordered;
       in-days = pre .in-days;
       starts = pre .starts;
       follows = pre .follows;
       ends = pre .ends;
       times-are = pre .times-are;
-      spares = pre .spares;
+      slacks = pre .slacks;
       queue-long = pre .queue-long;
-      covered = linked-covered (ready .linked) _ (ready .setting .from-lo);
+      covered = adjacency-covered (ready .adjacency) _ (ready .setting .from-lo);
       counted = λ y. clash y refl;
     }
 
@@ -50,8 +50,8 @@ next-frame-requires : tie.Need-next-frame-requires
 next-frame-requires c κs = search needs
 
 -- src/settle.rt:549:13
-begin-requires : tie.Need-begin-requires
-begin-requires c κs =
+peel-start-requires : tie.Need-peel-start-requires
+peel-start-requires c κs =
     let next = c .before .before .before .next-frame in
     let step = c .before .before .before .before .before .before .before .before .before .before .before .before .before .step in
     let pre = c .before .before .before .before .before .before .before .before .before .before .before .before .before .before .before .before .before .before .before .before .before .before .before .before .before .pre in
@@ -60,7 +60,7 @@ begin-requires c κs =
       ready = pre .ready;
       span = span-after (omega (arith, pre .ordered)) (pre .follows) (pre .ends);
       times-long = step .kept .1 .1 .1 .1 .1 .1 .1 .0 ∙ pre .times-are .long;
-      spare-long = step .kept .1 .1 .1 .1 .1 .1 .1 .1 .0 ∙ pre .spares .long;
+      slack-long = step .kept .1 .1 .1 .1 .1 .1 .1 .1 .0 ∙ pre .slacks .long;
       queue-long = step .kept .1 .1 .1 .1 .1 .1 .1 .1 .1 .0 ∙ pre .queue-long;
     }
     )
@@ -68,10 +68,10 @@ begin-requires c κs =
 -- src/settle.rt:550:13
 list-all-requires : tie.Need-list-all-requires
 list-all-requires c κs =
-    let begin = c .before .before .before .before .before .before .before .begin in
+    let peel-start = c .before .before .before .before .before .before .before .peel-start in
     let step = c .before .before .before .before .before .before .before .before .before .before .before .before .before .before .before .before .before .before .before .before .before .step in
     let pre = c .before .before .before .before .before .before .before .before .before .before .before .before .before .before .before .before .before .before .before .before .before .before .before .before .before .before .before .before .before .before .before .before .before .pre in
-    begin .kept .1 .1 .1 .1 .1 .1 .1 .1 .0 ∙ (step .kept .1 .1 .1 .1 .1 .1 .1 .1 .1 .0 ∙ pre .queue-long)
+    peel-start .kept .1 .1 .1 .1 .1 .1 .1 .1 .0 ∙ (step .kept .1 .1 .1 .1 .1 .1 .1 .1 .1 .0 ∙ pre .queue-long)
 
 -- src/settle.rt:513:1
 same-length : tie.Need-same-length
@@ -91,7 +91,7 @@ returns c =
     let found = c .before .found in
     let step = c .before .before .before .before .before .before .before .before .before .before .step in
     let done = rw (found .given .1) at (step .ensures) in
-    record { times-are = done .times-are; spares = done .spares; listed = done .listed }
+    record { times-are = done .times-are; slacks = done .slacks; listed = done .listed }
 
 -- src/settle.rt:513:1
 same-length-4 : tie.Need-same-length-4
@@ -109,13 +109,13 @@ same-length-6 c = search needs
 returns-2 : tie.Need-returns-2
 returns-2 c =
     let list-all = c .before .before .list-all in
-    let begin = c .before .before .before .before .before .before .before .before .before .before .begin in
+    let peel-start = c .before .before .before .before .before .before .before .before .before .before .peel-start in
     let next = c .before .before .before .before .before .before .before .before .before .before .before .before .before .before .next-frame in
-    let done = rw (next .ensures) at (begin .ensures) in
+    let done = rw (next .ensures) at (peel-start .ensures) in
     record {
       times-are = done .times-are;
-      spares = done .spares;
-      listed = all-risen (list-all .ensures .long) (list-all .ensures .each);
+      slacks = done .slacks;
+      listed = all-raised (list-all .ensures .long) (list-all .ensures .each);
     }
 
 pub advance-spec : {M : Type 1} → statement M
@@ -127,7 +127,7 @@ advance-spec =
     enum-known-found
     enum-told
     next-frame-requires
-    begin-requires
+    peel-start-requires
     list-all-requires
     same-length
     same-length-2

@@ -1,4 +1,4 @@
-use Rattle.rings.proofs.SettleLaws.{Filled, filled-start, filled-next}
+use Rattle.rings.proofs.SettleStartLaws.{Filled, filled-start, filled-next}
 use native.Mathlib.Omega.{arith}
 use mathlib.Core.Path.{refl, sym, _∙_}
 use Prim.Native.Nat.{ℕ, _-_, _≤_}
@@ -6,7 +6,7 @@ use Rattle.rings.proofs.settle.list_all.Statement.{statement}
 use Rattle.rings.proofs.settle.list_all.Tie as tie
 use Rattle.rings.proofs.settle.list_all.Reads as reads
 use Rattle.rings.proofs.settle.list_all.Lts as lts
-use Rattle.rings.proofs.links.put.Reads as put-reads
+use Rattle.rings.proofs.slices.put.Reads as put-reads
 
 abbrev Inv-loop : tie.InvT-loop
 Inv-loop list₀ u₀ list u = (u ≤ 4096) × Filled (λ (i : ℕ). i) 4352 u list

@@ -3,9 +3,9 @@ use mathlib.Core.Path.{refl, sym, _∙_}
 use native.Mathlib.Omega.{arith}
 use native.Mathlib.Nat.{le-refl}
 use Prim.Native.Nat.{_-_}
-use Rattle.rings.proofs.SettleLaws.{settle-end}
+use Rattle.rings.proofs.SettleStartLaws.{settle-end}
 use Rattle.rings.proofs.CountingLaws.{by-core, counted-so, counted-then, hist-same}
-use Rattle.rings.proofs.ShelfLaws.{covered-rise}
+use Rattle.rings.proofs.PrunedLaws.{covered-rise}
 use Rattle.rings.specs.Inner.Worklist.{arrays}
 use Rattle.rings.proofs.WorklistLaws.{Settles}
 use Rattle.rings.proofs.settle.settle.Statement.{statement}
@@ -15,11 +15,11 @@ use Rattle.rings.proofs.settle.settle.Lts as lts
 use Rattle.rings.proofs.settle.settle_account.Reads as settle-account-reads
 
 abbrev Inv-loop : tie.InvT-loop
-Inv-loop days first second links frame budget waiting times₀ spare₀ queue₀ counting counts₀ list₀ times spare queue counts list =
-    Settles days first second links frame counting budget (arrays times₀ spare₀ queue₀ counts₀) list (arrays times spare queue counts)
+Inv-loop days first second scratch frame budget waiting times₀ slack₀ queue₀ counting counts₀ list₀ times slack queue counts list =
+    Settles days first second scratch frame counting budget (arrays times₀ slack₀ queue₀ counts₀) list (arrays times slack queue counts)
 
 abbrev μ-loop : tie.MeasureT-loop
-μ-loop days first second links frame budget waiting times₀ spare₀ queue₀ counting counts₀ list₀ times spare queue counts list = 4353 - list .head
+μ-loop days first second scratch frame budget waiting times₀ slack₀ queue₀ counting counts₀ list₀ times slack queue counts list = 4353 - list .head
 
 -- src/settle.rt:317:5
 loop-holds : tie.Need-loop-holds Inv-loop μ-loop
@@ -46,7 +46,7 @@ same-length-2 : tie.Need-same-length-2 Inv-loop μ-loop
 same-length-2 c =
     let loop = c .before .before .before .before .loop in
     let pre = c .before .before .before .before .before .before .before .before .before .before .before .before .before .pre in
-    loop .inv .rising .settling .long-spare ∙ sym (pre .rising .settling .long-spare)
+    loop .inv .rising .settling .long-slack ∙ sym (pre .rising .settling .long-slack)
 
 -- src/settle.rt:319:13
 same-length-3 : tie.Need-same-length-3 Inv-loop μ-loop
@@ -84,7 +84,7 @@ settle-account-requires c κs =
         behind = r .behind;
         few = omega (arith, if2 .left, pre .bounded);
         times-long = r .settling .long;
-        spare-long = r .settling .long-spare;
+        slack-long = r .settling .long-slack;
         queue-long = r .waiting .long;
         days = r .settling .days;
         counted = λ y. record { in-days = pre .counted y .in-days; counts-are = loop .inv .counted .counted y };
@@ -111,7 +111,7 @@ same-length-6 c =
     let settle-account = c .before .before .before .before .before .before .before .before .before .before .settle-account in
     let loop = c .before .before .before .before .before .before .before .before .before .before .before .before .before .before .before .before .before .before .before .loop in
     let pre = c .before .before .before .before .before .before .before .before .before .before .before .before .before .before .before .before .before .before .before .before .before .before .before .before .before .before .before .before .pre in
-    settle-account .kept .1 .1 .1 .1 .1 .1 .1 .1 .0 ∙ (loop .inv .rising .settling .long-spare ∙ sym (pre .rising .settling .long-spare))
+    settle-account .kept .1 .1 .1 .1 .1 .1 .1 .1 .0 ∙ (loop .inv .rising .settling .long-slack ∙ sym (pre .rising .settling .long-slack))
 
 -- src/settle.rt:337:17
 same-length-7 : tie.Need-same-length-7 Inv-loop μ-loop
@@ -180,7 +180,7 @@ same-length-10 : tie.Need-same-length-10 Inv-loop μ-loop
 same-length-10 c =
     let loop = c .before .before .loop in
     let pre = c .before .before .before .before .before .before .before .before .before .before .before .pre in
-    loop .inv .rising .settling .long-spare ∙ sym (pre .rising .settling .long-spare)
+    loop .inv .rising .settling .long-slack ∙ sym (pre .rising .settling .long-slack)
 
 -- src/settle.rt:289:1
 same-length-11 : tie.Need-same-length-11 Inv-loop μ-loop
@@ -204,7 +204,7 @@ returns-3 c =
     let end = settle-end _ _ _ _ _ _ _ (pre .opened .setting) (loop .inv .rising) (if1 .left) in
     record {
       times-are = end .0;
-      spares = end .1;
+      slacks = end .1;
       listed = end .2;
       counted = counted-so (hist-same (λ j l. sym (by-core _ _ _ _ _ _ _ (pre .opened .setting) (end .0) j l))) (loop .inv .counted);
     }

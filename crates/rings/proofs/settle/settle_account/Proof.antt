@@ -1,14 +1,14 @@
 use mathlib.Core.Path.{refl, sym, _∙_}
 use native.Mathlib.Omega.{arith}
-use Rattle.rings.proofs.SettleLaws.{same-short}
+use Rattle.rings.proofs.SettleNearLaws.{same-short}
 use Rattle.rings.proofs.WorklistLaws.{unmoved-working, unmoved-attempt, moved-more}
 use borrow.Author.Needs.{needs}
 use Rattle.rings.proofs.settle.settle_account.Statement.{statement}
 use Rattle.rings.proofs.settle.settle_account.Tie as tie
 use Rattle.rings.proofs.settle.settle_account.Reads as reads
 use Rattle.rings.proofs.settle.settle_account.Lts as lts
-use Rattle.rings.proofs.links.entry.Reads as entry-reads
-use Rattle.rings.proofs.look.first_from.Reads as first-from-reads
+use Rattle.rings.proofs.slices.entry.Reads as entry-reads
+use Rattle.rings.proofs.scan.first_from.Reads as first-from-reads
 use Rattle.rings.proofs.settle.settle_far.Reads as settle-far-reads
 use Rattle.rings.proofs.settle.settle_near.Reads as settle-near-reads
 
@@ -21,7 +21,7 @@ first-from-requires : tie.Need-first-from-requires
 first-from-requires c κs =
     let pre = c .before .before .before .before .before .before .before .before .before .before .pre in
     let w = pre .working in
-    (w .opened .sound, (w .opened .shelves, omega (arith, c .entry .ensures, pre .small)))
+    (w .opened .sound, (w .opened .pruned, omega (arith, c .entry .ensures, pre .small)))
 
 -- src/settle.rt:238:14
 mul-t24 : tie.Need-mul-t24

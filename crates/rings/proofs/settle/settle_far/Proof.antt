@@ -1,7 +1,8 @@
 use Rattle.rings.proofs.CountingLaws.{counted-so}
-use Rattle.rings.proofs.FallLaws.{guess-at}
+use Rattle.rings.proofs.PeelStateLaws.{estimate-at}
 use lib.ListN.{length-set}
-use Rattle.rings.proofs.SettleLaws.{account-same, account-rise, account-days, account-now, account-never, account-every, account-raised}
+use Rattle.rings.proofs.SettleLaws.{account-same, account-rise}
+use Rattle.rings.proofs.SettleNearLaws.{account-days, account-now, account-never, account-every, account-counts-before-rise}
 use mathlib.Core.Path.{refl, sym, _∙_}
 use native.Mathlib.Omega.{arith}
 use borrow.Author.Needs.{needs}
@@ -9,9 +10,9 @@ use Rattle.rings.proofs.settle.settle_far.Statement.{statement}
 use Rattle.rings.proofs.settle.settle_far.Tie as tie
 use Rattle.rings.proofs.settle.settle_far.Reads as reads
 use Rattle.rings.proofs.settle.settle_far.Lts as lts
-use Rattle.rings.proofs.links.put.Reads as put-reads
-use Rattle.rings.proofs.look.look.Reads as look-reads
-use Rattle.rings.proofs.loss.lose_others.Reads as lose-others-reads
+use Rattle.rings.proofs.slices.put.Reads as put-reads
+use Rattle.rings.proofs.scan.find_day.Reads as find-day-reads
+use Rattle.rings.proofs.supporters.drop_supported.Reads as drop-supported-reads
 
 -- src/settle.rt:162:15
 mul-old : tie.Need-mul-old
@@ -26,8 +27,8 @@ slice-read-old c =
     omega (arith, pre .at-head .small, pre .working .times-long)
 
 -- src/settle.rt:163:9
-look-requires : tie.Need-look-requires
-look-requires c κs =
+find-day-requires : tie.Need-find-day-requires
+find-day-requires c κs =
     let args = c .before .before .before .before .before .before .before .before .before .before .args in
     let pre = c .before .before .before .before .before .before .before .before .before .before .pre in
     let w = pre .working in
@@ -41,13 +42,13 @@ look-requires c κs =
         reading = h .reading;
       };
       bounded = pre .bounded;
-      every = λ n. w .covered .rows _ (h .small) (λ e. n (sym (guess-at (args .times .now) _ (w .times-long) (h .small)) ∙ e));
+      every = λ n. w .covered .rows _ (h .small) (λ e. n (sym (estimate-at (args .times .now) _ (w .times-long) (h .small)) ∙ e));
       short = pre .short;
     }
 
 -- src/settle.rt:164:23
-enum-known-seen : tie.Need-enum-known-seen
-enum-known-seen c = search needs
+enum-known-outcome : tie.Need-enum-known-outcome
+enum-known-outcome c = search needs
 
 -- src/settle.rt:165:9
 enum-told : tie.Need-enum-told
@@ -62,38 +63,38 @@ returns : tie.Need-returns
 returns c = record { same = λ y. refl }
 
 -- src/settle.rt:167:5
-mul-spare : tie.Need-mul-spare
-mul-spare c =
+mul-slack : tie.Need-mul-slack
+mul-slack c =
     let pre = c .before .before .before .before .before .before .before .before .before .before .before .before .before .before .pre in
     omega (arith, pre .at-head .small)
 
 -- src/settle.rt:167:5
-slice-write-spare : tie.Need-slice-write-spare
-slice-write-spare c =
+slice-write-slack : tie.Need-slice-write-slack
+slice-write-slack c =
     let pre = c .before .before .before .before .before .before .before .before .before .before .before .before .before .before .pre in
-    omega (arith, pre .at-head .small, pre .working .spare-long)
+    omega (arith, pre .at-head .small, pre .working .slack-long)
 
 -- src/settle.rt:170:19
 add-t28 : tie.Need-add-t28
 add-t28 c =
-    let seen = c .before .before .before .seen in
-    let look = c .before .before .before .before .before .look in
-    let view = rw (seen .given .1) at (look .ensures) in
+    let outcome = c .before .before .before .outcome in
+    let find-day = c .before .before .before .before .before .find-day in
+    let found-day = rw (outcome .given .1) at (find-day .ensures) in
     let pre = c .before .before .before .before .before .before .before .before .before .before .before .before .before .before .before .before .pre in
     let w = pre .working in
     let h = pre .at-head in
-    omega (arith, w .waits, w .within, w .behind, w .few, view .short-walk)
+    omega (arith, w .waits, w .within, w .behind, w .few, found-day .short-walk)
 
 -- src/settle.rt:173:21
 add-t29 : tie.Need-add-t29
 add-t29 c =
-    let seen = c .before .before .before .before .seen in
-    let look = c .before .before .before .before .before .before .look in
-    let view = rw (seen .given .1) at (look .ensures) in
+    let outcome = c .before .before .before .before .outcome in
+    let find-day = c .before .before .before .before .before .before .find-day in
+    let found-day = rw (outcome .given .1) at (find-day .ensures) in
     let pre = c .before .before .before .before .before .before .before .before .before .before .before .before .before .before .before .before .before .pre in
     let w = pre .working in
     let h = pre .at-head in
-    omega (arith, w .waits, w .within, w .behind, w .few, view .short-walk)
+    omega (arith, w .waits, w .within, w .behind, w .few, found-day .short-walk)
 
 -- src/settle.rt:169:9
 same-length-2 : tie.Need-same-length-2
@@ -106,18 +107,18 @@ same-length-3 c = search needs
 -- src/settle.rt:169:9
 returns-2 : tie.Need-returns-2
 returns-2 c =
-    let seen = c .before .before .before .before .seen in
-    let look = c .before .before .before .before .before .before .look in
-    let view = rw (seen .given .1) at (look .ensures) in
+    let outcome = c .before .before .before .before .outcome in
+    let find-day = c .before .before .before .before .before .before .find-day in
+    let found-day = rw (outcome .given .1) at (find-day .ensures) in
     let pre = c .before .before .before .before .before .before .before .before .before .before .before .before .before .before .before .before .before .pre in
     let w = pre .working in
     let h = pre .at-head in
     record {
       next = refl;
       within = w .within;
-      walked = omega (arith, view .short-walk);
-      rising = λ xs Z. account-same _ _ _ _ _ (w .opened .setting) (Z .settling) (h .small) (view .looked) (Z .waiting)
-          (h .is-head) (Z .behind) (Z .risen) (w .waits) (w .within) (c .before .before .if1 .taken);
+      walked = omega (arith, found-day .short-walk);
+      rising = λ xs Z. account-same _ _ _ _ _ (w .opened .setting) (Z .settling) (h .small) (found-day .day-found) (Z .waiting)
+          (h .is-head) (Z .behind) (Z .raised) (w .waits) (w .within) (c .before .before .if1 .taken);
       nevers = λ v e. e;
       counted = record { counted = λ y. w .counted y .counts-are; same = λ y. refl };
     }
@@ -146,14 +147,14 @@ put-requires c κs =
     }
 
 -- src/settle.rt:184:9
-lose-others-requires : tie.Need-lose-others-requires
-lose-others-requires c κs =
+drop-supported-requires : tie.Need-drop-supported-requires
+drop-supported-requires c κs =
     let put = c .before .before .before .before .before .before .put in
     let if1 = c .before .before .before .before .before .before .before .before .if1 in
     let args = c .before .before .before .before .before .before .before .before .before .before .before .before .before .before .before .before .before .before .before .before .before .before .before .args in
-    let seen = c .before .before .before .before .before .before .before .before .before .before .seen in
-    let look = c .before .before .before .before .before .before .before .before .before .before .before .before .look in
-    let view = rw (seen .given .1) at (look .ensures) in
+    let outcome = c .before .before .before .before .before .before .before .before .before .before .outcome in
+    let find-day = c .before .before .before .before .before .before .before .before .before .before .before .before .find-day in
+    let found-day = rw (outcome .given .1) at (find-day .ensures) in
     let pre = c .before .before .before .before .before .before .before .before .before .before .before .before .before .before .before .before .before .before .before .before .before .before .before .pre in
     let w = pre .working in
     let h = pre .at-head in
@@ -161,14 +162,14 @@ lose-others-requires c κs =
       opened = w .opened;
       small = h .small;
       times-long = search (needs, w .times-long);
-      spare-long = search (needs, w .spare-long);
+      slack-long = search (needs, w .slack-long);
       queue-long = put .kept .0 ∙ w .queue-long;
       reading = h .reading;
-      every = account-every (args .times .now) (omega (arith, w .opened .setting .fits)) (w .times-long) (h .small) (w .days) (view .looked)
+      every = account-every (args .times .now) (omega (arith, w .opened .setting .fits)) (w .times-long) (h .small) (w .days) (found-day .day-found)
           (if1 .left) (w .covered);
-      days = account-days (args .times .now) (omega (arith, w .opened .setting .fits)) (w .times-long) (h .small) (w .days) (view .looked);
-      now-is = account-now (args .times .now) (omega (arith, w .opened .setting .fits)) (w .times-long) (h .small) (w .days) (view .looked);
-      counted = λ y. account-raised (args .times .now) (omega (arith, w .opened .setting .fits)) (w .times-long) (h .small) (w .days) (view .looked)
+      days = account-days (args .times .now) (omega (arith, w .opened .setting .fits)) (w .times-long) (h .small) (w .days) (found-day .day-found);
+      now-is = account-now (args .times .now) (omega (arith, w .opened .setting .fits)) (w .times-long) (h .small) (w .days) (found-day .day-found);
+      counted = λ y. account-counts-before-rise (args .times .now) (omega (arith, w .opened .setting .fits)) (w .times-long) (h .small) (w .days) (found-day .day-found)
           (if1 .left) (w .counted y .in-days) (w .counted y .counts-are);
     }
 
@@ -179,8 +180,8 @@ same-length-4 c = search needs
 -- src/settle.rt:199:9
 same-length-5 : tie.Need-same-length-5
 same-length-5 c =
-    let lose-others = c .before .before .before .before .before .before .before .lose-others in
-    lose-others .kept .1 .1 .1 .1 .1 .1 .1 .1 .0 ∙ simp length-set
+    let drop-supported = c .before .before .before .before .before .before .before .drop-supported in
+    drop-supported .kept .1 .1 .1 .1 .1 .1 .1 .1 .0 ∙ simp length-set
 
 -- src/settle.rt:199:9
 same-length-6 : tie.Need-same-length-6
@@ -193,41 +194,41 @@ same-length-7 c = search needs
 -- src/settle.rt:199:9
 returns-3 : tie.Need-returns-3
 returns-3 c =
-    let lose-others = c .before .before .before .before .before .before .before .lose-others in
-    record { same = lose-others .ensures .counted .same }
+    let drop-supported = c .before .before .before .before .before .before .before .drop-supported in
+    record { same = drop-supported .ensures .counted .same }
 
 -- src/settle.rt:202:15
 add-t21 : tie.Need-add-t21
 add-t21 c =
-    let seen = c .before .before .before .before .before .before .before .before .before .before .before .before .before .before .before .before .before .before .before .seen in
-    let look = c .before .before .before .before .before .before .before .before .before .before .before .before .before .before .before .before .before .before .before .before .before .look in
-    let view = rw (seen .given .1) at (look .ensures) in
+    let outcome = c .before .before .before .before .before .before .before .before .before .before .before .before .before .before .before .before .before .before .before .outcome in
+    let find-day = c .before .before .before .before .before .before .before .before .before .before .before .before .before .before .before .before .before .before .before .before .before .find-day in
+    let found-day = rw (outcome .given .1) at (find-day .ensures) in
     let pre = c .before .before .before .before .before .before .before .before .before .before .before .before .before .before .before .before .before .before .before .before .before .before .before .before .before .before .before .before .before .before .before .before .pre in
     let w = pre .working in
     let h = pre .at-head in
-    omega (arith, w .waits, w .within, w .behind, w .few, view .short-walk)
+    omega (arith, w .waits, w .within, w .behind, w .few, found-day .short-walk)
 
 -- src/settle.rt:204:16
 add-t43 : tie.Need-add-t43
 add-t43 c =
-    let seen = c .before .before .before .before .before .before .before .before .before .before .before .before .before .before .before .before .before .before .before .before .seen in
-    let look = c .before .before .before .before .before .before .before .before .before .before .before .before .before .before .before .before .before .before .before .before .before .before .look in
-    let view = rw (seen .given .1) at (look .ensures) in
+    let outcome = c .before .before .before .before .before .before .before .before .before .before .before .before .before .before .before .before .before .before .before .before .outcome in
+    let find-day = c .before .before .before .before .before .before .before .before .before .before .before .before .before .before .before .before .before .before .before .before .before .before .find-day in
+    let found-day = rw (outcome .given .1) at (find-day .ensures) in
     let pre = c .before .before .before .before .before .before .before .before .before .before .before .before .before .before .before .before .before .before .before .before .before .before .before .before .before .before .before .before .before .before .before .before .before .pre in
     let w = pre .working in
     let h = pre .at-head in
-    omega (arith, w .waits, w .within, w .behind, w .few, view .short-walk)
+    omega (arith, w .waits, w .within, w .behind, w .few, found-day .short-walk)
 
 -- src/settle.rt:205:17
 add-t44 : tie.Need-add-t44
 add-t44 c =
-    let seen = c .before .before .before .before .before .before .before .before .before .before .before .before .before .before .before .before .before .before .before .before .before .seen in
-    let look = c .before .before .before .before .before .before .before .before .before .before .before .before .before .before .before .before .before .before .before .before .before .before .before .look in
-    let view = rw (seen .given .1) at (look .ensures) in
+    let outcome = c .before .before .before .before .before .before .before .before .before .before .before .before .before .before .before .before .before .before .before .before .before .outcome in
+    let find-day = c .before .before .before .before .before .before .before .before .before .before .before .before .before .before .before .before .before .before .before .before .before .before .before .find-day in
+    let found-day = rw (outcome .given .1) at (find-day .ensures) in
     let pre = c .before .before .before .before .before .before .before .before .before .before .before .before .before .before .before .before .before .before .before .before .before .before .before .before .before .before .before .before .before .before .before .before .before .before .pre in
     let w = pre .working in
     let h = pre .at-head in
-    omega (arith, w .waits, w .within, w .behind, w .few, view .short-walk)
+    omega (arith, w .waits, w .within, w .behind, w .few, found-day .short-walk)
 
 -- src/settle.rt:138:1
 same-length-8 : tie.Need-same-length-8
@@ -236,8 +237,8 @@ same-length-8 c = search needs
 -- src/settle.rt:138:1
 same-length-9 : tie.Need-same-length-9
 same-length-9 c =
-    let lose-others = c .before .before .before .before .before .before .before .before .before .before .lose-others in
-    lose-others .kept .1 .1 .1 .1 .1 .1 .1 .1 .0 ∙ simp length-set
+    let drop-supported = c .before .before .before .before .before .before .before .before .before .before .drop-supported in
+    drop-supported .kept .1 .1 .1 .1 .1 .1 .1 .1 .0 ∙ simp length-set
 
 -- src/settle.rt:138:1
 same-length-10 : tie.Need-same-length-10
@@ -251,24 +252,24 @@ same-length-11 c = search needs
 returns-4 : tie.Need-returns-4
 returns-4 c =
     let if2 = c .before .before .before .if2 in
-    let lose-others = c .before .before .before .before .before .before .before .before .before .before .lose-others in
+    let drop-supported = c .before .before .before .before .before .before .before .before .before .before .drop-supported in
     let put = c .before .before .before .before .before .before .before .before .before .before .before .before .before .before .before .before .before .put in
     let args = c .before .before .before .before .before .before .before .before .before .before .before .before .before .before .before .before .before .before .before .before .before .before .before .before .before .before .before .before .before .before .before .before .before .before .args in
-    let seen = c .before .before .before .before .before .before .before .before .before .before .before .before .before .before .before .before .before .before .before .before .before .seen in
-    let look = c .before .before .before .before .before .before .before .before .before .before .before .before .before .before .before .before .before .before .before .before .before .before .before .look in
-    let view = rw (seen .given .1) at (look .ensures) in
+    let outcome = c .before .before .before .before .before .before .before .before .before .before .before .before .before .before .before .before .before .before .before .before .before .outcome in
+    let find-day = c .before .before .before .before .before .before .before .before .before .before .before .before .before .before .before .before .before .before .before .before .before .before .before .find-day in
+    let found-day = rw (outcome .given .1) at (find-day .ensures) in
     let pre = c .before .before .before .before .before .before .before .before .before .before .before .before .before .before .before .before .before .before .before .before .before .before .before .before .before .before .before .before .before .before .before .before .before .before .pre in
     let w = pre .working in
     let h = pre .at-head in
     record {
       next = refl;
       within = if2 .left;
-      walked = omega (arith, view .short-walk);
-      rising = λ xs Z. account-rise _ _ _ _ _ (w .opened .setting) (Z .settling) (h .small) (view .looked) (Z .waiting)
-          (h .is-head) (Z .behind) (Z .risen) (w .waits) (w .within) (put .ensures)
-          (lose-others .ensures .lessened (if2 .left)) (lose-others .ensures .queued (if2 .left)) (if2 .left);
-      nevers = account-never (args .times .now) (omega (arith, w .opened .setting .fits)) (w .times-long) (h .small) (w .days) (view .looked);
-      counted = counted-so (λ y. y (if2 .left)) (lose-others .ensures .counted);
+      walked = omega (arith, found-day .short-walk);
+      rising = λ xs Z. account-rise _ _ _ _ _ (w .opened .setting) (Z .settling) (h .small) (found-day .day-found) (Z .waiting)
+          (h .is-head) (Z .behind) (Z .raised) (w .waits) (w .within) (put .ensures)
+          (drop-supported .ensures .dropped-supported (if2 .left)) (drop-supported .ensures .queued (if2 .left)) (if2 .left);
+      nevers = account-never (args .times .now) (omega (arith, w .opened .setting .fits)) (w .times-long) (h .small) (w .days) (found-day .day-found);
+      counted = counted-so (λ y. y (if2 .left)) (drop-supported .ensures .counted);
     }
 
 pub settle-far-spec : {M : Type 1} → statement M
@@ -277,13 +278,13 @@ settle-far-spec =
     (tie.spec
     mul-old
     slice-read-old
-    look-requires
-    enum-known-seen
+    find-day-requires
+    enum-known-outcome
     enum-told
     same-length
     returns
-    mul-spare
-    slice-write-spare
+    mul-slack
+    slice-write-slack
     add-t28
     add-t29
     same-length-2
@@ -292,7 +293,7 @@ settle-far-spec =
     mul-times
     slice-write-times
     put-requires
-    lose-others-requires
+    drop-supported-requires
     same-length-4
     same-length-5
     same-length-6

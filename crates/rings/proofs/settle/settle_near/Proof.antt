@@ -1,20 +1,19 @@
-use mathlib.Core.Path.{sym}
-use Rattle.rings.proofs.LookLaws.{short-start}
-use mathlib.Core.Path.{refl, _∙_}
+use mathlib.Core.Path.{sym, refl, _∙_}
+use Rattle.rings.proofs.FindDayLaws.{short-start}
 use native.Mathlib.Omega.{arith}
 use lib.ListN.{length-set}
-use Rattle.rings.proofs.SettleLaws.{near-short, near-day, near-every, near-same, near-never, near-asks, near-counts, near-small, near-rise}
+use Rattle.rings.proofs.SettleNearLaws.{near-short, near-day, near-every, near-same, near-never, near-asks, near-counts, near-small, near-rise}
 use borrow.Author.Needs.{needs}
 use Rattle.rings.proofs.settle.settle_near.Statement.{statement}
 use Rattle.rings.proofs.settle.settle_near.Tie as tie
 use Rattle.rings.proofs.settle.settle_near.Reads as reads
 use Rattle.rings.proofs.settle.settle_near.Lts as lts
-use Rattle.rings.proofs.counts.move_counts.Reads as move-counts-reads
-use Rattle.rings.proofs.links.entry.Reads as entry-reads
-use Rattle.rings.proofs.links.put.Reads as put-reads
-use Rattle.rings.proofs.look.gather.Reads as gather-reads
-use Rattle.rings.proofs.look.spare_above.Reads as spare-above-reads
-use Rattle.rings.proofs.loss.lose_listed.Reads as lose-listed-reads
+use Rattle.rings.proofs.histogram.move_in_histogram.Reads as move-in-histogram-reads
+use Rattle.rings.proofs.slices.entry.Reads as entry-reads
+use Rattle.rings.proofs.slices.put.Reads as put-reads
+use Rattle.rings.proofs.scan.scan_for_rise.Reads as scan-for-rise-reads
+use Rattle.rings.proofs.scan.slack_above.Reads as slack-above-reads
+use Rattle.rings.proofs.supporters.drop_listed_supporters.Reads as drop-listed-supporters-reads
 
 -- src/settle.rt:84:9
 returns : tie.Need-returns
@@ -22,7 +21,7 @@ returns c =
     let pre = c .before .before .before .before .before .before .before .before .before .before .pre in
     record {
       same-times = refl;
-      same-spare = refl;
+      same-slack = refl;
       same-counts = refl;
       behind = record { long = pre .working .queue-long; front = λ i l. refl };
       short = rw (pre .its-time) (short-start _ _ _ _ _ (pre .working .opened .setting) _ _ _ (pre .working .days _ (pre .at-head .small)));
@@ -33,7 +32,7 @@ returns c =
 entry-requires : tie.Need-entry-requires
 entry-requires c κs =
     let pre = c .before .before .before .before .before .before .before .before .before .before .pre in
-    omega (arith, pre .working .opened .shelves .long, pre .at-head .small)
+    omega (arith, pre .working .opened .pruned .long, pre .at-head .small)
 
 -- src/settle.rt:90:8
 add-if2 : tie.Need-add-if2
@@ -41,7 +40,7 @@ add-if2 c =
     let pre = c .before .before .before .before .before .before .before .before .before .before .before .before .pre in
     let w = pre .working in
     let h = pre .at-head in
-    omega (arith, h .reading .to, w .opened .shelves .shelf _ (h .small) .to, w .opened .sound .most)
+    omega (arith, h .reading .to, w .opened .pruned .pruned-list _ (h .small) .to, w .opened .sound .most)
 
 -- src/settle.rt:90:27
 add-if2-2 : tie.Need-add-if2-2
@@ -49,7 +48,7 @@ add-if2-2 c =
     let pre = c .before .before .before .before .before .before .before .before .before .before .before .before .before .pre in
     let w = pre .working in
     let h = pre .at-head in
-    omega (arith, c .before .before .entry .ensures, w .within, w .opened .shelves .shelf _ (h .small) .to, w .opened .sound .most)
+    omega (arith, c .before .before .entry .ensures, w .within, w .opened .pruned .pruned-list _ (h .small) .to, w .opened .sound .most)
 
 -- src/settle.rt:91:9
 returns-2 : tie.Need-returns-2
@@ -57,7 +56,7 @@ returns-2 c =
     let pre = c .before .before .before .before .before .before .before .before .before .before .before .before .before .before .pre in
     record {
       same-times = refl;
-      same-spare = refl;
+      same-slack = refl;
       same-counts = refl;
       behind = record { long = pre .working .queue-long; front = λ i l. refl };
       short = rw (pre .its-time) (short-start _ _ _ _ _ (pre .working .opened .setting) _ _ _ (pre .working .days _ (pre .at-head .small)));
@@ -65,8 +64,8 @@ returns-2 c =
     }
 
 -- src/settle.rt:96:9
-gather-requires : tie.Need-gather-requires
-gather-requires c κs =
+scan-for-rise-requires : tie.Need-scan-for-rise-requires
+scan-for-rise-requires c κs =
     let if2 = c .before .before .if2 in
     let entry = c .before .before .before .before .before .entry in
     let if1 = c .before .before .before .before .before .before .if1 in
@@ -91,28 +90,28 @@ gather-requires c κs =
     )
 
 -- src/settle.rt:108:20
-add-spare : tie.Need-add-spare
-add-spare c =
-    let gather = c .before .before .before .before .before .before .gather in
-    omega (arith, gather .ensures .found .few)
+add-slack : tie.Need-add-slack
+add-slack c =
+    let scan-for-rise = c .before .before .before .before .before .before .scan-for-rise in
+    omega (arith, scan-for-rise .ensures .found .few)
 
 -- src/settle.rt:108:20
-sub-spare : tie.Need-sub-spare
-sub-spare c =
+sub-slack : tie.Need-sub-slack
+sub-slack c =
     let if3 = c .before .before .if3 in
     omega (arith, if3 .taken)
 
 -- src/settle.rt:108:9
-mul-spare : tie.Need-mul-spare
-mul-spare c =
+mul-slack : tie.Need-mul-slack
+mul-slack c =
     let pre = c .before .before .before .before .before .before .before .before .before .before .before .before .before .before .before .before .before .before .before .before .before .before .before .before .pre in
     omega (arith, pre .at-head .small)
 
 -- src/settle.rt:108:9
-slice-write-spare : tie.Need-slice-write-spare
-slice-write-spare c =
+slice-write-slack : tie.Need-slice-write-slack
+slice-write-slack c =
     let pre = c .before .before .before .before .before .before .before .before .before .before .before .before .before .before .before .before .before .before .before .before .before .before .before .before .pre in
-    omega (arith, pre .at-head .small, pre .working .spare-long)
+    omega (arith, pre .at-head .small, pre .working .slack-long)
 
 -- src/settle.rt:110:19
 add-t28 : tie.Need-add-t28
@@ -124,8 +123,8 @@ add-t28 c =
 add-t30 : tie.Need-add-t30
 add-t30 c =
     let pre = c .before .before .before .before .before .before .before .before .before .before .before .before .before .before .before .before .before .before .before .before .before .before .before .before .before .before .before .pre in
-    let gather = c .before .before .before .before .before .before .before .before .before .before .gather in
-    omega (arith, pre .working .few, gather .ensures .found .short-walk)
+    let scan-for-rise = c .before .before .before .before .before .before .before .before .before .before .scan-for-rise in
+    omega (arith, pre .working .few, scan-for-rise .ensures .found .short-walk)
 
 -- src/settle.rt:109:9
 same-length : tie.Need-same-length
@@ -143,7 +142,7 @@ same-length-3 c = search needs
 returns-3 : tie.Need-returns-3
 returns-3 c =
     let if3 = c .before .before .before .before .before .if3 in
-    let gather = c .before .before .before .before .before .before .before .before .before .before .gather in
+    let scan-for-rise = c .before .before .before .before .before .before .before .before .before .before .scan-for-rise in
     let if1 = c .before .before .before .before .before .before .before .before .before .before .before .before .before .before .before .before .before .if1 in
     let args = c .before .before .before .before .before .before .before .before .before .before .before .before .before .before .before .before .before .before .before .before .before .before .before .before .before .before .before .args in
     let pre = c .before .before .before .before .before .before .before .before .before .before .before .before .before .before .before .before .before .before .before .before .before .before .before .before .before .before .before .pre in
@@ -152,32 +151,32 @@ returns-3 c =
     record {
       next = refl;
       within = w .within;
-      walked = omega (arith, gather .ensures .found .short-walk);
+      walked = omega (arith, scan-for-rise .ensures .found .short-walk);
       rising = λ xs Z. near-same _ _ _ _ _ _ _ (w .opened .setting) (args .times .now) (w .times-long) (w .days) (h .small)
-          (λ e. if1 .left (pre .its-time ∙ e)) (rw (pre .its-time) at (gather .ensures .found .seen)) (if3 .taken)
-          (gather .ensures .behind) Z (h .is-head) (w .waits) (w .within);
+          (λ e. if1 .left (pre .its-time ∙ e)) (rw (pre .its-time) at (scan-for-rise .ensures .found .scanned)) (if3 .taken)
+          (scan-for-rise .ensures .behind) Z (h .is-head) (w .waits) (w .within);
       nevers = λ v e. e;
       counted = record { counted = λ y. w .counted y .counts-are; same = λ y. refl };
     }
 
 -- src/settle.rt:117:33
-add-spare-above : tie.Need-add-spare-above
-add-spare-above c =
-    let gather = c .before .before .before .before .before .before .gather in
-    omega (arith, gather .ensures .found .few)
+add-slack-above : tie.Need-add-slack-above
+add-slack-above c =
+    let scan-for-rise = c .before .before .before .before .before .before .scan-for-rise in
+    omega (arith, scan-for-rise .ensures .found .few)
 
 -- src/settle.rt:117:9
-spare-above-requires : tie.Need-spare-above-requires
-spare-above-requires c κs =
-    let gather = c .before .before .before .before .before .before .gather in
-    gather .ensures .found .few
+slack-above-requires : tie.Need-slack-above-requires
+slack-above-requires c κs =
+    let scan-for-rise = c .before .before .before .before .before .before .scan-for-rise in
+    scan-for-rise .ensures .found .few
 
 -- src/settle.rt:120:21
 add-t33 : tie.Need-add-t33
 add-t33 c =
     let pre = c .before .before .before .before .before .before .before .before .before .before .before .before .before .before .before .before .before .before .before .before .before .before .before .before .before .before .before .pre in
-    let gather = c .before .before .before .before .before .before .before .before .before .before .gather in
-    omega (arith, pre .working .few, gather .ensures .found .short-walk)
+    let scan-for-rise = c .before .before .before .before .before .before .before .before .before .before .scan-for-rise in
+    omega (arith, pre .working .few, scan-for-rise .ensures .found .short-walk)
 
 -- src/settle.rt:119:9
 same-length-4 : tie.Need-same-length-4
@@ -191,7 +190,7 @@ same-length-5 c = search needs
 returns-4 : tie.Need-returns-4
 returns-4 c =
     let if3 = c .before .before .before .before .before .if3 in
-    let gather = c .before .before .before .before .before .before .before .before .before .before .gather in
+    let scan-for-rise = c .before .before .before .before .before .before .before .before .before .before .scan-for-rise in
     let if1 = c .before .before .before .before .before .before .before .before .before .before .before .before .before .before .before .before .before .if1 in
     let args = c .before .before .before .before .before .before .before .before .before .before .before .before .before .before .before .before .before .before .before .before .before .before .before .before .before .before .before .args in
     let pre = c .before .before .before .before .before .before .before .before .before .before .before .before .before .before .before .before .before .before .before .before .before .before .before .before .before .before .before .pre in
@@ -199,25 +198,25 @@ returns-4 c =
     let h = pre .at-head in
     record {
       same-times = refl;
-      same-spare = refl;
+      same-slack = refl;
       same-counts = refl;
-      behind = gather .ensures .behind;
+      behind = scan-for-rise .ensures .behind;
       short = near-short _ _ _ _ _ _ _ (w .opened .setting) (args .times .now) (w .times-long) (w .days) (h .small)
-          (λ e. if1 .left (pre .its-time ∙ e)) (rw (pre .its-time) at (gather .ensures .found .seen)) (if3 .left);
-      few = omega (arith, gather .ensures .found .short-walk);
+          (λ e. if1 .left (pre .its-time ∙ e)) (rw (pre .its-time) at (scan-for-rise .ensures .found .scanned)) (if3 .left);
+      few = omega (arith, scan-for-rise .ensures .found .short-walk);
     }
 
 -- src/settle.rt:124:5
-mul-spare-2 : tie.Need-mul-spare-2
-mul-spare-2 c =
+mul-slack-2 : tie.Need-mul-slack-2
+mul-slack-2 c =
     let pre = c .before .before .before .before .before .before .before .before .before .before .before .before .before .before .before .before .before .before .before .before .before .before .before .before .before .pre in
     omega (arith, pre .at-head .small)
 
 -- src/settle.rt:124:5
-slice-write-spare-2 : tie.Need-slice-write-spare-2
-slice-write-spare-2 c =
+slice-write-slack-2 : tie.Need-slice-write-slack-2
+slice-write-slack-2 c =
     let pre = c .before .before .before .before .before .before .before .before .before .before .before .before .before .before .before .before .before .before .before .before .before .before .before .before .before .pre in
-    omega (arith, pre .at-head .small, pre .working .spare-long)
+    omega (arith, pre .at-head .small, pre .working .slack-long)
 
 -- src/settle.rt:125:5
 mul-times : tie.Need-mul-times
@@ -234,55 +233,55 @@ slice-write-times c =
 -- src/settle.rt:126:5
 put-requires : tie.Need-put-requires
 put-requires c κs =
-    let gather = c .before .before .before .before .before .before .before .before .before .gather in
+    let scan-for-rise = c .before .before .before .before .before .before .before .before .before .scan-for-rise in
     let pre = c .before .before .before .before .before .before .before .before .before .before .before .before .before .before .before .before .before .before .before .before .before .before .before .before .before .before .pre in
     let w = pre .working in
     record {
-      place = omega (arith, (gather .ensures .behind) .long, w .waits, w .within, w .behind);
+      place = omega (arith, (scan-for-rise .ensures .behind) .long, w .waits, w .within, w .behind);
       number = omega (arith, pre .at-head .small);
     }
 
 -- src/settle.rt:127:9
-lose-listed-requires : tie.Need-lose-listed-requires
-lose-listed-requires c κs =
+drop-listed-supporters-requires : tie.Need-drop-listed-supporters-requires
+drop-listed-supporters-requires c κs =
     let put = c .before .before .before .before .put in
     let if4 = c .before .before .before .before .before .before .if4 in
-    let spare-above = c .before .before .before .before .before .before .before .spare-above in
+    let slack-above = c .before .before .before .before .before .before .before .slack-above in
     let if3 = c .before .before .before .before .before .before .before .before .before .if3 in
-    let gather = c .before .before .before .before .before .before .before .before .before .before .before .before .before .before .gather in
+    let scan-for-rise = c .before .before .before .before .before .before .before .before .before .before .before .before .before .before .scan-for-rise in
     let if1 = c .before .before .before .before .before .before .before .before .before .before .before .before .before .before .before .before .before .before .before .before .before .if1 in
     let args = c .before .before .before .before .before .before .before .before .before .before .before .before .before .before .before .before .before .before .before .before .before .before .before .before .before .before .before .before .before .before .before .args in
     let pre = c .before .before .before .before .before .before .before .before .before .before .before .before .before .before .before .before .before .before .before .before .before .before .before .before .before .before .before .before .before .before .before .pre in
     let w = pre .working in
     let h = pre .at-head in
-    let seen = rw (pre .its-time) at (gather .ensures .found .seen) in
-    let gathered = rw (pre .its-time) at (gather .ensures .gathered (if3 .left)) in
+    let outcome = rw (pre .its-time) at (scan-for-rise .ensures .found .scanned) in
+    let rise-scanned = rw (pre .its-time) at (scan-for-rise .ensures .rise-scanned (if3 .left)) in
     record {
-      spare-long = length-set (args .spare .now) (args .scan .account) (spare-above .result) ∙ w .spare-long;
-      queue-long = put .kept .0 ∙ (gather .ensures .behind) .long;
-      order = gathered .grows;
-      within = gather .ensures .within;
+      slack-long = length-set (args .slack .now) (args .scan .account) (slack-above .result) ∙ w .slack-long;
+      queue-long = put .kept .0 ∙ (scan-for-rise .ensures .behind) .long;
+      order = rise-scanned .grows;
+      within = scan-for-rise .ensures .within;
       small = near-small _ _ _ _ _ _ _ (w .opened .setting) (args .times .now) (w .times-long) (w .days) (h .small)
-          (λ e. if1 .left (pre .its-time ∙ e)) seen (if3 .left) refl (spare-above .ensures) (if4 .left) gathered (put .ensures)
+          (λ e. if1 .left (pre .its-time ∙ e)) outcome (if3 .left) refl (slack-above .ensures) (if4 .left) rise-scanned (put .ensures)
           (omega (arith, w .waits, w .behind));
     }
 
 -- src/settle.rt:128:5
-move-counts-requires : tie.Need-move-counts-requires
-move-counts-requires c κs =
+move-in-histogram-requires : tie.Need-move-in-histogram-requires
+move-in-histogram-requires c κs =
     let if4 = c .before .before .before .before .before .before .before .before .before .before .before .before .if4 in
-    let spare-above = c .before .before .before .before .before .before .before .before .before .before .before .before .before .spare-above in
+    let slack-above = c .before .before .before .before .before .before .before .before .before .before .before .before .before .slack-above in
     let if3 = c .before .before .before .before .before .before .before .before .before .before .before .before .before .before .before .if3 in
-    let gather = c .before .before .before .before .before .before .before .before .before .before .before .before .before .before .before .before .before .before .before .before .gather in
+    let scan-for-rise = c .before .before .before .before .before .before .before .before .before .before .before .before .before .before .before .before .before .before .before .before .scan-for-rise in
     let if1 = c .before .before .before .before .before .before .before .before .before .before .before .before .before .before .before .before .before .before .before .before .before .before .before .before .before .before .before .if1 in
     let args = c .before .before .before .before .before .before .before .before .before .before .before .before .before .before .before .before .before .before .before .before .before .before .before .before .before .before .before .before .before .before .before .before .before .before .before .before .before .args in
     let pre = c .before .before .before .before .before .before .before .before .before .before .before .before .before .before .before .before .before .before .before .before .before .before .before .before .before .before .before .before .before .before .before .before .before .before .before .before .before .pre in
     let w = pre .working in
     let h = pre .at-head in
-    let seen = rw (pre .its-time) at (gather .ensures .found .seen) in
-    let gathered = rw (pre .its-time) at (gather .ensures .gathered (if3 .left)) in
+    let outcome = rw (pre .its-time) at (scan-for-rise .ensures .found .scanned) in
+    let rise-scanned = rw (pre .its-time) at (scan-for-rise .ensures .rise-scanned (if3 .left)) in
     rw (pre .its-time) (λ y. near-asks _ _ _ _ _ _ _ (w .opened .setting) (args .times .now) (w .times-long) (w .days) (h .small)
-    (λ e. if1 .left (pre .its-time ∙ e)) seen (if3 .left) refl (spare-above .ensures) (if4 .left) gathered
+    (λ e. if1 .left (pre .its-time ∙ e)) outcome (if3 .left) refl (slack-above .ensures) (if4 .left) rise-scanned
     (w .opened .sound .most) (w .counted y .in-days) (w .counted y .counts-are))
 
 -- src/settle.rt:130:15
@@ -301,8 +300,8 @@ add-t21 c =
 add-t45 : tie.Need-add-t45
 add-t45 c =
     let pre = c .before .before .before .before .before .before .before .before .before .before .before .before .before .before .before .before .before .before .before .before .before .before .before .before .before .before .before .before .before .before .before .before .before .before .before .before .before .before .before .before .before .before .before .before .pre in
-    let gather = c .before .before .before .before .before .before .before .before .before .before .before .before .before .before .before .before .before .before .before .before .before .before .before .before .before .before .before .gather in
-    omega (arith, pre .working .few, gather .ensures .found .short-walk)
+    let scan-for-rise = c .before .before .before .before .before .before .before .before .before .before .before .before .before .before .before .before .before .before .before .before .before .before .before .before .before .before .before .scan-for-rise in
+    omega (arith, pre .working .few, scan-for-rise .ensures .found .short-walk)
 
 -- src/settle.rt:59:1
 same-length-6 : tie.Need-same-length-6
@@ -311,19 +310,19 @@ same-length-6 c = search needs
 -- src/settle.rt:59:1
 same-length-7 : tie.Need-same-length-7
 same-length-7 c =
-    let lose-listed = c .before .before .before .before .before .before .before .before .before .before .before .before .lose-listed in
-    let spare-above = c .before .before .before .before .before .before .before .before .before .before .before .before .before .before .before .before .before .before .before .before .spare-above in
+    let drop-listed-supporters = c .before .before .before .before .before .before .before .before .before .before .before .before .drop-listed-supporters in
+    let slack-above = c .before .before .before .before .before .before .before .before .before .before .before .before .before .before .before .before .before .before .before .before .slack-above in
     let args = c .before .before .before .before .before .before .before .before .before .before .before .before .before .before .before .before .before .before .before .before .before .before .before .before .before .before .before .before .before .before .before .before .before .before .before .before .before .before .before .before .before .before .before .before .args in
-    lose-listed .kept .0 ∙ length-set (args .spare .now) (args .scan .account) (spare-above .result)
+    drop-listed-supporters .kept .0 ∙ length-set (args .slack .now) (args .scan .account) (slack-above .result)
 
 -- src/settle.rt:59:1
 same-length-8 : tie.Need-same-length-8
 same-length-8 c =
-    let lose-listed = c .before .before .before .before .before .before .before .before .before .before .before .before .lose-listed in
+    let drop-listed-supporters = c .before .before .before .before .before .before .before .before .before .before .before .before .drop-listed-supporters in
     let put = c .before .before .before .before .before .before .before .before .before .before .before .before .before .before .before .before .before .put in
-    let gather = c .before .before .before .before .before .before .before .before .before .before .before .before .before .before .before .before .before .before .before .before .before .before .before .before .before .before .before .gather in
+    let scan-for-rise = c .before .before .before .before .before .before .before .before .before .before .before .before .before .before .before .before .before .before .before .before .before .before .before .before .before .before .before .scan-for-rise in
     let pre = c .before .before .before .before .before .before .before .before .before .before .before .before .before .before .before .before .before .before .before .before .before .before .before .before .before .before .before .before .before .before .before .before .before .before .before .before .before .before .before .before .before .before .before .before .pre in
-    lose-listed .kept .1 .0 ∙ (put .kept .0 ∙ (gather .ensures .behind .long ∙ sym (pre .working .queue-long)))
+    drop-listed-supporters .kept .1 .0 ∙ (put .kept .0 ∙ (scan-for-rise .ensures .behind .long ∙ sym (pre .working .queue-long)))
 
 -- src/settle.rt:59:1
 same-length-9 : tie.Need-same-length-9
@@ -332,35 +331,35 @@ same-length-9 c = search needs
 -- src/settle.rt:59:1
 returns-5 : tie.Need-returns-5
 returns-5 c =
-    let move-counts = c .before .before .before .before .before .before .move-counts in
-    let lose-listed = c .before .before .before .before .before .before .before .before .before .before .before .before .lose-listed in
+    let move-in-histogram = c .before .before .before .before .before .before .move-in-histogram in
+    let drop-listed-supporters = c .before .before .before .before .before .before .before .before .before .before .before .before .drop-listed-supporters in
     let put = c .before .before .before .before .before .before .before .before .before .before .before .before .before .before .before .before .before .put in
     let if4 = c .before .before .before .before .before .before .before .before .before .before .before .before .before .before .before .before .before .before .before .if4 in
-    let spare-above = c .before .before .before .before .before .before .before .before .before .before .before .before .before .before .before .before .before .before .before .before .spare-above in
+    let slack-above = c .before .before .before .before .before .before .before .before .before .before .before .before .before .before .before .before .before .before .before .before .slack-above in
     let if3 = c .before .before .before .before .before .before .before .before .before .before .before .before .before .before .before .before .before .before .before .before .before .before .if3 in
-    let gather = c .before .before .before .before .before .before .before .before .before .before .before .before .before .before .before .before .before .before .before .before .before .before .before .before .before .before .before .gather in
+    let scan-for-rise = c .before .before .before .before .before .before .before .before .before .before .before .before .before .before .before .before .before .before .before .before .before .before .before .before .before .before .before .scan-for-rise in
     let if1 = c .before .before .before .before .before .before .before .before .before .before .before .before .before .before .before .before .before .before .before .before .before .before .before .before .before .before .before .before .before .before .before .before .before .before .if1 in
     let args = c .before .before .before .before .before .before .before .before .before .before .before .before .before .before .before .before .before .before .before .before .before .before .before .before .before .before .before .before .before .before .before .before .before .before .before .before .before .before .before .before .before .before .before .before .args in
     let pre = c .before .before .before .before .before .before .before .before .before .before .before .before .before .before .before .before .before .before .before .before .before .before .before .before .before .before .before .before .before .before .before .before .before .before .before .before .before .before .before .before .before .before .before .before .pre in
     let w = pre .working in
     let h = pre .at-head in
-    let seen = rw (pre .its-time) at (gather .ensures .found .seen) in
-    let gathered = rw (pre .its-time) at (gather .ensures .gathered (if3 .left)) in
+    let outcome = rw (pre .its-time) at (scan-for-rise .ensures .found .scanned) in
+    let rise-scanned = rw (pre .its-time) at (scan-for-rise .ensures .rise-scanned (if3 .left)) in
     record {
       next = refl;
-      within = lose-listed .ensures .within;
-      walked = omega (arith, gather .ensures .found .short-walk);
+      within = drop-listed-supporters .ensures .within;
+      walked = omega (arith, scan-for-rise .ensures .found .short-walk);
       rising = λ xs Z. near-rise _ _ _ _ _ _ _ (w .opened .setting) (args .times .now) (w .times-long) (w .days) (h .small)
-          (λ e. if1 .left (pre .its-time ∙ e)) seen (if3 .left) refl (spare-above .ensures) (if4 .left) gathered
-          (gather .ensures .behind) Z (h .is-head) (w .waits) (w .within) (put .ensures) (lose-listed .ensures .queued)
-          (lose-listed .ensures .fewer) (lose-listed .ensures .within);
+          (λ e. if1 .left (pre .its-time ∙ e)) outcome (if3 .left) refl (slack-above .ensures) (if4 .left) rise-scanned
+          (scan-for-rise .ensures .behind) Z (h .is-head) (w .waits) (w .within) (put .ensures) (drop-listed-supporters .ensures .queued)
+          (drop-listed-supporters .ensures .fewer) (drop-listed-supporters .ensures .within);
       nevers = near-never _ _ _ _ _ _ _ (w .opened .setting) (args .times .now) (w .times-long) (w .days) (h .small)
-          (λ e. if1 .left (pre .its-time ∙ e)) seen (if3 .left) refl (spare-above .ensures) (if4 .left) gathered;
+          (λ e. if1 .left (pre .its-time ∙ e)) outcome (if3 .left) refl (slack-above .ensures) (if4 .left) rise-scanned;
       counted = record {
         counted = λ y. near-counts _ _ _ _ _ _ _ (w .opened .setting) (args .times .now) (w .times-long) (w .days) (h .small)
-            (λ e. if1 .left (pre .its-time ∙ e)) seen (if3 .left) refl (spare-above .ensures) (if4 .left) gathered (w .counted y .counts-are)
-            (rw (pre .its-time) at (move-counts .ensures .counted y));
-        same = move-counts .ensures .same;
+            (λ e. if1 .left (pre .its-time ∙ e)) outcome (if3 .left) refl (slack-above .ensures) (if4 .left) rise-scanned (w .counted y .counts-are)
+            (rw (pre .its-time) at (move-in-histogram .ensures .counted y));
+        same = move-in-histogram .ensures .same;
       };
     }
 
@@ -373,30 +372,30 @@ settle-near-spec =
     add-if2
     add-if2-2
     returns-2
-    gather-requires
-    add-spare
-    sub-spare
-    mul-spare
-    slice-write-spare
+    scan-for-rise-requires
+    add-slack
+    sub-slack
+    mul-slack
+    slice-write-slack
     add-t28
     add-t30
     same-length
     same-length-2
     same-length-3
     returns-3
-    add-spare-above
-    spare-above-requires
+    add-slack-above
+    slack-above-requires
     add-t33
     same-length-4
     same-length-5
     returns-4
-    mul-spare-2
-    slice-write-spare-2
+    mul-slack-2
+    slice-write-slack-2
     mul-times
     slice-write-times
     put-requires
-    lose-listed-requires
-    move-counts-requires
+    drop-listed-supporters-requires
+    move-in-histogram-requires
     add-t20
     add-t21
     add-t45

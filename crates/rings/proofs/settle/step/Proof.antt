@@ -1,25 +1,25 @@
 use mathlib.Core.Path.{refl}
 use native.Mathlib.Omega.{arith}
-use Rattle.rings.proofs.SettleLaws.{core-days, split-rises, settle-start}
-use Rattle.rings.proofs.DayLaws.{placed-of, shelves-paired, span-after}
+use Rattle.rings.proofs.SettleStartLaws.{core-days, split-rises, settle-start}
+use Rattle.rings.proofs.DayLaws.{ready-pairs-of, pruned-paired, span-after}
 use borrow.Author.Needs.{needs}
 use Rattle.rings.proofs.settle.step.Statement.{statement}
 use Rattle.rings.proofs.settle.step.Tie as tie
 use Rattle.rings.proofs.settle.step.Reads as reads
 use Rattle.rings.proofs.settle.step.Lts as lts
-use Rattle.rings.proofs.settle.leave_rows.Reads as leave-rows-reads
+use Rattle.rings.proofs.settle.drop_leaving_rows.Reads as drop-leaving-rows-reads
 use Rattle.rings.proofs.settle.settle.Reads as settle-reads
 
 -- src/settle.rt:490:9
-leave-rows-requires : tie.Need-leave-rows-requires
-leave-rows-requires c κs =
+drop-leaving-rows-requires : tie.Need-drop-leaving-rows-requires
+drop-leaving-rows-requires c κs =
     let pre = c .before .before .before .before .before .before .before .before .before .before .before .pre in
-    let placed = placed-of (pre .opened .sound) (shelves-paired (pre .opened .shelves)) (pre .opened .setting .some-k) (pre .in-days) (pre .starts) in (
+    let placed = ready-pairs-of (pre .opened .sound) (pruned-paired (pre .opened .pruned)) (pre .opened .setting .some-k) (pre .in-days) (pre .starts) in (
       record {
         placed = placed;
         times-long = pre .times-are .long;
         days = core-days _ _ _ _ _ _ _ (placed .setting) (pre .times-are);
-        spare-long = pre .spares .long;
+        slack-long = pre .slacks .long;
         queue-long = pre .queue-long;
       },
       record { order = split-rises (pre .starts) (pre .follows); within = pre .follows .within },
@@ -59,9 +59,9 @@ add-t25 c = let pre = c .before .before .before .before .before .before .before 
 settle-requires : tie.Need-settle-requires
 settle-requires c κs =
     let if1 = c .before .before .before .before .before .before .if1 in
-    let leave-rows = c .before .before .before .before .before .before .before .before .before .before .before .leave-rows in
+    let drop-leaving-rows = c .before .before .before .before .before .before .before .before .before .before .before .drop-leaving-rows in
     let pre = c .before .before .before .before .before .before .before .before .before .before .before .before .before .before .before .before .before .before .before .before .before .before .before .pre in
-    let placed = placed-of (pre .opened .sound) (shelves-paired (pre .opened .shelves)) (pre .opened .setting .some-k) (pre .in-days)
+    let placed = ready-pairs-of (pre .opened .sound) (pruned-paired (pre .opened .pruned)) (pre .opened .setting .some-k) (pre .in-days)
     (pre .starts) in
     record {
       opened = pre .opened;
@@ -69,8 +69,8 @@ settle-requires c κs =
       bounded = omega (arith, pre .ends .within, pre .opened .sound .most);
       within = if1 .left;
       rising = settle-start _ _ _ _ _ _ _ (placed .setting) (pre .opened .setting) (split-rises (pre .starts) (pre .follows))
-          (pre .follows .within) (pre .times-are) (pre .spares) (leave-rows .ensures .leaving (if1 .left))
-          (leave-rows .ensures .queued (if1 .left)) (if1 .left);
+          (pre .follows .within) (pre .times-are) (pre .slacks) (drop-leaving-rows .ensures .leaving (if1 .left))
+          (drop-leaving-rows .ensures .queued (if1 .left)) (if1 .left);
       counted = λ y. record { in-days = pre .in-days; counts-are = pre .counted y };
     }
 
@@ -100,6 +100,6 @@ pub step-spec : {M : Type 1} → statement M
 step-spec =
     tie.close
     (
-    tie.spec leave-rows-requires same-length same-length-2 same-length-3 returns sub-budget mul-budget add-t25
+    tie.spec drop-leaving-rows-requires same-length same-length-2 same-length-3 returns sub-budget mul-budget add-t25
     settle-requires same-length-4 same-length-5 same-length-6 same-length-7 returns-2
     )

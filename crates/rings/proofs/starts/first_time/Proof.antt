@@ -4,7 +4,7 @@ use Rattle.rings.specs.Table.{tableOf}
 use Rattle.rings.specs.CoreTimes.{rowTime}
 use Rattle.rings.specs.Ring.{query}
 use Rattle.rings.proofs.DayLaws.{span-of}
-use Rattle.rings.proofs.SettleLaws.{split-rises}
+use Rattle.rings.proofs.SettleStartLaws.{split-rises}
 use Rattle.rings.proofs.StartsLaws.{Least, least-start, least-next, least-end}
 use borrow.Author.Needs.{needs}
 use Rattle.rings.proofs.starts.first_time.Statement.{statement}

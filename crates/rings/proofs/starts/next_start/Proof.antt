@@ -1,18 +1,18 @@
 use native.Mathlib.Omega.{arith}
 use native.Mathlib.Nat.{le-refl}
 use mathlib.Core.Path.{_∙_, refl}
-use Rattle.rings.proofs.DayLaws.{open-of, open-framed, shelves-paired, span-of}
-use Rattle.rings.proofs.SettleLaws.{split-rises, core-never}
-use Rattle.rings.proofs.ShelfLaws.{covered-rise}
+use Rattle.rings.proofs.DayLaws.{ready-pruned-of, ready-pruned-framed, pruned-paired, span-of}
+use Rattle.rings.proofs.SettleStartLaws.{split-rises, core-never}
+use Rattle.rings.proofs.PrunedLaws.{covered-rise}
 use borrow.Author.Needs.{needs}
 use Rattle.rings.proofs.starts.next_start.Statement.{statement}
 use Rattle.rings.proofs.starts.next_start.Tie as tie
 use Rattle.rings.proofs.starts.next_start.Reads as reads
 use Rattle.rings.proofs.starts.next_start.Lts as lts
-use Rattle.rings.proofs.counts.drop_rows.Reads as drop-rows-reads
+use Rattle.rings.proofs.histogram.drop_rows.Reads as drop-rows-reads
 use Rattle.rings.proofs.frame.next_frame.Reads as next-frame-reads
 use Rattle.rings.proofs.settle.step.Reads as step-reads
-use Rattle.rings.proofs.shelf.pass_heads.Reads as pass-heads-reads
+use Rattle.rings.proofs.heads.pass_heads.Reads as pass-heads-reads
 use Rattle.rings.proofs.starts.first_start.Reads as first-start-reads
 
 -- src/starts.rt:95:5
@@ -22,7 +22,7 @@ drop-rows-requires c κs =
     let here = pre .0 .inside in (
       record {
         known = record {
-          framed = open-framed (here .opened);
+          framed = ready-pruned-framed (here .opened);
           span = span-of (pre .1 .0 .0) (pre .1 .0 .2) (pre .1 .0 .4);
           times-are = here .times-are;
         };
@@ -38,7 +38,7 @@ pass-heads-requires c κs =
     let here = pre .0 .inside in
     record {
       sound = here .opened .sound;
-      shelves = here .opened .shelves;
+      pruned = here .opened .pruned;
       ordered = split-rises (pre .1 .0 .2) (pre .1 .0 .3);
       within = pre .1 .0 .3 .within;
     }
@@ -51,14 +51,14 @@ step-requires c κs =
     let pre = c .before .before .before .before .before .before .before .before .before .before .before .before .before .before .before .before .before .before .before .before .before .before .pre in
     let here = pre .0 .inside in
     record {
-      opened = open-of (here .opened .sound) (pass-heads .ensures .shelves) (here .opened .setting .some-k) (pre .1 .0 .1) (pre .1 .0 .3);
+      opened = ready-pruned-of (here .opened .sound) (pass-heads .ensures .pruned) (here .opened .setting .some-k) (pre .1 .0 .1) (pre .1 .0 .3);
       ordered = pre .1 .0 .0;
       in-days = pre .1 .0 .1;
       starts = pre .1 .0 .2;
       follows = pre .1 .0 .3;
       ends = pre .1 .0 .4;
       times-are = here .times-are;
-      spares = here .spares;
+      slacks = here .slacks;
       queue-long = pre .1 .1;
       covered = pass-heads .ensures .covered _ (here .covered);
       counted = λ y. drop-rows .ensures;
@@ -89,12 +89,12 @@ first-start-requires c κs =
     rw (next .ensures) (
       here .opened .sound,
       (
-        record { inside = shelves-paired (pass-heads .ensures .shelves) },
+        record { inside = pruned-paired (pass-heads .ensures .pruned) },
         (
           (here .opened .setting .some-k, omega (arith, pre .1 .0 .0), pre .1 .0 .1, pre .1 .0 .3, pre .1 .0 .4),
           (
             step .kept .1 .1 .1 .1 .1 .1 .1 .0 ∙ here .times-are .long,
-            step .kept .1 .1 .1 .1 .1 .1 .1 .1 .0 ∙ here .spares .long,
+            step .kept .1 .1 .1 .1 .1 .1 .1 .1 .0 ∙ here .slacks .long,
             step .kept .1 .1 .1 .1 .1 .1 .1 .1 .1 .0 ∙ pre .1 .1,
             step .kept .1 .1 .1 .1 .1 .1 .1 .1 .1 .1 .1 .0 ∙ (drop-rows .kept .1 .1 .1 .1 .1 .1 .1 .0 ∙ here .timed .long),
           ),
@@ -133,11 +133,11 @@ returns c =
     let done = rw (enum-told .given .1) at (step .ensures) in
     record {
       inside = record {
-        opened = open-of (here .opened .sound) (pass-heads .ensures .shelves) (here .opened .setting .some-k) (pre .1 .0 .1) (pre .1 .0 .3);
+        opened = ready-pruned-of (here .opened .sound) (pass-heads .ensures .pruned) (here .opened .setting .some-k) (pre .1 .0 .1) (pre .1 .0 .3);
         covered = covered-rise (core-never (here .opened .setting .fits) (here .times-are) (done .times-are)) (le-refl _)
             (pass-heads .ensures .covered _ (here .covered));
         times-are = done .times-are;
-        spares = done .spares;
+        slacks = done .slacks;
         timed = done .counted .counted refl;
       };
     }

@@ -3,7 +3,7 @@ use Rattle.rings.proofs.starts.prepare.Statement.{statement}
 use Rattle.rings.proofs.starts.prepare.Tie as tie
 use Rattle.rings.proofs.starts.prepare.Reads as reads
 use Rattle.rings.proofs.starts.prepare.Lts as lts
-use Rattle.rings.proofs.links.pair_rows.Reads as pair-rows-reads
+use Rattle.rings.proofs.pairs.pair_rows.Reads as pair-rows-reads
 
 -- src/starts.rt:30:5
 pair-rows-requires : tie.Need-pair-rows-requires

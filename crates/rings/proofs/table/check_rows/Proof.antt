@@ -2,7 +2,6 @@ use mathlib.Core.Path.{_∙_, sym}
 use Rattle.rings.proofs.TableLaws.{Passed, pass-start, pass-next, pass-refused, pass-end}
 use lib.ListN.{length}
 use Prim.Native.Nat.{_-_}
-use native.Mathlib.Omega.{arith}
 use borrow.Author.Needs.{needs}
 use Rattle.rings.proofs.table.check_rows.Statement.{statement}
 use Rattle.rings.proofs.table.check_rows.Tie as tie

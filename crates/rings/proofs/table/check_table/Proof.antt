@@ -1,7 +1,6 @@
 use Rattle.rings.specs.TableCheck.{tableCheck}
 use Rattle.rings.specs.Checks.{_when_, _then_}
 use Rattle.rings.specs.Words.{_and_, no}
-use mathlib.Core.Path.{_∙_, sym}
 use borrow.Author.Tests.{lt-ltb, le-ltb, eq-eqb, ne-eqb}
 use borrow.Author.Needs.{needs}
 use Rattle.rings.proofs.table.check_table.Statement.{statement}

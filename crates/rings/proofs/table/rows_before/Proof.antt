@@ -1,4 +1,4 @@
-use Rattle.rings.proofs.DayLaws.{Half, half-start, half-up, half-down, half-end}
+use Rattle.rings.proofs.DayLaws.{BinarySearch, binary-start, binary-up, binary-down, binary-end}
 use Prim.Native.Nat.{_-_}
 use native.Mathlib.Omega.{arith}
 use borrow.Author.Needs.{needs}
@@ -8,14 +8,14 @@ use Rattle.rings.proofs.table.rows_before.Reads as reads
 use Rattle.rings.proofs.table.rows_before.Lts as lts
 
 abbrev Inv-loop : tie.InvT-loop
-Inv-loop days day low₀ high₀ low high = Half days day low high
+Inv-loop days day low₀ high₀ low high = BinarySearch days day low high
 
 abbrev μ-loop : tie.MeasureT-loop
 μ-loop days day low₀ high₀ low high = high - low
 
 -- src/table.rt:80:5
 loop-holds : tie.Need-loop-holds Inv-loop μ-loop
-loop-holds c = half-start _ _
+loop-holds c = binary-start _ _
 
 -- src/table.rt:81:29
 sub-middle : tie.Need-sub-middle Inv-loop μ-loop
@@ -52,7 +52,7 @@ loop-again c =
     let loop-test = c .before .before .loop-test in
     let loop = c .before .before .before .loop in
     let pre = c .before .before .before .before .pre in
-    half-up (pre) (loop .inv) (omega (arith, loop-test .taken)) (omega (arith, loop-test .taken)) (c .if1 .taken)
+    binary-up (pre) (loop .inv) (omega (arith, loop-test .taken)) (omega (arith, loop-test .taken)) (c .if1 .taken)
 
 -- src/table.rt:80:5
 loop-less-2 : tie.Need-loop-less-2 Inv-loop μ-loop
@@ -66,13 +66,13 @@ loop-again-2 c =
     let loop-test = c .before .before .loop-test in
     let loop = c .before .before .before .loop in
     let pre = c .before .before .before .before .pre in
-    half-down (pre) (loop .inv) (omega (arith, loop-test .taken)) (omega (arith, loop-test .taken)) (c .if1 .left)
+    binary-down (pre) (loop .inv) (omega (arith, loop-test .taken)) (omega (arith, loop-test .taken)) (c .if1 .left)
 
 -- src/table.rt:74:1
 returns : tie.Need-returns Inv-loop μ-loop
 returns c =
     let loop = c .before .loop in
-    half-end (loop .inv) (c .loop-test .left)
+    binary-end (loop .inv) (c .loop-test .left)
 
 pub rows-before-spec : {M : Type 1} → statement M
 rows-before-spec =

@@ -1,5 +1,5 @@
 use borrow.Author.Needs.{needs}
-use Rattle.rings.proofs.DayLaws.{Scan, scan-on, scan-next, scan-found, scan-end}
+use Rattle.rings.proofs.DayLaws.{LinearSearch, linear-on, linear-next, linear-found, linear-end}
 use Prim.Native.Nat.{_+_, _-_}
 use lib.ListN.{length}
 use native.Mathlib.Omega.{arith}
@@ -9,14 +9,14 @@ use Rattle.rings.proofs.table.rows_through.Reads as reads
 use Rattle.rings.proofs.table.rows_through.Lts as lts
 
 abbrev Inv-loop : tie.InvT-loop
-Inv-loop days s lo r₀ r = Scan days (s + 1) r
+Inv-loop days s lo r₀ r = LinearSearch days (s + 1) r
 
 abbrev μ-loop : tie.MeasureT-loop
 μ-loop days s lo r₀ r = length days - r
 
 -- src/table.rt:95:5
 loop-holds : tie.Need-loop-holds Inv-loop μ-loop
-loop-holds c = scan-on (c .pre .1)
+loop-holds c = linear-on (c .pre .1)
 
 -- src/table.rt:96:16
 mul-if1 : tie.Need-mul-if1 Inv-loop μ-loop
@@ -33,7 +33,7 @@ returns : tie.Need-returns Inv-loop μ-loop
 returns c =
     let loop = c .before .before .before .loop in
     let pre = c .before .before .before .before .pre in
-    scan-found (pre .0) (loop .inv) (omega (arith, c .if1 .taken))
+    linear-found (pre .0) (loop .inv) (omega (arith, c .if1 .taken))
 
 -- src/table.rt:99:9
 add-r : tie.Need-add-r Inv-loop μ-loop
@@ -50,13 +50,13 @@ loop-again : tie.Need-loop-again Inv-loop μ-loop
 loop-again c =
     let loop-test = c .before .before .loop-test in
     let loop = c .before .before .before .loop in
-    scan-next (loop .inv) (loop-test .taken) (omega (arith, c .if1 .left))
+    linear-next (loop .inv) (loop-test .taken) (omega (arith, c .if1 .left))
 
 -- src/table.rt:89:1
 returns-2 : tie.Need-returns-2 Inv-loop μ-loop
 returns-2 c =
     let loop = c .before .loop in
-    scan-end (loop .inv) (c .loop-test .left)
+    linear-end (loop .inv) (c .loop-test .left)
 
 pub rows-through-spec : {M : Type 1} → statement M
 rows-through-spec =

@@ -9,9 +9,9 @@ use Rattle.rings.proofs.times.find_times.Statement.{statement}
 use Rattle.rings.proofs.times.find_times.Tie as tie
 use Rattle.rings.proofs.times.find_times.Reads as reads
 use Rattle.rings.proofs.times.find_times.Lts as lts
-use Rattle.rings.proofs.links.clear.Reads as clear-reads
-use Rattle.rings.proofs.links.link.Reads as link-reads
-use Rattle.rings.proofs.links.move_heads.Reads as move-heads-reads
+use Rattle.rings.proofs.slices.clear.Reads as clear-reads
+use Rattle.rings.proofs.adjacency.prepare_adjacency.Reads as prepare-adjacency-reads
+use Rattle.rings.proofs.heads.move_heads.Reads as move-heads-reads
 use Rattle.rings.proofs.peel.peel.Reads as peel-reads
 use Rattle.rings.proofs.table.rows_before.Reads as rows-before-reads
 use Rattle.rings.proofs.times.time_rows.Reads as time-rows-reads
@@ -29,18 +29,18 @@ rows-before-requires-2 : tie.Need-rows-before-requires-2
 rows-before-requires-2 c κs = search needs
 
 -- src/times.rt:118:5
-link-requires : tie.Need-link-requires
-link-requires c κs = search needs
+prepare-adjacency-requires : tie.Need-prepare-adjacency-requires
+prepare-adjacency-requires c κs = search needs
 
 -- src/times.rt:119:5
 move-heads-requires : tie.Need-move-heads-requires
 move-heads-requires c κs =
-    let link = c .before .before .before .link in
+    let prepare-adjacency = c .before .before .before .prepare-adjacency in
     let rows-before = c .before .before .before .before .before .before .rows-before in
     let pre =
     c .before .before .before .before .before .before .before .before .before .before .before .before
     .before .pre in
-    heads-on (pre .0) (link .ensures) (rows-before .ensures)
+    heads-on (pre .0) (prepare-adjacency .ensures) (rows-before .ensures)
 
 -- src/times.rt:131:9
 slice-aggregate-peel : tie.Need-slice-aggregate-peel
@@ -66,7 +66,7 @@ peel-requires c κs =
     let sound = pre .0 in
     let asked = pre .1 .0 in
     let buffers = pre .1 .1 in (
-      ready-of sound (move-heads .ensures .linked) (asked .some-k) (asked .last-day) (rows-before .ensures),
+      ready-of sound (move-heads .ensures .adjacency) (asked .some-k) (asked .last-day) (rows-before .ensures),
       (
         span-of (asked .ordered) (rows-before .ensures) (rows-before2 .ensures),
         record { times = buffers .accounts; left = refl; queue = omega arith },
@@ -125,21 +125,21 @@ returns c =
     let move-heads =
     c .before .before .before .before .before .before .before .before .before .before .before .before .before
     .before .before .before .before .before .before .before .move-heads in
-    let link =
+    let prepare-adjacency =
     c .before .before .before .before .before .before .before .before .before .before .before .before .before
-    .before .before .before .before .before .before .before .before .before .before .before .link in
+    .before .before .before .before .before .before .before .before .before .before .before .prepare-adjacency in
     record {
       accounts = accounts-are (peel .ensures);
       rows = time-rows .ensures;
       cleared = clear .ensures ∙ ap (λ (m : ℕ). replicate m 0)
-          (move-heads .kept .1 .1 .1 .0 ∙ link .kept .1 .1 .1 .0);
+          (move-heads .kept .1 .1 .1 .0 ∙ prepare-adjacency .kept .1 .1 .1 .0);
     }
 
 pub find-times-spec : {M : Type 1} → statement M
 find-times-spec =
     tie.close
     (
-    tie.spec rows-before-requires add-rows-before rows-before-requires-2 link-requires move-heads-requires
+    tie.spec rows-before-requires add-rows-before rows-before-requires-2 prepare-adjacency-requires move-heads-requires
     slice-aggregate-peel slice-aggregate-peel-2 peel-requires time-rows-requires clear-requires same-length
     same-length-2 same-length-3 returns
     )

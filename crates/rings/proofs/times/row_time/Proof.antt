@@ -5,8 +5,8 @@ use Rattle.rings.proofs.times.row_time.Statement.{statement}
 use Rattle.rings.proofs.times.row_time.Tie as tie
 use Rattle.rings.proofs.times.row_time.Reads as reads
 use Rattle.rings.proofs.times.row_time.Lts as lts
-use Rattle.rings.proofs.links.entry.Reads as entry-reads
-use Rattle.rings.proofs.times.greater.Reads as greater-reads
+use Rattle.rings.proofs.slices.entry.Reads as entry-reads
+use Rattle.rings.proofs.choice.greater.Reads as greater-reads
 
 -- src/times.rt:51:9
 returns : tie.Need-returns

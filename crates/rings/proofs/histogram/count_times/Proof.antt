@@ -1,0 +1,102 @@
+use borrow.Author.Needs.{needs}
+use native.Mathlib.Omega.{arith}
+use Prim.Native.Nat.{_-_, _≤_}
+use mathlib.Core.Path.{sym, _∙_}
+use Rattle.rings.specs.Table.{tableOf}
+use Rattle.rings.specs.CoreTimes.{rowTime}
+use Rattle.rings.specs.Ring.{query}
+use Rattle.rings.specs.Inner.Counting.{Histogram}
+use Rattle.rings.proofs.CountingLaws.{is-time, hist-start, hist-few, hist-next, hist-past}
+use Rattle.rings.proofs.CoreTimeLaws.{row-before}
+use Rattle.rings.proofs.TimeLaws.{row-late}
+use Rattle.rings.proofs.histogram.count_times.Statement.{statement}
+use Rattle.rings.proofs.histogram.count_times.Tie as tie
+use Rattle.rings.proofs.histogram.count_times.Reads as reads
+use Rattle.rings.proofs.histogram.count_times.Lts as lts
+use Rattle.rings.proofs.histogram.add_count.Reads as add-count-reads
+use Rattle.rings.proofs.slices.clear.Reads as clear-reads
+use Rattle.rings.proofs.times.row_time.Reads as row-time-reads
+
+abbrev Inv-loop : tie.InvT-loop
+Inv-loop days first second frame end times counts₀ j₀ counts j = (frame .lo ≤ j) × (j ≤ end) × Histogram (rowTime (tableOf days first second) (frame .query) (frame .stop) (frame .start)) j counts
+
+abbrev μ-loop : tie.MeasureT-loop
+μ-loop days first second frame end times counts₀ j₀ counts j = end - j
+
+-- src/histogram.rt:83:5
+clear-requires : tie.Need-clear-requires Inv-loop μ-loop
+clear-requires c κs = search needs
+
+-- src/histogram.rt:85:5
+loop-holds : tie.Need-loop-holds Inv-loop μ-loop
+loop-holds c =
+    let clear = c .before .before .clear in
+    let pre = c .before .before .before .before .before .before .before .before .before .pre in (
+      omega arith,
+      pre .0 .known .span .ordered,
+      hist-start _ _ _ (pre .1) (clear .ensures) (λ j h. row-before _ _ _ _ j (pre .0 .known .framed .setting .before-lo j h)),
+    )
+
+-- src/histogram.rt:86:13
+row-time-requires : tie.Need-row-time-requires Inv-loop μ-loop
+row-time-requires c κs =
+    let pre = c .before .before .before .before .before .before .before .before .before .before .before .pre in
+    (pre .0 .known, omega (arith, c .loop-test .taken, pre .0 .known .span .within))
+
+-- src/histogram.rt:87:9
+add-count-requires : tie.Need-add-count-requires Inv-loop μ-loop
+add-count-requires c κs =
+    let row-time = c .before .row-time in
+    let loop-test = c .before .before .loop-test in
+    let loop = c .before .before .before .loop in
+    let pre = c .before .before .before .before .before .before .before .before .before .before .before .before .before .pre in
+    hist-few _ (loop .inv .2) (omega (arith, loop-test .taken, pre .0 .known .span .within, pre .0 .known .framed .sound .most))
+    (is-time _ _ _ _ _ (pre .0 .in-days) (row-time .ensures))
+
+-- src/histogram.rt:88:9
+add-j : tie.Need-add-j Inv-loop μ-loop
+add-j c =
+    let loop-test = c .before .before .before .before .before .loop-test in
+    let pre = c .before .before .before .before .before .before .before .before .before .before .before .before .before .before .before .before .pre in
+    omega (arith, loop-test .taken, pre .0 .known .span .within, pre .0 .known .framed .sound .most)
+
+-- src/histogram.rt:85:5
+loop-less : tie.Need-loop-less Inv-loop μ-loop
+loop-less c =
+    let loop-test = c .before .before .before .before .before .loop-test in
+    omega (arith, loop-test .taken)
+
+-- src/histogram.rt:85:5
+loop-again : tie.Need-loop-again Inv-loop μ-loop
+loop-again c =
+    let add-count = c .before .before .add-count in
+    let row-time = c .before .before .before .before .row-time in
+    let loop-test = c .before .before .before .before .before .loop-test in
+    let loop = c .before .before .before .before .before .before .loop in (
+      omega (arith, loop .inv .0),
+      omega (arith, loop-test .taken),
+      hist-next _ (loop .inv .2) (row-time .ensures) (add-count .ensures),
+    )
+
+-- src/histogram.rt:66:1
+same-length : tie.Need-same-length Inv-loop μ-loop
+same-length c =
+    let loop = c .before .loop in
+    let pre = c .before .before .before .before .before .before .before .before .before .before .before .pre in
+    loop .inv .2 .long ∙ sym (pre .1)
+
+-- src/histogram.rt:66:1
+returns : tie.Need-returns Inv-loop μ-loop
+returns c =
+    let loop = c .before .loop in
+    let pre = c .before .before .before .before .before .before .before .before .before .before .before .pre in
+    hist-past _ (loop .inv .2) (omega (arith, loop .inv .1, pre .0 .known .span .within))
+    (λ j a b. sym (row-late _ _ _ _ (pre .0 .known) b (omega (arith, a, c .loop-test .left))))
+
+pub count-times-spec : {M : Type 1} → statement M
+count-times-spec =
+    tie.close
+    (
+    tie.spec Inv-loop μ-loop clear-requires loop-holds row-time-requires add-count-requires add-j loop-less
+    loop-again same-length returns
+    )

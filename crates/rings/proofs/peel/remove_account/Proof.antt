@@ -1,0 +1,242 @@
+-- `peel::remove_account` meets its contract. The loop's invariant: the rows of u before place p have been passed (RemoveAccountLaws).
+-- Assumes nothing.
+use native.Mathlib.Omega.{arith}
+use Prim.Native.Nat.{_-_}
+use Rattle.rings.proofs.RemoveAccountLaws.{RemovingAccount, head-small, head-place, removing-small, removing-start, removing-stands, removing-few, removing-stop, removing-out, removing-room, removing-drop, removing-skip}
+use Rattle.rings.proofs.peel.remove_account.Statement.{statement}
+use Rattle.rings.proofs.peel.remove_account.Tie as tie
+use Rattle.rings.proofs.peel.remove_account.Reads as reads
+use Rattle.rings.proofs.peel.remove_account.Lts as lts
+use Rattle.rings.proofs.incident.row_at.Reads as row-at-reads
+use Rattle.rings.proofs.slices.entry.Reads as entry-reads
+use Rattle.rings.proofs.peel.drop_neighbour.Reads as drop-neighbour-reads
+
+abbrev Inv-loop : tie.InvT-loop
+Inv-loop days first second scratch frame removal times₀ left₀ queue₀ u end p₀ tail₀ times left queue p tail =
+    RemovingAccount days first second scratch frame removal u end p tail times₀ left₀ queue₀ times left queue
+
+abbrev μ-loop : tie.MeasureT-loop
+μ-loop days first second scratch frame removal times₀ left₀ queue₀ u end p₀ tail₀ times left queue p tail =
+    end - p
+
+-- src/peel.rt:90:9
+entry-requires : tie.Need-entry-requires Inv-loop μ-loop
+entry-requires c κs =
+    let pre = c .before .before .before .before .before .before .before .before .pre in
+    head-place _ _ _ _ _ (pre .0) (pre .1)
+
+-- src/peel.rt:91:9
+entry-requires-2 : tie.Need-entry-requires-2 Inv-loop μ-loop
+entry-requires-2 c κs =
+    let pre = c .before .before .before .before .before .before .before .before .before .pre in
+    let entry = c .entry in
+    omega (arith, removing-small _ _ _ _ _ (pre .0) (pre .1) (entry .ensures), pre .0 .adjacency .long)
+
+-- src/peel.rt:92:30
+add-entry : tie.Need-add-entry Inv-loop μ-loop
+add-entry c =
+    let pre = c .before .before .before .before .before .before .before .before .before .before .pre in
+    let entry = c .before .entry in
+    omega (arith, removing-small _ _ _ _ _ (pre .0) (pre .1) (entry .ensures))
+
+-- src/peel.rt:92:9
+entry-requires-3 : tie.Need-entry-requires-3 Inv-loop μ-loop
+entry-requires-3 c κs =
+    let pre = c .before .before .before .before .before .before .before .before .before .before .pre in
+    let entry = c .before .entry in
+    omega (arith, removing-small _ _ _ _ _ (pre .0) (pre .1) (entry .ensures), pre .0 .adjacency .long)
+
+-- src/peel.rt:94:5
+loop-holds : tie.Need-loop-holds Inv-loop μ-loop
+loop-holds c =
+    let pre = c .before .before .before .before .before .before .before .before .before .before .before .pre in
+    let entry = c .before .before .entry in
+    let entry2 = c .before .entry2 in
+    let entry3 = c .entry3 in
+    removing-start _ _ _ _ _ (pre .0) (pre .1) (entry .ensures) (entry2 .ensures) (entry3 .ensures)
+
+-- src/peel.rt:95:13
+row-at-requires : tie.Need-row-at-requires Inv-loop μ-loop
+row-at-requires c κs =
+    let pre =
+    c .before .before .before .before .before .before .before .before .before .before .before .before
+    .before .pre in
+    let loop = c .before .loop in
+    let loop-test = c .loop-test in
+    removing-stands _ _ _ _ _ (pre .0) (loop .inv) (loop-test .taken)
+
+-- src/peel.rt:101:23
+add-t21 : tie.Need-add-t21 Inv-loop μ-loop
+add-t21 c =
+    let pre =
+    c .before .before .before .before .before .before .before .before .before .before .before .before .before
+    .before .before .before .before .pre in
+    omega (arith, head-small _ _ _ _ _ (pre .0) (pre .1))
+
+-- src/peel.rt:98:13
+same-length : tie.Need-same-length Inv-loop μ-loop
+same-length c =
+    let loop = c .before .before .before .before .before .loop in
+    loop .inv .lengths .times
+
+-- src/peel.rt:98:13
+same-length-2 : tie.Need-same-length-2 Inv-loop μ-loop
+same-length-2 c =
+    let loop = c .before .before .before .before .before .loop in
+    loop .inv .lengths .left
+
+-- src/peel.rt:98:13
+same-length-3 : tie.Need-same-length-3 Inv-loop μ-loop
+same-length-3 c =
+    let loop = c .before .before .before .before .before .loop in
+    loop .inv .lengths .queue
+
+-- src/peel.rt:98:13
+returns : tie.Need-returns Inv-loop μ-loop
+returns c =
+    let pre =
+    c .before .before .before .before .before .before .before .before .before .before .before .before .before
+    .before .before .before .before .pre in
+    let loop = c .before .before .before .before .before .loop in
+    let loop-test = c .before .before .before .before .loop-test in
+    let row-at = c .before .before .before .row-at in
+    let if1 = c .before .if1 in
+    removing-stop _ _ _ _ _ (pre .0) (loop .inv) (loop-test .taken) (row-at .ensures) (if1 .taken)
+
+-- src/peel.rt:105:9
+add-p : tie.Need-add-p Inv-loop μ-loop
+add-p c =
+    let pre =
+    c .before .before .before .before .before .before .before .before .before .before .before .before .before
+    .before .before .before .pre in
+    let loop = c .before .before .before .before .loop in
+    let loop-test = c .before .before .before .loop-test in
+    omega (arith, removing-few _ _ _ _ _ (pre .0) (loop .inv) (loop-test .taken))
+
+-- src/peel.rt:108:13
+drop-neighbour-requires : tie.Need-drop-neighbour-requires Inv-loop μ-loop
+drop-neighbour-requires c κs =
+    let pre =
+    c .before .before .before .before .before .before .before .before .before .before .before .before .before
+    .before .before .before .before .before .before .before .before .before .pre in
+    let loop = c .before .before .before .before .before .before .before .before .before .before .loop in
+    let loop-test = c .before .before .before .before .before .before .before .before .before .loop-test in
+    let row-at = c .before .before .before .before .before .before .before .before .row-at in
+    let if1 = c .before .before .before .before .before .before .if1 in
+    let if2 = c .before .before .before .if2 in
+    removing-room _ _ _ _ _ (pre .0) (loop .inv) (loop-test .taken) (row-at .ensures) (if1 .left) (if2 .taken)
+
+-- src/peel.rt:94:5
+loop-less : tie.Need-loop-less Inv-loop μ-loop
+loop-less c =
+    let loop-test =
+    c .before .before .before .before .before .before .before .before .before .before .before .before .before
+    .before .before .before .loop-test in
+    omega (arith, loop-test .taken)
+
+-- src/peel.rt:94:5
+loop-again : tie.Need-loop-again Inv-loop μ-loop
+loop-again c =
+    let pre =
+    c .before .before .before .before .before .before .before .before .before .before .before .before .before
+    .before .before .before .before .before .before .before .before .before .before .before .before .before .before
+    .before .before .pre in
+    let loop =
+    c .before .before .before .before .before .before .before .before .before .before .before .before .before
+    .before .before .before .before .loop in
+    let loop-test =
+    c .before .before .before .before .before .before .before .before .before .before .before .before .before
+    .before .before .before .loop-test in
+    let row-at =
+    c .before .before .before .before .before .before .before .before .before .before .before .before .before
+    .before .before .row-at in
+    let if1 =
+    c .before .before .before .before .before .before .before .before .before .before .before .before
+    .before .if1 in
+    let if2 = c .before .before .before .before .before .before .before .before .before .before .if2 in
+    let drop-neighbour = c .before .before .before .before .before .before .drop-neighbour in
+    removing-drop _ _ _ _ _ (pre .0) (loop .inv) (loop-test .taken) (row-at .ensures) (if1 .left) (if2 .taken)
+    (drop-neighbour .kept .1 .1 .1 .1 .0) (drop-neighbour .kept .1 .1 .1 .1 .1 .0) (drop-neighbour .kept .1 .1 .1 .1 .1 .1 .0) (drop-neighbour .ensures)
+
+-- src/peel.rt:94:5
+loop-less-2 : tie.Need-loop-less-2 Inv-loop μ-loop
+loop-less-2 c =
+    let loop-test = c .before .before .before .before .before .before .loop-test in
+    omega (arith, loop-test .taken)
+
+-- src/peel.rt:94:5
+loop-again-2 : tie.Need-loop-again-2 Inv-loop μ-loop
+loop-again-2 c =
+    let pre =
+    c .before .before .before .before .before .before .before .before .before .before .before .before .before
+    .before .before .before .before .before .before .pre in
+    let loop = c .before .before .before .before .before .before .before .loop in
+    let loop-test = c .before .before .before .before .before .before .loop-test in
+    let row-at = c .before .before .before .before .before .row-at in
+    let if2 = c .if2 in
+    removing-skip _ _ _ _ _ (pre .0) (loop .inv) (loop-test .taken) (row-at .ensures) (if2 .left)
+
+-- src/peel.rt:115:15
+add-t19 : tie.Need-add-t19 Inv-loop μ-loop
+add-t19 c =
+    let pre =
+    c .before .before .before .before .before .before .before .before .before .before .before .before .before
+    .before .pre in
+    omega (arith, head-small _ _ _ _ _ (pre .0) (pre .1))
+
+-- src/peel.rt:74:1
+same-length-4 : tie.Need-same-length-4 Inv-loop μ-loop
+same-length-4 c =
+    let loop = c .before .before .loop in
+    loop .inv .lengths .times
+
+-- src/peel.rt:74:1
+same-length-5 : tie.Need-same-length-5 Inv-loop μ-loop
+same-length-5 c =
+    let loop = c .before .before .loop in
+    loop .inv .lengths .left
+
+-- src/peel.rt:74:1
+same-length-6 : tie.Need-same-length-6 Inv-loop μ-loop
+same-length-6 c =
+    let loop = c .before .before .loop in
+    loop .inv .lengths .queue
+
+-- src/peel.rt:74:1
+returns-2 : tie.Need-returns-2 Inv-loop μ-loop
+returns-2 c =
+    let pre =
+    c .before .before .before .before .before .before .before .before .before .before .before .before .before
+    .before .pre in
+    let loop = c .before .before .loop in
+    let loop-test = c .before .loop-test in
+    removing-out _ _ _ _ _ (pre .0) (loop .inv) (loop-test .left)
+
+pub remove-account-spec : {M : Type 1} → statement M
+remove-account-spec =
+    tie.close
+    (tie.spec
+    Inv-loop
+    μ-loop
+    entry-requires
+    entry-requires-2
+    add-entry
+    entry-requires-3
+    loop-holds
+    row-at-requires
+    add-t21
+    same-length
+    same-length-2
+    same-length-3
+    returns
+    add-p
+    drop-neighbour-requires
+    loop-less
+    loop-again
+    loop-less-2
+    loop-again-2
+    add-t19
+    same-length-4
+    same-length-5
+    same-length-6
+    returns-2)

@@ -1,0 +1,147 @@
+use Rattle.rings.proofs.IncidentLaws.{lead-reads}
+use Rattle.rings.proofs.SupporterLaws.{dropped-supporter-less, queued-start, queued-dropped-supporter, dropped-supporter-on, leaving-row, first-is, second-is, day-of, first-small, second-small}
+use mathlib.Core.Path.{refl}
+use native.Mathlib.Omega.{arith}
+use borrow.Author.Needs.{needs}
+use Rattle.rings.proofs.settle.drop_leaving_row.Statement.{statement}
+use Rattle.rings.proofs.settle.drop_leaving_row.Tie as tie
+use Rattle.rings.proofs.settle.drop_leaving_row.Reads as reads
+use Rattle.rings.proofs.settle.drop_leaving_row.Lts as lts
+use Rattle.rings.proofs.slices.entry.Reads as entry-reads
+use Rattle.rings.proofs.pairs.leads.Reads as leads-reads
+use Rattle.rings.proofs.supporters.loses_supporter.Reads as loses-supporter-reads
+use Rattle.rings.proofs.supporters.drop_supporter.Reads as drop-supporter-reads
+
+-- src/settle.rt:473:9
+returns : tie.Need-returns
+returns c =
+    record { queued = λ h. absurd (omega (arith, h)); leaving = λ h. absurd (omega (arith, h)) }
+
+-- src/settle.rt:476:9
+leads-requires : tie.Need-leads-requires
+leads-requires c κs = search needs
+
+-- src/settle.rt:477:9
+entry-requires : tie.Need-entry-requires
+entry-requires c κs = search needs
+
+-- src/settle.rt:478:9
+entry-requires-2 : tie.Need-entry-requires-2
+entry-requires-2 c κs = search needs
+
+-- src/settle.rt:479:13
+mul-x : tie.Need-mul-x
+mul-x c =
+    let entry = c .before .entry in
+    let pre = c .before .before .before .before .before .before .before .before .before .before .before .pre in
+    omega (arith, first-small _ _ _ (pre .0 .placed .sound) (pre .1) (entry .ensures))
+
+-- src/settle.rt:479:13
+shared-slice-read-x : tie.Need-shared-slice-read-x
+shared-slice-read-x c =
+    let entry = c .before .before .entry in
+    let pre = c .before .before .before .before .before .before .before .before .before .before .before .before .pre in
+    omega (arith, first-small _ _ _ (pre .0 .placed .sound) (pre .1) (entry .ensures), pre .0 .times-long)
+
+-- src/settle.rt:480:13
+mul-y : tie.Need-mul-y
+mul-y c =
+    let entry2 = c .before .entry2 in
+    let pre = c .before .before .before .before .before .before .before .before .before .before .before .before .pre in
+    omega (arith, second-small _ _ _ (pre .0 .placed .sound) (pre .1) (entry2 .ensures))
+
+-- src/settle.rt:480:13
+shared-slice-read-y : tie.Need-shared-slice-read-y
+shared-slice-read-y c =
+    let entry2 = c .before .before .entry2 in
+    let pre = c .before .before .before .before .before .before .before .before .before .before .before .before .before .pre in
+    omega (arith, second-small _ _ _ (pre .0 .placed .sound) (pre .1) (entry2 .ensures), pre .0 .times-long)
+
+-- src/settle.rt:481:15
+mul-day : tie.Need-mul-day
+mul-day c = search needs
+
+-- src/settle.rt:481:15
+shared-slice-read-day : tie.Need-shared-slice-read-day
+shared-slice-read-day c = search needs
+
+-- src/settle.rt:482:9
+loses-supporter-requires : tie.Need-loses-supporter-requires
+loses-supporter-requires c κs = search needs
+
+-- src/settle.rt:483:9
+loses-supporter-requires-2 : tie.Need-loses-supporter-requires-2
+loses-supporter-requires-2 c κs = search needs
+
+-- src/settle.rt:484:9
+drop-supporter-requires : tie.Need-drop-supporter-requires
+drop-supporter-requires c κs =
+    let entry = c .before .before .before .before .before .before .before .before .entry in
+    let if1 = c .before .before .before .before .before .before .before .before .before .before .if1 in
+    let pre = c .before .before .before .before .before .before .before .before .before .before .before .before .before .before .before .before .before .before .pre in
+    record {
+      slack-long = pre .0 .slack-long;
+      queue-long = pre .0 .queue-long;
+      small = first-small _ _ _ (pre .0 .placed .sound) (pre .1) (entry .ensures);
+      room = omega (arith, if1 .left);
+    }
+
+-- src/settle.rt:485:5
+drop-supporter-requires-2 : tie.Need-drop-supporter-requires-2
+drop-supporter-requires-2 c κs =
+    let drop-supporter = c .before .before .before .before .before .before .drop-supporter in
+    let entry2 = c .before .before .before .before .before .before .before .before .before .before .before .before .before .before .entry2 in
+    let entry = c .before .before .before .before .before .before .before .before .before .before .before .before .before .before .before .entry in
+    let if1 = c .before .before .before .before .before .before .before .before .before .before .before .before .before .before .before .before .before .if1 in
+    let pre = c .before .before .before .before .before .before .before .before .before .before .before .before .before .before .before .before .before .before .before .before .before .before .before .before .before .pre in
+    let small = first-small _ _ _ (pre .0 .placed .sound) (pre .1) (entry .ensures) in
+    record {
+      slack-long = dropped-supporter-less small (pre .0 .slack-long) (drop-supporter .ensures) .long;
+      queue-long = (queued-dropped-supporter small (omega (arith, if1 .left)) (pre .0 .slack-long) (queued-start _ _ _ (pre .0 .queue-long)) (drop-supporter .ensures)) .long;
+      small = second-small _ _ _ (pre .0 .placed .sound) (pre .1) (entry2 .ensures);
+      room = omega (arith, if1 .left, dropped-supporter-on (drop-supporter .ensures));
+    }
+
+-- src/settle.rt:453:1
+same-length : tie.Need-same-length
+same-length c = search needs
+
+-- src/settle.rt:453:1
+same-length-2 : tie.Need-same-length-2
+same-length-2 c = search needs
+
+-- src/settle.rt:453:1
+returns-2 : tie.Need-returns-2
+returns-2 c =
+    let drop-supporter2 = c .before .before .before .before .drop-supporter2 in
+    let drop-supporter = c .before .before .before .before .before .before .before .before .before .before .before .drop-supporter in
+    let loses-supporter2 = c .before .before .before .before .before .before .before .before .before .before .before .before .before .before .loses-supporter2 in
+    let loses-supporter = c .before .before .before .before .before .before .before .before .before .before .before .before .before .before .before .loses-supporter in
+    let entry2 = c .before .before .before .before .before .before .before .before .before .before .before .before .before .before .before .before .before .before .before .entry2 in
+    let entry = c .before .before .before .before .before .before .before .before .before .before .before .before .before .before .before .before .before .before .before .before .entry in
+    let leads = c .before .before .before .before .before .before .before .before .before .before .before .before .before .before .before .before .before .before .before .before .before .leads in
+    let if1 = c .before .before .before .before .before .before .before .before .before .before .before .before .before .before .before .before .before .before .before .before .before .before .if1 in
+    let args = c .before .before .before .before .before .before .before .before .before .before .before .before .before .before .before .before .before .before .before .before .before .before .before .before .before .before .before .before .before .before .args in
+    let pre = c .before .before .before .before .before .before .before .before .before .before .before .before .before .before .before .before .before .before .before .before .before .before .before .before .before .before .before .before .before .before .pre in
+    let sound = pre .0 .placed .sound in
+    let small = first-small _ _ _ sound (pre .1) (entry .ensures) in
+    record {
+      queued = λ h. queued-dropped-supporter (second-small _ _ _ sound (pre .1) (entry2 .ensures))
+          (omega (arith, if1 .left, dropped-supporter-on (drop-supporter .ensures)))
+          (dropped-supporter-less small (pre .0 .slack-long) (drop-supporter .ensures) .long)
+          (queued-dropped-supporter small (omega (arith, if1 .left)) (pre .0 .slack-long) (queued-start _ _ _ (pre .0 .queue-long)) (drop-supporter .ensures))
+          (drop-supporter2 .ensures);
+      leaving = λ h sp F. leaving-row _ _ _ _ _ (pre .0 .placed .setting) _ (pre .0 .times-long) (pre .0 .days) F (pre .1)
+          (lead-reads _ _ _ sound (pre .1) _ (args .scratch .now) (pre .0 .placed .paired .pairs) (leads .ensures))
+          (first-is _ _ _ sound (pre .1) (entry .ensures)) (second-is _ _ _ sound (pre .1) (entry2 .ensures))
+          (day-of _ _ _ sound (pre .1) refl) refl refl (loses-supporter .ensures) (loses-supporter2 .ensures) (drop-supporter .ensures) (drop-supporter2 .ensures);
+    }
+
+pub drop-leaving-row-spec : {M : Type 1} → statement M
+drop-leaving-row-spec =
+    tie.close
+    (
+    tie.spec returns leads-requires entry-requires entry-requires-2 mul-x shared-slice-read-x mul-y
+    shared-slice-read-y mul-day shared-slice-read-day loses-supporter-requires loses-supporter-requires-2 drop-supporter-requires
+    drop-supporter-requires-2 same-length same-length-2 returns-2
+    )

@@ -1,0 +1,105 @@
+use native.Mathlib.Omega.{arith}
+use Prim.Native.Nat.{_-_, _≤_}
+use Rattle.rings.specs.Table.{tableOf}
+use Rattle.rings.specs.Inner.Peeling.{estimate}
+use Rattle.rings.specs.Inner.Settling.{Leaving, Queued}
+use Rattle.rings.proofs.SupporterLaws.{queued-start, queued-then, leaving-start, leaving-last}
+use mathlib.Core.Path.{_≡_, sym, _∙_}
+use lib.ListN.{length}
+use Rattle.rings.proofs.settle.drop_leaving_rows.Statement.{statement}
+use Rattle.rings.proofs.settle.drop_leaving_rows.Tie as tie
+use Rattle.rings.proofs.settle.drop_leaving_rows.Reads as reads
+use Rattle.rings.proofs.settle.drop_leaving_rows.Lts as lts
+use Rattle.rings.proofs.settle.drop_leaving_row.Reads as drop-leaving-row-reads
+
+abbrev Inv-loop : tie.InvT-loop
+Inv-loop days first second scratch frame next times slack₀ queue₀ tail₀ j₀ slack queue tail j = (j ≤ next) × (length slack ≡ 4096) × (length queue ≡ 4352) × (tail ≤ 4352 → Queued 0 slack₀ queue₀ tail slack queue × Leaving (tableOf days first second) (estimate times) (frame .lo) j slack₀ slack)
+
+abbrev μ-loop : tie.MeasureT-loop
+μ-loop days first second scratch frame next times slack₀ queue₀ tail₀ j₀ slack queue tail j = next - j
+
+-- src/settle.rt:509:5
+loop-holds : tie.Need-loop-holds Inv-loop μ-loop
+loop-holds c =
+    let pre = c .before .before .before .before .before .before .before .pre in (
+      pre .1 .order,
+      pre .0 .slack-long,
+      pre .0 .queue-long,
+      λ h. (
+        queued-start _ _ _ (pre .0 .queue-long),
+        leaving-start _ _ _ _ _ (pre .0 .placed .setting) _ (pre .0 .times-long) (pre .0 .days) _ (pre .0 .slack-long),
+      ),
+    )
+
+-- src/settle.rt:510:9
+drop-leaving-row-requires : tie.Need-drop-leaving-row-requires Inv-loop μ-loop
+drop-leaving-row-requires c κs =
+    let loop-test = c .before .before .loop-test in
+    let loop = c .before .before .before .loop in
+    let pre = c .before .before .before .before .before .before .before .before .before .before .before .pre in (
+      record {
+        placed = pre .0 .placed;
+        times-long = pre .0 .times-long;
+        days = pre .0 .days;
+        slack-long = loop .inv .1;
+        queue-long = loop .inv .2;
+      },
+      omega (arith, loop-test .taken, pre .1 .within),
+    )
+
+-- src/settle.rt:525:9
+add-j : tie.Need-add-j Inv-loop μ-loop
+add-j c =
+    let loop-test = c .before .before .before .before .before .before .before .loop-test in
+    let pre = c .before .before .before .before .before .before .before .before .before .before .before .before .before .before .before .before .pre in
+    omega (arith, loop-test .taken, pre .1 .within, pre .0 .placed .sound .most)
+
+-- src/settle.rt:509:5
+loop-less : tie.Need-loop-less Inv-loop μ-loop
+loop-less c =
+    let loop-test = c .before .before .before .before .before .before .before .loop-test in
+    omega (arith, loop-test .taken)
+
+-- src/settle.rt:509:5
+loop-again : tie.Need-loop-again Inv-loop μ-loop
+loop-again c =
+    let drop-leaving-row = c .before .before .before .before .drop-leaving-row in
+    let loop-test = c .before .before .before .before .before .before .before .loop-test in
+    let loop = c .before .before .before .before .before .before .before .before .loop in (
+      omega (arith, loop-test .taken),
+      drop-leaving-row .kept .1 .1 .1 .1 .1 .1 .1 .1 .0 ∙ loop .inv .1,
+      drop-leaving-row .kept .1 .1 .1 .1 .1 .1 .1 .1 .1 .0 ∙ loop .inv .2,
+      λ h. let till = loop .inv .3 (omega (arith, drop-leaving-row .ensures .queued h .grows h, h)) in
+          (queued-then (till .0) (drop-leaving-row .ensures .queued h), drop-leaving-row .ensures .leaving h _ (till .1)),
+    )
+
+-- src/settle.rt:489:1
+same-length : tie.Need-same-length Inv-loop μ-loop
+same-length c =
+    let loop = c .before .loop in
+    let pre = c .before .before .before .before .before .before .before .before .before .pre in
+    loop .inv .1 ∙ sym (pre .0 .slack-long)
+
+-- src/settle.rt:489:1
+same-length-2 : tie.Need-same-length-2 Inv-loop μ-loop
+same-length-2 c =
+    let loop = c .before .loop in
+    let pre = c .before .before .before .before .before .before .before .before .before .pre in
+    loop .inv .2 ∙ sym (pre .0 .queue-long)
+
+-- src/settle.rt:489:1
+returns : tie.Need-returns Inv-loop μ-loop
+returns c =
+    let loop = c .before .loop in
+    record {
+      queued = λ h. loop .inv .3 h .0;
+      leaving = λ h. leaving-last (loop .inv .3 h .1) (loop .inv .0) (c .loop-test .left);
+    }
+
+pub drop-leaving-rows-spec : {M : Type 1} → statement M
+drop-leaving-rows-spec =
+    tie.close
+    (
+    tie.spec Inv-loop μ-loop loop-holds drop-leaving-row-requires add-j loop-less loop-again same-length same-length-2
+    returns
+    )
