@@ -27,7 +27,8 @@ pub extern "C" fn rumbleog_minimal_windows(
 ) -> u32
     ensures { λ r. ⌜ (
         let t = tableOf (now (days .entry)) (now (first .entry)) (now (second .entry)) in
-        let a = minimalAnswer t (query k) ts te (length (now (row .entry))) (length (now (start .entry))) (length (now (end .entry))) (length (now (scratch .entry))) in
+        let a = minimalAnswer t (query k) ts te (length (now (row .entry))) (length (now (start .entry)))
+        (length (now (end .entry))) (length (now (scratch .entry))) in
         (r ≡ countedReport a .number)
         × (now (place .exit) ≡ countedReport a .place)
         × (now (count .exit) ≡ countedReport a .count)

@@ -3,7 +3,8 @@
 ghost use mathlib.Core.Path.{_≡_};
 ghost use Rattle.rings.specs.Table.{tableOf};
 ghost use Rattle.rings.specs.Sound.{Sound};
-ghost use Rattle.rings.specs.Inner.Adjacency.{Adjacency, AdjacencyAtSomeDay, HeadInside, headPassed, HeadsAt, HeadsMoved, PrunedInside, Passing, Leaving, HeadsPassed};
+ghost use Rattle.rings.specs.Inner.Adjacency.{Adjacency, AdjacencyAtSomeDay, HeadInside, headPassed, HeadsAt};
+ghost use Rattle.rings.specs.Inner.Adjacency.{HeadsMoved, PrunedInside, Passing, Leaving, HeadsPassed};
 use crate::limits::ACCOUNTS;
 use crate::limits::ADJACENCY;
 use crate::slices::entry;

@@ -3,7 +3,8 @@
 // Each account is walked once, from its head on, and each row leaves once, so the work is linear in the rows of the window.
 ghost use Prim.Native.Nat.{_-_};
 ghost use Rattle.rings.specs.Table.{tableOf};
-ghost use Rattle.rings.specs.Inner.Peeling.{PeelBuffers, Droppable, DroppedNeighbour, Ready, Span, NeighbourCounts, CoreTimesAre, allRows, PeelStateOf, Continues, HeadWaits, HeadWalked, QueueEmpty, RowRemoval, RowsRemovedTo, RowRemovable};
+ghost use Rattle.rings.specs.Inner.Peeling.{PeelBuffers, Droppable, DroppedNeighbour, Ready, Span, NeighbourCounts, CoreTimesAre, allRows};
+ghost use Rattle.rings.specs.Inner.Peeling.{PeelStateOf, Continues, HeadWaits, HeadWalked, QueueEmpty, RowRemoval, RowsRemovedTo, RowRemovable};
 use crate::frame::Frame;
 use crate::incident::row_at;
 use crate::limits::ACCOUNTS;

@@ -3,10 +3,10 @@
 ghost use mathlib.Core.Path.{_≡_};
 ghost use Prim.Native.Nat.{_+_, _*_, _≤_};
 ghost use lib.ListN.{length};
-ghost use Rattle.rings.specs.Table.{tableOf, Split};
+ghost use Rattle.rings.specs.Table.{tableOf};
 ghost use Rattle.rings.specs.Ring.{query};
 ghost use Rattle.rings.specs.Sound.{Sound};
-ghost use Rattle.rings.specs.Starts.{Earliest, Prepared, TimesAt, AtStart};
+ghost use Rattle.rings.specs.Starts.{FirstAsks, StartAsks, ArrayLengths, Earliest, Prepared, TimesAt, AtStart};
 use crate::adjacency::build_adjacency;
 use crate::choice::lesser;
 use crate::frame::Frame;
@@ -48,11 +48,12 @@ pub fn first_start(
 )
     requires { ⌜ Sound (now days) (now first) (now second) ⌝ }
     requires { ⌜ Prepared (tableOf (now days) (now first) (now second)) (now scratch) ⌝ }
-    requires { ⌜ (1 ≤ frame .query .k) × (frame .start ≤ frame .stop + 1) × (frame .stop ≤ 1024) × Split (now days) (frame .start) (frame .lo) × Split (now days) (frame .stop + 1) end ⌝ }
-    requires { ⌜ (length (now times) ≡ 4096) × (length (now slack) ≡ 4096) × (length (now queue) ≡ 4352) × (length (now counts) ≡ 1025) ⌝ }
+    requires { ⌜ FirstAsks (now days) frame end ⌝ }
+    requires { ⌜ ArrayLengths (now times) (now slack) (now queue) (now counts) ⌝ }
     ensures { λ _. ⌜ (
         let t = tableOf (now (days .entry)) (now (first .entry)) (now (second .entry)) in
-        AtStart t (frame .query) (frame .stop) (frame .start) (frame .lo) (now (scratch .exit)) (now (times .exit)) (now (slack .exit)) (now (counts .exit))) ⌝ }
+        AtStart t (frame .query) (frame .stop) (frame .start) (frame .lo)
+        (now (scratch .exit)) (now (times .exit)) (now (slack .exit)) (now (counts .exit))) ⌝ }
 {
     build_adjacency(days, first, second, scratch);
     move_heads(days, first, second, scratch, 0, frame.start, 0, frame.lo);
@@ -85,12 +86,15 @@ pub fn next_start(
     queue: &mut [u16],
     counts: &mut [u16],
 )
-    requires { ⌜ AtStart (tableOf (now days) (now first) (now second)) (frame .query) (frame .stop) (frame .start) (frame .lo) (now scratch) (now times) (now slack) (now counts) ⌝ }
-    requires { ⌜ (frame .start ≤ frame .stop) × (frame .stop ≤ 1024) × Split (now days) (frame .start) (frame .lo) × Split (now days) (frame .start + 1) next × Split (now days) (frame .stop + 1) end ⌝ }
+    requires { ⌜ (
+        let t = tableOf (now days) (now first) (now second) in
+        AtStart t (frame .query) (frame .stop) (frame .start) (frame .lo) (now scratch) (now times) (now slack) (now counts)) ⌝ }
+    requires { ⌜ StartAsks (now days) frame next end ⌝ }
     requires { ⌜ length (now queue) ≡ 4352 ⌝ }
     ensures { λ _. ⌜ (
         let t = tableOf (now (days .entry)) (now (first .entry)) (now (second .entry)) in
-        AtStart t (frame .query) (frame .stop) (frame .start + 1) next (now (scratch .exit)) (now (times .exit)) (now (slack .exit)) (now (counts .exit))) ⌝ }
+        AtStart t (frame .query) (frame .stop) (frame .start + 1) next
+        (now (scratch .exit)) (now (times .exit)) (now (slack .exit)) (now (counts .exit))) ⌝ }
 {
     drop_rows(days, first, second, frame, next, end, times, counts);
     pass_heads(days, first, second, scratch, frame.lo, next);
@@ -138,9 +142,13 @@ pub fn first_time(
     end: usize,
     times: &[u16],
 ) -> u16
-    requires { ⌜ TimesAt (tableOf (now days) (now first) (now second)) (frame .query) (frame .stop) (frame .start) (frame .lo) (now times) ⌝ }
-    requires { ⌜ (frame .start ≤ frame .stop) × Split (now days) (frame .start) (frame .lo) × Split (now days) (frame .start + 1) next × Split (now days) (frame .stop + 1) end ⌝ }
-    ensures { λ r. ⌜ Earliest (tableOf (now (days .entry)) (now (first .entry)) (now (second .entry))) (frame .query) (frame .stop) (frame .start) r ⌝ }
+    requires { ⌜ (
+        let t = tableOf (now days) (now first) (now second) in
+        TimesAt t (frame .query) (frame .stop) (frame .start) (frame .lo) (now times)) ⌝ }
+    requires { ⌜ StartAsks (now days) frame next end ⌝ }
+    ensures { λ r. ⌜ (
+        let t = tableOf (now (days .entry)) (now (first .entry)) (now (second .entry)) in
+        Earliest t (frame .query) (frame .stop) (frame .start) r) ⌝ }
 {
     let mut least = 65535;
     let mut j = frame.lo;

@@ -21,7 +21,7 @@ move-heads-requires : tie.Need-move-heads-requires
 move-heads-requires c κs =
     let build-adjacency = c .before .before .before .build-adjacency in
     let pre = c .before .before .before .before .before .before .before .before .before .before .before .before .before .pre in
-    heads-on (pre .0) (build-adjacency .ensures) (pre .1 .1 .0 .3)
+    heads-on (pre .0) (build-adjacency .ensures) (pre .1 .1 .0 .starts)
 
 -- src/starts.rt:72:5
 peel-start-requires : tie.Need-peel-start-requires
@@ -29,11 +29,11 @@ peel-start-requires c κs =
     let move-heads = c .before .before .before .before .before .before .move-heads in
     let pre = c .before .before .before .before .before .before .before .before .before .before .before .before .before .before .before .before .before .before .before .before .pre in
     record {
-      ready = ready-of (pre .0) (move-heads .ensures .adjacency) (pre .1 .1 .0 .0) (pre .1 .1 .0 .2) (pre .1 .1 .0 .3);
-      span = span-after (pre .1 .1 .0 .1) (pre .1 .1 .0 .3) (pre .1 .1 .0 .4);
-      times-long = pre .1 .1 .1 .0;
-      slack-long = pre .1 .1 .1 .1;
-      queue-long = pre .1 .1 .1 .2;
+      ready = ready-of (pre .0) (move-heads .ensures .adjacency) (pre .1 .1 .0 .some-k) (pre .1 .1 .0 .in-days) (pre .1 .1 .0 .starts);
+      span = span-after (pre .1 .1 .0 .ordered) (pre .1 .1 .0 .starts) (pre .1 .1 .0 .ends);
+      times-long = pre .1 .1 .1 .times-long;
+      slack-long = pre .1 .1 .1 .slack-long;
+      queue-long = pre .1 .1 .1 .queue-long;
     }
 
 -- src/starts.rt:86:5
@@ -43,13 +43,13 @@ count-times-requires c κs =
     let pre = c .before .before .before .before .before .before .before .before .before .before .before .before .before .before .before .before .before .before .before .before .before .before .before .before .before .before .before .before .before .pre in (
       record {
         known = record {
-          framed = framed-of (pre .0) (pre .1 .1 .0 .0) (pre .1 .1 .0 .2) (pre .1 .1 .0 .3);
-          span = span-after (pre .1 .1 .0 .1) (pre .1 .1 .0 .3) (pre .1 .1 .0 .4);
+          framed = framed-of (pre .0) (pre .1 .1 .0 .some-k) (pre .1 .1 .0 .in-days) (pre .1 .1 .0 .starts);
+          span = span-after (pre .1 .1 .0 .ordered) (pre .1 .1 .0 .starts) (pre .1 .1 .0 .ends);
           times-are = peel-start .ensures .times-are;
         };
-        in-days = pre .1 .1 .0 .2;
+        in-days = pre .1 .1 .0 .in-days;
       },
-      pre .1 .1 .1 .3,
+      pre .1 .1 .1 .counts-long,
     )
 
 -- src/starts.rt:87:5
@@ -94,9 +94,9 @@ returns c =
     let pre = c .before .before .before .before .before .before .before .before .before .before .before .before .before .before .before .before .before .before .before .before .before .before .before .before .before .before .before .before .before .before .before .before .before .before .before .before .before .pre in
     record {
       inside = record {
-        opened = ready-pruned-of (pre .0) (prune .ensures .pruned) (pre .1 .1 .0 .0) (pre .1 .1 .0 .2) (pre .1 .1 .0 .3);
+        opened = ready-pruned-of (pre .0) (prune .ensures .pruned) (pre .1 .1 .0 .some-k) (pre .1 .1 .0 .in-days) (pre .1 .1 .0 .starts);
         covered = prune .ensures .covered _
-            (adjacency-covered (move-heads .ensures .adjacency) _ ((framed-of (pre .0) (pre .1 .1 .0 .0) (pre .1 .1 .0 .2) (pre .1 .1 .0 .3)) .setting .from-lo));
+            (adjacency-covered (move-heads .ensures .adjacency) _ ((framed-of (pre .0) (pre .1 .1 .0 .some-k) (pre .1 .1 .0 .in-days) (pre .1 .1 .0 .starts)) .setting .from-lo));
         times-are = peel-start .ensures .times-are;
         slacks = peel-start .ensures .slacks;
         timed = count-times .ensures;

@@ -24,7 +24,7 @@ abbrev μ-loop : tie.MeasureT-loop
 loop-holds : tie.Need-loop-holds Inv-loop μ-loop
 loop-holds c =
     let pre = c .before .before .before .before .pre in
-    (omega arith, split-rises (pre .1 .1) (pre .1 .2), least-start _ _)
+    (omega arith, split-rises (pre .1 .starts) (pre .1 .follows), least-start _ _)
 
 -- src/starts.rt:63:13
 row-time-requires : tie.Need-row-time-requires Inv-loop μ-loop
@@ -32,10 +32,10 @@ row-time-requires c κs =
     let pre = c .before .before .before .before .before .before .pre in (
       record {
         framed = pre .0 .inside .0;
-        span = span-of (pre .1 .0) (pre .1 .1) (pre .1 .3);
+        span = span-of (pre .1 .ordered) (pre .1 .starts) (pre .1 .ends);
         times-are = pre .0 .inside .1;
       },
-      omega (arith, c .loop-test .taken, pre .1 .2 .within),
+      omega (arith, c .loop-test .taken, pre .1 .follows .within),
     )
 
 -- src/starts.rt:64:9
@@ -47,7 +47,7 @@ add-j : tie.Need-add-j Inv-loop μ-loop
 add-j c =
     let loop-test = c .before .before .loop-test in
     let pre = c .before .before .before .before .before .before .before .before .pre in
-    omega (arith, loop-test .taken, pre .1 .2 .within, pre .0 .inside .0 .sound .most)
+    omega (arith, loop-test .taken, pre .1 .follows .within, pre .0 .inside .0 .sound .most)
 
 -- src/starts.rt:62:5
 loop-less : tie.Need-loop-less Inv-loop μ-loop
@@ -71,7 +71,7 @@ returns : tie.Need-returns Inv-loop μ-loop
 returns c =
     let loop = c .before .loop in
     let pre = c .before .before .before .before .before .before .pre in
-    least-end (pre .0 .inside .0) (pre .1 .2) (loop .inv .1) (c .loop-test .left) (loop .inv .2)
+    least-end (pre .0 .inside .0) (pre .1 .follows) (loop .inv .1) (c .loop-test .left) (loop .inv .2)
 
 pub first-time-spec : {M : Type 1} → statement M
 first-time-spec =

@@ -23,12 +23,12 @@ drop-rows-requires c κs =
       record {
         known = record {
           framed = ready-pruned-framed (here .opened);
-          span = span-of (pre .1 .0 .0) (pre .1 .0 .2) (pre .1 .0 .4);
+          span = span-of (pre .1 .0 .ordered) (pre .1 .0 .starts) (pre .1 .0 .ends);
           times-are = here .times-are;
         };
-        in-days = pre .1 .0 .1;
+        in-days = pre .1 .0 .in-days;
       },
-      record { follows = pre .1 .0 .3; timed = here .timed },
+      record { follows = pre .1 .0 .follows; timed = here .timed },
     )
 
 -- src/starts.rt:96:5
@@ -39,8 +39,8 @@ pass-heads-requires c κs =
     record {
       sound = here .opened .sound;
       pruned = here .opened .pruned;
-      ordered = split-rises (pre .1 .0 .2) (pre .1 .0 .3);
-      within = pre .1 .0 .3 .within;
+      ordered = split-rises (pre .1 .0 .starts) (pre .1 .0 .follows);
+      within = pre .1 .0 .follows .within;
     }
 
 -- src/starts.rt:97:9
@@ -51,12 +51,12 @@ step-requires c κs =
     let pre = c .before .before .before .before .before .before .before .before .before .before .before .before .before .before .before .before .before .before .before .before .before .before .pre in
     let here = pre .0 .inside in
     record {
-      opened = ready-pruned-of (here .opened .sound) (pass-heads .ensures .pruned) (here .opened .setting .some-k) (pre .1 .0 .1) (pre .1 .0 .3);
-      ordered = pre .1 .0 .0;
-      in-days = pre .1 .0 .1;
-      starts = pre .1 .0 .2;
-      follows = pre .1 .0 .3;
-      ends = pre .1 .0 .4;
+      opened = ready-pruned-of (here .opened .sound) (pass-heads .ensures .pruned) (here .opened .setting .some-k) (pre .1 .0 .in-days) (pre .1 .0 .follows);
+      ordered = pre .1 .0 .ordered;
+      in-days = pre .1 .0 .in-days;
+      starts = pre .1 .0 .starts;
+      follows = pre .1 .0 .follows;
+      ends = pre .1 .0 .ends;
       times-are = here .times-are;
       slacks = here .slacks;
       queue-long = pre .1 .1;
@@ -75,7 +75,7 @@ enum-told-2 c = search needs
 next-frame-requires : tie.Need-next-frame-requires
 next-frame-requires c κs =
     let pre = c .before .before .before .before .before .before .before .before .before .before .before .before .before .before .before .before .before .before .before .before .before .before .before .before .before .before .before .before .before .before .before .before .before .pre in
-    omega (arith, pre .1 .0 .0, pre .1 .0 .1)
+    omega (arith, pre .1 .0 .ordered, pre .1 .0 .in-days)
 
 -- src/starts.rt:115:13
 first-start-requires : tie.Need-first-start-requires
@@ -91,13 +91,19 @@ first-start-requires c κs =
       (
         record { inside = pruned-paired (pass-heads .ensures .pruned) },
         (
-          (here .opened .setting .some-k, omega (arith, pre .1 .0 .0), pre .1 .0 .1, pre .1 .0 .3, pre .1 .0 .4),
-          (
-            step .kept .1 .1 .1 .1 .1 .1 .1 .0 ∙ here .times-are .long,
-            step .kept .1 .1 .1 .1 .1 .1 .1 .1 .0 ∙ here .slacks .long,
-            step .kept .1 .1 .1 .1 .1 .1 .1 .1 .1 .0 ∙ pre .1 .1,
-            step .kept .1 .1 .1 .1 .1 .1 .1 .1 .1 .1 .1 .0 ∙ (drop-rows .kept .1 .1 .1 .1 .1 .1 .1 .0 ∙ here .timed .long),
-          ),
+          record {
+            some-k = here .opened .setting .some-k;
+            ordered = omega (arith, pre .1 .0 .ordered);
+            in-days = pre .1 .0 .in-days;
+            starts = pre .1 .0 .follows;
+            ends = pre .1 .0 .ends;
+          },
+          record {
+            times-long = step .kept .1 .1 .1 .1 .1 .1 .1 .0 ∙ here .times-are .long;
+            slack-long = step .kept .1 .1 .1 .1 .1 .1 .1 .1 .0 ∙ here .slacks .long;
+            queue-long = step .kept .1 .1 .1 .1 .1 .1 .1 .1 .1 .0 ∙ pre .1 .1;
+            counts-long = step .kept .1 .1 .1 .1 .1 .1 .1 .1 .1 .1 .1 .0 ∙ (drop-rows .kept .1 .1 .1 .1 .1 .1 .1 .0 ∙ here .timed .long);
+          },
         ),
       ),
     )
@@ -133,7 +139,7 @@ returns c =
     let done = rw (enum-told .given .1) at (step .ensures) in
     record {
       inside = record {
-        opened = ready-pruned-of (here .opened .sound) (pass-heads .ensures .pruned) (here .opened .setting .some-k) (pre .1 .0 .1) (pre .1 .0 .3);
+        opened = ready-pruned-of (here .opened .sound) (pass-heads .ensures .pruned) (here .opened .setting .some-k) (pre .1 .0 .in-days) (pre .1 .0 .follows);
         covered = covered-rise (core-never (here .opened .setting .fits) (here .times-are) (done .times-are)) (le-refl _)
             (pass-heads .ensures .covered _ (here .covered));
         times-are = done .times-are;
