@@ -18,7 +18,8 @@ pub enum Listed {
     Refused(Refusal),
 }
 
-// The answer of the listing program's work on bytes: the length of the listing text, or a refusal's number and its input line, 0 where it has none.
+// The answer of the listing program's work on bytes: the length of the listing text, or a refusal's number and its
+// input line, 0 where it has none.
 pub enum Printed {
     Text(usize),
     Refused { number: u32, line: usize },

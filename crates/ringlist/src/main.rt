@@ -25,7 +25,8 @@ fn refuse(number: u32, line: usize, output: &mut [u8]) -> usize
     19
 }
 
-// What the program prints for an input, from the output's start on; its length. 45,078 bytes hold the listing of 2,048 rings.
+// What the program prints for an input, from the output's start on; its length. 45,078 bytes hold the listing of
+// 2,048 rings.
 fn print(input: &[u8], output: &mut [u8]) -> usize
     requires { ⌜ length (now output) ≡ 45078 ⌝ }
     ensures { λ r. ⌜ Counts r (now (output .exit)) ⌝ }
@@ -42,7 +43,8 @@ fn print(input: &[u8], output: &mut [u8]) -> usize
     }
 }
 
-// What the program prints for the input of which a read brought so many bytes into the buffer. The buffer has one byte more than an input
+// What the program prints for the input of which a read brought so many bytes into the buffer. The buffer has one
+// byte more than an input
 // may have: a longer one is seen to be too long, and of any other all is there.
 fn answer(buffer: &[u8], read: usize, output: &mut [u8]) -> usize
     requires { ⌜ Counts read (now buffer) ⌝ }

@@ -1,10 +1,12 @@
-// The frame of one start: what is asked, the first day, the last day of the range, and the first row from the first day on.
+// The frame of one start: what is asked, the first day, the last day of the range, and the first row from the first
+// day on.
 ghost use mathlib.Core.Path.{_≡_};
 ghost use Prim.Native.Nat.{_<_};
 ghost use Rattle.rings.specs.Inner.Peeling.{nextFrame};
 use crate::Query;
 
-// It goes by value through every inner function that works on a start. A hot leaf copies the numbers that it needs first.
+// It goes by value through every inner function that works on a start. A hot leaf copies the numbers that it needs
+// first.
 pub struct Frame {
     pub query: Query,
     pub start: u16,

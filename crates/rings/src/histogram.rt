@@ -37,7 +37,8 @@ pub(crate) fn drop_count(counts: &mut [u16], time: u16)
     counts[e] = counts[e] - 1;
 }
 
-// Where days are counted and the test holds: one row fewer with this time, and one more of m that are still to be counted. A sum and no branch on the test: whether a row's time moves no processor foresees.
+// Where days are counted and the test holds: one row fewer with this time, and one more of m that are still to be
+// counted. A sum and no branch on the test: whether a row's time moves no processor foresees.
 pub(crate) fn take_from_histogram(
     counting: bool,
     counts: &mut [u16],

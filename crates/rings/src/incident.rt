@@ -1,4 +1,5 @@
-// One step of a walk over the rows of an account, for every loop that makes such a walk: what stands at a place of the adjacency.
+// One step of a walk over the rows of an account, for every loop that makes such a walk: what stands at a place of
+// the adjacency.
 ghost use Rattle.rings.specs.Table.{tableOf};
 ghost use Rattle.rings.specs.Inner.Incident.{RowStands, RowRead};
 use crate::limits::ADJACENCY;
@@ -14,7 +15,8 @@ pub struct Incident {
     pub leads: bool,
 }
 
-// The row of u that stands at place p of the adjacency. It is inlined: a loop that uses some of the fields reads no more than these.
+// The row of u that stands at place p of the adjacency. It is inlined: a loop that uses some of the fields reads no
+// more than these.
 pub(crate) fn row_at(
     days: &[u16],
     first: &[u16],

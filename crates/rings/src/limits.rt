@@ -1,4 +1,5 @@
-// The limits of document 01 and the places of the scratch, by name. Definitions of specs/ state them; the proofs tie the two.
+// The limits of document 01 and the places of the scratch, by name. Definitions of specs/ state them; the proofs tie
+// the two.
 
 // No core time: the number that stands for never.
 pub(crate) const NEVER: u16 = 65535;

@@ -1,6 +1,7 @@
 // Pairs of accounts: the other account of a row, and each row's earlier row of its pair, kept in the scratch.
 // A row leads in a window where it is the first of its pair there: of a pair's rows one makes it count.
-// Rows whose pairs have the same slot are chained, each to the one before it. The places of cursors and heads serve as slots,
+// Rows whose pairs have the same slot are chained, each to the one before it. The places of cursors and heads serve
+// as slots,
 // and those of the earlier rows as chains: so the earlier rows come before the adjacency.
 ghost use mathlib.Core.Path.{_≡_};
 ghost use mathlib.Core.Bool.{_&&_};
@@ -78,7 +79,8 @@ fn chain_rows(days: &[u16], first: &[u16], second: &[u16], scratch: &mut [u16])
     }
 }
 
-// The earlier row of each row's pair. The rows of its chain are searched, and the search is left when one of the pair is found.
+// The earlier row of each row's pair. The rows of its chain are searched, and the search is left when one of the pair
+// is found.
 // From the last row on, so that the chains of the rows before it are still there.
 fn find_pairs(days: &[u16], first: &[u16], second: &[u16], scratch: &mut [u16])
     requires { ⌜ Sound (now days) (now first) (now second) ⌝ }

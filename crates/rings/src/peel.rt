@@ -1,6 +1,9 @@
-// Core times of one start from nothing, by peeling: accounts are removed where fewer than k neighbours are left, as the rows leave from the last day on.
-// times: 0 while an account has not been removed, then its core time; left: its neighbours left; queue: who was removed and is still to be walked.
-// Each account is walked once, from its head on, and each row leaves once, so the work is linear in the rows of the window.
+// Core times of one start from nothing, by peeling: accounts are removed where fewer than k neighbours are left, as
+// the rows leave from the last day on.
+// times: 0 while an account has not been removed, then its core time; left: its neighbours left; queue: who was
+// removed and is still to be walked.
+// Each account is walked once, from its head on, and each row leaves once, so the work is linear in the rows of the
+// window.
 ghost use Prim.Native.Nat.{_-_};
 ghost use Rattle.rings.specs.Table.{tableOf};
 ghost use Rattle.rings.specs.Inner.Peeling.{PeelBuffers, Droppable, DroppedNeighbour, Ready, Span, NeighbourCounts, CoreTimesAre, allRows};
@@ -14,7 +17,8 @@ use crate::slices::clear;
 use crate::slices::entry;
 use crate::slices::put;
 
-// How far the removal has come: the day that is the core time of who is removed now, the end of the rows that have not left,
+// How far the removal has come: the day that is the core time of who is removed now, the end of the rows that have
+// not left,
 // and the queue of the fallen from head to tail.
 pub struct Removal {
     pub day: u16,
@@ -23,7 +27,8 @@ pub struct Removal {
     pub tail: usize,
 }
 
-// Account v loses a neighbour; with the k-th it is removed, dated e, and waits in the queue. Who was removed before has fewer left,
+// Account v loses a neighbour; with the k-th it is removed, dated e, and waits in the queue. Who was removed before
+// has fewer left,
 // so one test that nearly always fails is enough, and whether v was removed, which no processor foresees, is not asked.
 fn drop_neighbour(
     k: u16,
@@ -48,7 +53,8 @@ fn drop_neighbour(
     tail + 1
 }
 
-// The rows of the account at the head of the queue: by each leading row that has not left the other account loses a neighbour.
+// The rows of the account at the head of the queue: by each leading row that has not left the other account loses a
+// neighbour.
 fn remove_account(
     days: &[u16],
     first: &[u16],
@@ -129,7 +135,8 @@ fn remove_queued(
     state
 }
 
-// The last of the rows that have not left, the one before `end`, leaves: the new end of the queue. Who falls by it has its day.
+// The last of the rows that have not left, the one before `end`, leaves: the new end of the queue. Who falls by it
+// has its day.
 // The two numbers go in and one comes back: this is done for each row, and a struct would go through memory.
 fn remove_row(
     days: &[u16],

@@ -1,5 +1,6 @@
 // A pruned adjacency: from an account without a core time no ring is ever met again, as core times never fall,
-// so the rows whose other account it is need no walk. prune takes them out of the adjacency, each account's own places for itself,
+// so the rows whose other account it is need no walk. prune takes them out of the adjacency, each account's own
+// places for itself,
 // and the rest stays in rising order.
 ghost use Rattle.rings.specs.Table.{tableOf};
 ghost use Rattle.rings.specs.Inner.Peeling.{estimate};
@@ -42,7 +43,8 @@ fn prune_account(
     put(scratch, u, end);
 }
 
-// The rows whose other account has no time go from the adjacency. What stands under such an account itself stays: nobody walks it.
+// The rows whose other account has no time go from the adjacency. What stands under such an account itself stays:
+// nobody walks it.
 pub(crate) fn prune(
     days: &[u16],
     first: &[u16],

@@ -2,7 +2,8 @@
 ghost use mathlib.Core.Path.{_≡_};
 ghost use Rattle.rings.specs.Refusals.{toldOf};
 
-// Why a call refuses: document 01's refusals, each with its place where it has one. specs/Refusals.antt gives number and place.
+// Why a call refuses: document 01's refusals, each with its place where it has one. specs/Refusals.antt gives number
+// and place.
 pub enum Refusal {
     // 1: column lengths differ.
     UnequalColumns,

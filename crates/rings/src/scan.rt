@@ -1,4 +1,5 @@
-// A scan of an account: the first day, from its time on, on which it has k supporters, by walks over its rows in the adjacency.
+// A scan of an account: the first day, from its time on, on which it has k supporters, by walks over its rows in the
+// adjacency.
 ghost use mathlib.Core.Path.{_≡_};
 ghost use mathlib.Core.Bool.{true, false};
 ghost use Prim.Native.Nat.{_+_, _≤_, _<_};
@@ -17,7 +18,8 @@ use crate::slices::entry;
 use crate::slices::put;
 use crate::slices::wide;
 
-// A scan of an account's rows: where they begin in the adjacency, the day that is asked about, and the rows that may be passed before it is given up.
+// A scan of an account's rows: where they begin in the adjacency, the day that is asked about, and the rows that may
+// be passed before it is given up.
 pub struct Scan {
     pub account: usize,
     pub from: usize,
@@ -40,7 +42,8 @@ pub struct DayScan {
     pub walked: usize,
 }
 
-// The same with what a rise to the day above needs: how many rows of the account move with it, and where the list of those who lose it ends.
+// The same with what a rise to the day above needs: how many rows of the account move with it, and where the list of
+// those who lose it ends.
 pub struct RiseScan {
     pub count: u16,
     pub above: u16,
@@ -50,13 +53,15 @@ pub struct RiseScan {
     pub walked: usize,
 }
 
-// What a scan finds: the account's time, its spare supporters, counted from 1, and the rows that it passed; or that it gave up.
+// What a scan finds: the account's time, its spare supporters, counted from 1, and the rows that it passed; or that
+// it gave up.
 pub enum FoundDay {
     Found { time: u16, left: u16, walked: usize },
     GaveUp,
 }
 
-// A row dated on this day, and all later ones, can change nothing: they support on no day up to c, and either enough do already, or they lie behind the range or behind the day above.
+// A row dated on this day, and all later ones, can change nothing: they support on no day up to c, and either enough
+// do already, or they lie behind the range or behind the day above.
 fn is_over(day: u16, c: u16, stop: u16, above: u16, k: u16, count: u16) -> bool
     ensures { λ r. ⌜ ScanOver day c stop above k count r ⌝ }
 {
@@ -75,7 +80,8 @@ fn is_over(day: u16, c: u16, stop: u16, above: u16, k: u16, count: u16) -> bool
     false
 }
 
-// One row more, which comes in on day z, and counts if it is the first of its pair. The day above lies after c. Sums and choices and no branch: which way a row goes no processor foresees.
+// One row more, which comes in on day z, and counts if it is the first of its pair. The day above lies after c. Sums
+// and choices and no branch: which way a row goes no processor foresees.
 fn note_row(z: u16, leading: bool, c: u16, count: u16, above: u16, more: u16) -> ScanCounts
     requires { ⌜ (count < 16384) × (more < 16384) × (c < above) ⌝ }
     ensures { λ r. ⌜ RowNoted leading z c count above more (r .count) (r .above) (r .more) ⌝ }
@@ -143,7 +149,10 @@ fn scan_on_day(
     }
 }
 
-// The same walk on the time of u, for a rise from there to the day above. Here each row may bring that day nearer, first of its pair or not, so that none comes in between: the rows that move with u are then those that come in by c, and who loses it are those of its supporters who have the time c. These are listed behind the queue, which has room for one for each row: each is written, and the end moves on behind those who lose it, without a branch.
+// The same walk on the time of u, for a rise from there to the day above. Here each row may bring that day nearer,
+// first of its pair or not, so that none comes in between: the rows that move with u are then those that come in by
+// c, and who loses it are those of its supporters who have the time c. These are listed behind the queue, which has
+// room for one for each row: each is written, and the end moves on behind those who lose it, without a branch.
 pub(crate) fn scan_for_rise(
     days: &[u16],
     first: &[u16],
@@ -203,7 +212,8 @@ pub(crate) fn scan_for_rise(
     }
 }
 
-// What an account has to spare on the day above, counted from 1; 0 where those who support it then are too few. Never asks for none.
+// What an account has to spare on the day above, counted from 1; 0 where those who support it then are too few. Never
+// asks for none.
 pub(crate) fn slack_above(above: u16, both: u16, k: u16) -> u16
     requires { ⌜ both ≤ 16384 ⌝ }
     ensures { λ r. ⌜ SlackAbove above both k r ⌝ }
@@ -217,7 +227,8 @@ pub(crate) fn slack_above(above: u16, both: u16, k: u16) -> u16
     both + 1 - k
 }
 
-// The first day from the time of the account on with k supporters, or never, where it is known that no day before the scan's has them. It gives up when it has passed more rows than the budget allows.
+// The first day from the time of the account on with k supporters, or never, where it is known that no day before the
+// scan's has them. It gives up when it has passed more rows than the budget allows.
 pub(crate) fn find_day(
     days: &[u16],
     first: &[u16],
@@ -277,7 +288,8 @@ pub(crate) fn find_day(
     }
 }
 
-// Where the rows of u from lo on begin in the adjacency: at its head, which has passed those that left. The search makes it sure, so no walk asks for it row by row.
+// Where the rows of u from lo on begin in the adjacency: at its head, which has passed those that left. The search
+// makes it sure, so no walk asks for it row by row.
 pub(crate) fn first_from(
     days: &[u16],
     first: &[u16],

@@ -1,6 +1,10 @@
-// Settling: how the core times of one start become those of the day after it. Times only rise. A scan of an account finds the first day, from its time on, on which it has k supporters.
-// slack: of each account one more than the supporters that it can lose before it must be scanned, at least; 0 while it waits for a scan. What a scan counts beyond k is to spare, so most losses cost no scan.
-// queue: who rose, then who waits. An account leaves the front of those who wait when it is scanned, and if it rises takes a place behind those who rose. It has 4,352 places, 256 more than there are accounts: where one ring of all accounts gives way, each rises once, and some few twice.
+// Settling: how the core times of one start become those of the day after it. Times only rise. A scan of an account
+// finds the first day, from its time on, on which it has k supporters.
+// slack: of each account one more than the supporters that it can lose before it must be scanned, at least; 0 while
+// it waits for a scan. What a scan counts beyond k is to spare, so most losses cost no scan.
+// queue: who rose, then who waits. An account leaves the front of those who wait when it is scanned, and if it rises
+// takes a place behind those who rose. It has 4,352 places, 256 more than there are accounts: where one ring of all
+// accounts gives way, each rises once, and some few twice.
 ghost use mathlib.Core.Path.{_≡_};
 ghost use Prim.Native.Nat.{ℕ, _+_, _≤_, _<_};
 ghost use lib.ListN.{length, getD};
@@ -29,7 +33,8 @@ use crate::supporters::drop_supported;
 use crate::supporters::drop_supporter;
 use crate::supporters::loses_supporter;
 
-// The worklist of a start, in the queue: who rose stands below `raised`, who waits from `head` to `tail`. And how many rows scans have passed.
+// The worklist of a start, in the queue: who rose stands below `raised`, who waits from `head` to `tail`. And how
+// many rows scans have passed.
 pub struct Worklist {
     pub head: usize,
     pub tail: usize,
@@ -37,7 +42,8 @@ pub struct Worklist {
     pub walked: usize,
 }
 
-// What one walk comes to: the account is settled; or nothing has changed but what stands behind the queue, and a scan is to go on from this day.
+// What one walk comes to: the account is settled; or nothing has changed but what stands behind the queue, and a scan
+// is to go on from this day.
 pub enum Near {
     Settled(Worklist),
     Open { walked: usize, day: u16 },
@@ -55,7 +61,9 @@ pub enum Settled {
     GaveUp,
 }
 
-// The common way: one walk over the rows of the account at the head of the queue finds that it has enough supporters still, or that it rises to the day above and has enough there. Where neither is so, or the queue has no room behind it for a list of its rows, it stays open.
+// The common way: one walk over the rows of the account at the head of the queue finds that it has enough supporters
+// still, or that it rises to the day above and has enough there. Where neither is so, or the queue has no room behind
+// it for a list of its rows, it stays open.
 fn settle_near(
     days: &[u16],
     first: &[u16],
@@ -134,7 +142,8 @@ fn settle_near(
     })
 }
 
-// The long way: walks on one day after the other, from the scan's on, until the account has enough, and if its time rises, one more for who loses it. It gives up when the scan does, or when the queue has no place.
+// The long way: walks on one day after the other, from the scan's on, until the account has enough, and if its time
+// rises, one more for who loses it. It gives up when the scan does, or when the queue has no place.
 fn settle_far(
     days: &[u16],
     first: &[u16],
@@ -285,7 +294,8 @@ fn settle_account(
     }
 }
 
-// Who waits is settled, one after the other, until nobody does. It gives up where that takes more rows than the budget allows, or more places than the queue has.
+// Who waits is settled, one after the other, until nobody does. It gives up where that takes more rows than the
+// budget allows, or more places than the queue has.
 fn settle(
     days: &[u16],
     first: &[u16],
@@ -344,7 +354,8 @@ fn settle(
     Settled::Raised(list.raised)
 }
 
-// Row j leaves: by it each of its accounts has lost the other, if it was a supporter by the row's day. FULL says that the queue has no place left.
+// Row j leaves: by it each of its accounts has lost the other, if it was a supporter by the row's day. FULL says that
+// the queue has no place left.
 fn drop_leaving_row(
     days: &[u16],
     first: &[u16],
@@ -473,7 +484,10 @@ pub(crate) fn peel_start(
     reset_slack(slack);
 }
 
-// From the core times at s to those at the day after it, where the heads stand already, with a list of the accounts whose times are others; the number of its entries. Where days are counted, so are the row times: at entry without the rows dated s. It gives up where settling grows dear: the start is to be peeled then, so that none costs more than a constant times its rows.
+// From the core times at s to those at the day after it, where the heads stand already, with a list of the accounts
+// whose times are others; the number of its entries. Where days are counted, so are the row times: at entry without
+// the rows dated s. It gives up where settling grows dear: the start is to be peeled then, so that none costs more
+// than a constant times its rows.
 pub(crate) fn step(
     days: &[u16],
     first: &[u16],

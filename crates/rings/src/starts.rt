@@ -33,7 +33,8 @@ pub fn prepare(days: &[u16], first: &[u16], second: &[u16], scratch: &mut [u16])
     pair_rows(days, first, second, scratch);
 }
 
-// The times of a start and their counts, from nothing: the whole adjacency, a peel, and of the adjacency what is still of use.
+// The times of a start and their counts, from nothing: the whole adjacency, a peel, and of the adjacency what is
+// still of use.
 pub fn first_start(
     days: &[u16],
     first: &[u16],
@@ -72,7 +73,8 @@ pub fn first_start(
     prune(days, first, second, scratch, frame.start, times);
 }
 
-// The times of the next start and their counts, from those of this one: what a start costs is what changes in it. Where that grows dear, from nothing.
+// The times of the next start and their counts, from those of this one: what a start costs is what changes in it.
+// Where that grows dear, from nothing.
 pub fn next_start(
     days: &[u16],
     first: &[u16],

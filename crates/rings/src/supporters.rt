@@ -1,5 +1,6 @@
 // Who loses a supporter, by a rise or by a row that leaves.
-// slack: of each account one more than the supporters that it can lose before it must be scanned, at least; 0 while it waits for a scan.
+// slack: of each account one more than the supporters that it can lose before it must be scanned, at least; 0 while
+// it waits for a scan.
 ghost use mathlib.Core.Path.{_≡_};
 ghost use mathlib.Core.Bool.{true, _&&_};
 ghost use Prim.Native.Nat.{ℕ, _+_, _≤_, _<_};
@@ -22,7 +23,8 @@ use crate::slices::wide;
 // Where a queue's end is asked for and it has no place left: one more than it has places.
 pub(crate) const FULL: usize = 4353;
 
-// An account whose time is z had a supporter with the time old by a row of this day, and has it no more when that has the time new.
+// An account whose time is z had a supporter with the time old by a row of this day, and has it no more when that has
+// the time new.
 pub(crate) fn loses_supporter(z: u16, day: u16, old: u16, new: u16) -> bool
     ensures { λ r. ⌜ r ≡ ((leb old z && leb day z) && ltb z new) ⌝ }
 {
@@ -37,7 +39,8 @@ pub struct Rise {
     pub new: u16,
 }
 
-// v loses a supporter where the test holds. It is put at the end of the queue, and the end moves on if it has none to spare now: no branch, as in a scan.
+// v loses a supporter where the test holds. It is put at the end of the queue, and the end moves on if it has none to
+// spare now: no branch, as in a scan.
 pub(crate) fn drop_supporter(
     slack: &mut [u16],
     queue: &mut [u16],
@@ -56,7 +59,8 @@ pub(crate) fn drop_supporter(
     tail + wide(one(last))
 }
 
-// Each account that is listed from place tail to upto loses a supporter, and waits if it has none to spare now. The list stands behind the queue: the queue grows over what has been read of it.
+// Each account that is listed from place tail to upto loses a supporter, and waits if it has none to spare now. The
+// list stands behind the queue: the queue grows over what has been read of it.
 pub(crate) fn drop_listed_supporters(
     slack: &mut [u16],
     queue: &mut [u16],
@@ -76,7 +80,9 @@ pub(crate) fn drop_listed_supporters(
     end
 }
 
-// A rise takes a supporter from each account that was supported till now. A row dated on the new time or later, or behind the range, takes none. Where days are counted, each row whose time moves with it is taken off its day, and all of them are counted on the new one at the end. FULL says that the queue has no place left.
+// A rise takes a supporter from each account that was supported till now. A row dated on the new time or later, or
+// behind the range, takes none. Where days are counted, each row whose time moves with it is taken off its day, and
+// all of them are counted on the new one at the end. FULL says that the queue has no place left.
 pub(crate) fn drop_supported(
     days: &[u16],
     first: &[u16],

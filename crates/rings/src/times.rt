@@ -26,7 +26,8 @@ use crate::slices::clear;
 use crate::slices::entry;
 use crate::table::rows_before;
 
-// The core time of row j: never outside the window's rows, else the greatest of its accounts' core times and its own day.
+// The core time of row j: never outside the window's rows, else the greatest of its accounts' core times and its own
+// day.
 pub(crate) fn row_time(
     days: &[u16],
     first: &[u16],

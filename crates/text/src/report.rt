@@ -1,4 +1,5 @@
-// What a reader tells a host in numbers: 01's refusal number, 0 for none; its line, counted from 1, 0 where there is none; the rows read.
+// What a reader tells a host in numbers: 01's refusal number, 0 for none; its line, counted from 1, 0 where there is
+// none; the rows read.
 ghost use mathlib.Core.Path.{_≡_};
 ghost use Rattle.text.specs.Report.{tableReport, queryReport};
 use crate::lines::QueryRead;

@@ -1,4 +1,5 @@
-// The table reader: one pass that judges every line, and a second that writes the columns, so that a refusal leaves them as they were.
+// The table reader: one pass that judges every line, and a second that writes the columns, so that a refusal leaves
+// them as they were.
 ghost use mathlib.Core.Path.{_≡_};
 ghost use Prim.Native.Nat.{_+_, _<_, _^_, min};
 ghost use Rattle.text.specs.Line.{linesOf};
@@ -51,7 +52,8 @@ fn second_of(l: Line) -> u16
     }
 }
 
-// Where the line reader stays: at the text's end each line before is a row, and a faulty line refuses. A line is counted from 1.
+// Where the line reader stays: at the text's end each line before is a row, and a faulty line refuses. A line is
+// counted from 1.
 fn ended(l: Line, line: usize) -> TableRead
     requires { ⌜ line + 1 < 2 ^ 64 ⌝ }
     ensures { λ r. ⌜ r ≡ faultOr (line + 1) l (TableRead.Rows line) ⌝ }
@@ -65,7 +67,8 @@ fn ended(l: Line, line: usize) -> TableRead
     }
 }
 
-// The lowest faulty line, or the number of lines: the reader goes on until it stays. That it moved is asked, and not what it found: so the processor
+// The lowest faulty line, or the number of lines: the reader goes on until it stays. That it moved is asked, and not
+// what it found: so the processor
 // goes on to the next line before this one is judged.
 fn check_lines(text: &[u8]) -> TableRead
     ensures { λ r. ⌜ r ≡ judgedFrom 0 (linesOf (now (text .entry))) ⌝ }
