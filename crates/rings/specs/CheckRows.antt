@@ -1,6 +1,6 @@
 -- What stops a call, by rows under one theorem, proved by computation: 01's limits, and the order of the checks.
 --     row d a b                       a table of one row
---     frameOf                         01's example
+--     season                         01's example
 --     ask n                           the query k = n
 --     entry, two-entries minimal-window lists of one and of two entries, as lent columns
 --     CheckRows, check-rows-hold      the table, a field for each row, and the theorem
@@ -30,8 +30,8 @@ use Rattle.rings.specs.declared.refusal.Counted.{Counted}
 abbrev row : ℕ → ℕ → ℕ → Table
 row d a b = record { days = d ∷ []; first = a ∷ []; second = b ∷ [] }
 
-abbrev frameOf : Table
-frameOf = record { days = 1 ∷ 2 ∷ 2 ∷ 4 ∷ 5 ∷ 6 ∷ []; first = 1 ∷ 2 ∷ 1 ∷ 1 ∷ 3 ∷ 2 ∷ []; second = 2 ∷ 3 ∷ 3 ∷ 2 ∷ 4 ∷ 4 ∷ [] }
+abbrev season : Table
+season = record { days = 1 ∷ 2 ∷ 2 ∷ 4 ∷ 5 ∷ 6 ∷ []; first = 1 ∷ 2 ∷ 1 ∷ 1 ∷ 3 ∷ 2 ∷ []; second = 2 ∷ 3 ∷ 3 ∷ 2 ∷ 4 ∷ 4 ∷ [] }
 
 abbrev ask : ℕ → Query
 ask n = record { k = n }
@@ -60,45 +60,45 @@ pub record CheckRows : Type 0 where
   pub accounts-before-order : tableCheck (record { days = 2 ∷ 1 ∷ []; first = 1 ∷ 2 ∷ []; second = 2 ∷ 2 ∷ [] }) ≡ Refused (BadAccounts 1)
   -- Window ring: 6, 7, 8, 9 one after the other
   pub table-first : ringAnswer (row 0 0 1) (ask 0) 2 1 0 0 ≡ Counted.Refused (BadDay 0)
-  pub ring-6 : ringAnswer frameOf (ask 4096) 2 1 0 0 ≡ Counted.Refused BadK
-  pub ring-7 : ringAnswer frameOf (ask 2) 2 1 0 0 ≡ Counted.Refused BadWindow
-  pub ring-7-above : ringAnswer frameOf (ask 2) 1 1025 0 0 ≡ Counted.Refused BadWindow
-  pub ring-8 : ringAnswer frameOf (ask 2) 1 2 5 0 ≡ Counted.Refused BadLengths
-  pub ring-9 : ringAnswer frameOf (ask 2) 1 2 6 8215 ≡ Counted.Refused SmallScratch
-  pub ring-done : ringAnswer frameOf (ask 2) 1 2 6 8216 ≡ Counted.Count 3
+  pub ring-6 : ringAnswer season (ask 4096) 2 1 0 0 ≡ Counted.Refused BadK
+  pub ring-7 : ringAnswer season (ask 2) 2 1 0 0 ≡ Counted.Refused BadWindow
+  pub ring-7-above : ringAnswer season (ask 2) 1 1025 0 0 ≡ Counted.Refused BadWindow
+  pub ring-8 : ringAnswer season (ask 2) 1 2 5 0 ≡ Counted.Refused BadLengths
+  pub ring-9 : ringAnswer season (ask 2) 1 2 6 8215 ≡ Counted.Refused SmallScratch
+  pub ring-done : ringAnswer season (ask 2) 1 2 6 8216 ≡ Counted.Count 3
   -- 9 keeps every buffer; success leaves the scratch 0, the whole of a longer one
-  pub kept-marks : ringMarks (ringAnswer frameOf (ask 2) 1 2 6 8215) frameOf (ask 2) 1 2 (replicate 6 9) ≡ replicate 6 9
-  pub kept-scratch : countedScratch (ringAnswer frameOf (ask 2) 1 2 6 3) (replicate 3 9) ≡ replicate 3 9
-  pub whole-scratch : countedScratch (ringAnswer frameOf (ask 2) 1 2 6 8300) (replicate 8300 9) ≡ replicate 8300 0
+  pub kept-marks : ringMarks (ringAnswer season (ask 2) 1 2 6 8215) season (ask 2) 1 2 (replicate 6 9) ≡ replicate 6 9
+  pub kept-scratch : countedScratch (ringAnswer season (ask 2) 1 2 6 3) (replicate 3 9) ≡ replicate 3 9
+  pub whole-scratch : countedScratch (ringAnswer season (ask 2) 1 2 6 8300) (replicate 8300 9) ≡ replicate 8300 0
   -- Core times: 7 is about the range and the start; 8 about both columns
-  pub times-7-before : timesAnswer frameOf (ask 2) 2 6 1 4096 6 8216 ≡ Refused BadWindow
-  pub times-7-after : timesAnswer frameOf (ask 2) 1 5 6 4096 6 8216 ≡ Refused BadWindow
-  pub times-8-accounts : timesAnswer frameOf (ask 2) 1 6 1 4095 6 8216 ≡ Refused BadLengths
-  pub times-8-rows : timesAnswer frameOf (ask 2) 1 6 1 4096 7 0 ≡ Refused BadLengths
-  pub times-9 : timesAnswer frameOf (ask 2) 1 6 1 4096 6 8215 ≡ Refused SmallScratch
-  pub times-kept : rowColumn (Refused SmallScratch) frameOf (ask 2) 6 1 (replicate 6 9) ≡ replicate 6 9
-  pub times-scratch : verdictScratch (timesAnswer frameOf (ask 2) 1 6 1 4096 6 8215) (replicate 8215 9) ≡ replicate 8215 9
+  pub times-7-before : timesAnswer season (ask 2) 2 6 1 4096 6 8216 ≡ Refused BadWindow
+  pub times-7-after : timesAnswer season (ask 2) 1 5 6 4096 6 8216 ≡ Refused BadWindow
+  pub times-8-accounts : timesAnswer season (ask 2) 1 6 1 4095 6 8216 ≡ Refused BadLengths
+  pub times-8-rows : timesAnswer season (ask 2) 1 6 1 4096 7 0 ≡ Refused BadLengths
+  pub times-9 : timesAnswer season (ask 2) 1 6 1 4096 6 8215 ≡ Refused SmallScratch
+  pub times-kept : rowColumn (Refused SmallScratch) season (ask 2) 6 1 (replicate 6 9) ≡ replicate 6 9
+  pub times-scratch : verdictScratch (timesAnswer season (ask 2) 1 6 1 4096 6 8215) (replicate 8215 9) ≡ replicate 8215 9
   -- Minimal windows: 8 before 9, 9 before 10
-  pub minimal-8 : minimalAnswer frameOf (ask 2) 1 6 7 7 8 0 ≡ Counted.Refused BadLengths
-  pub minimal-9 : minimalAnswer frameOf (ask 2) 1 6 7 7 7 0 ≡ Counted.Refused SmallScratch
+  pub minimal-8 : minimalAnswer season (ask 2) 1 6 7 7 8 0 ≡ Counted.Refused BadLengths
+  pub minimal-9 : minimalAnswer season (ask 2) 1 6 7 7 7 0 ≡ Counted.Refused SmallScratch
   -- 10 leaves the scratch 0
-  pub minimal-10 : minimalAnswer frameOf (ask 2) 1 6 7 7 7 8216 ≡ Counted.Refused NoRoom
-  pub minimal-10-scratch : countedScratch (minimalAnswer frameOf (ask 2) 1 6 7 7 7 8216) (replicate 8216 9) ≡ replicate 8216 0
+  pub minimal-10 : minimalAnswer season (ask 2) 1 6 7 7 7 8216 ≡ Counted.Refused NoRoom
+  pub minimal-10-scratch : countedScratch (minimalAnswer season (ask 2) 1 6 7 7 7 8216) (replicate 8216 9) ≡ replicate 8216 0
   -- Recall: 8, then 14 at the first wrong entry, then 7
-  pub recall-8 : recallAnswer frameOf (entry 6 1 2) 2 1 5 ≡ Refused BadLengths
-  pub recall-14-row : recallAnswer frameOf (entry 6 1 2) 2 1 6 ≡ Refused (BadEntry 0)
-  pub recall-14-start : recallAnswer frameOf (entry 0 0 2) 1 6 6 ≡ Refused (BadEntry 0)
-  pub recall-14-day : recallAnswer frameOf (entry 3 1 3) 1 6 6 ≡ Refused (BadEntry 0)
-  pub recall-14-end : recallAnswer frameOf (entry 0 1 1025) 1 6 6 ≡ Refused (BadEntry 0)
-  pub recall-14-falling : recallAnswer frameOf (two-entries 1 1 2 0 1 2) 1 6 6 ≡ Refused (BadEntry 1)
-  pub recall-14-same-start : recallAnswer frameOf (two-entries 1 1 2 1 1 4) 1 6 6 ≡ Refused (BadEntry 1)
-  pub recall-14-same-end : recallAnswer frameOf (two-entries 1 1 4 1 2 4) 1 6 6 ≡ Refused (BadEntry 1)
-  pub recall-7 : recallAnswer frameOf (two-entries 1 1 2 1 2 4) 2 1 6 ≡ Refused BadWindow
-  pub recall-empty-list : recallMarks (recallAnswer frameOf (record { rows = []; starts = []; ends = [] }) 1 6 6) frameOf (record { rows = []; starts = []; ends = [] }) 1 6 (replicate 6 9) ≡ replicate 6 0
+  pub recall-8 : recallAnswer season (entry 6 1 2) 2 1 5 ≡ Refused BadLengths
+  pub recall-14-row : recallAnswer season (entry 6 1 2) 2 1 6 ≡ Refused (BadEntry 0)
+  pub recall-14-start : recallAnswer season (entry 0 0 2) 1 6 6 ≡ Refused (BadEntry 0)
+  pub recall-14-day : recallAnswer season (entry 3 1 3) 1 6 6 ≡ Refused (BadEntry 0)
+  pub recall-14-end : recallAnswer season (entry 0 1 1025) 1 6 6 ≡ Refused (BadEntry 0)
+  pub recall-14-falling : recallAnswer season (two-entries 1 1 2 0 1 2) 1 6 6 ≡ Refused (BadEntry 1)
+  pub recall-14-same-start : recallAnswer season (two-entries 1 1 2 1 1 4) 1 6 6 ≡ Refused (BadEntry 1)
+  pub recall-14-same-end : recallAnswer season (two-entries 1 1 4 1 2 4) 1 6 6 ≡ Refused (BadEntry 1)
+  pub recall-7 : recallAnswer season (two-entries 1 1 2 1 2 4) 2 1 6 ≡ Refused BadWindow
+  pub recall-empty-list : recallMarks (recallAnswer season (record { rows = []; starts = []; ends = [] }) 1 6 6) season (record { rows = []; starts = []; ends = [] }) 1 6 (replicate 6 9) ≡ replicate 6 0
   -- Mistake: "counting rows as neighbours". Two rows of one pair, k = 2
   pub one-neighbour : ringAnswer (record { days = 1 ∷ 2 ∷ []; first = 1 ∷ 1 ∷ []; second = 2 ∷ 2 ∷ [] }) (ask 2) 1 2 2 8200 ≡ Counted.Count 0
   -- Mistake: "a row's time from its accounts alone: row 3 at start 1 would have 2"
-  pub own-day : rowTime frameOf (ask 2) 6 1 3 ≡ 4
+  pub own-day : rowTime season (ask 2) 6 1 3 ≡ 4
 
 pub check-rows-hold : CheckRows
 unfolding compute
@@ -155,19 +155,19 @@ says n p = record { number = n; place = p; count = 0 }
 
 -- 01: "A refusal is a number and a place: a row for 3, 4, 5; a list entry from 0 for 14; .. else 0". 0 is none, with the count
 pub record CallNumbers : Type 0 where
-  pub number-0 : countedReport (ringAnswer frameOf (ask 2) 1 2 6 8216) ≡ record { number = 0; place = 0; count = 3 }
+  pub number-0 : countedReport (ringAnswer season (ask 2) 1 2 6 8216) ≡ record { number = 0; place = 0; count = 3 }
   pub number-1 : verdictReport (tableCheck (record { days = 1 ∷ []; first = 1 ∷ []; second = [] })) ≡ says 1 0
   pub number-2 : verdictReport (tableCheck (record { days = replicate 16385 1; first = replicate 16385 1; second = replicate 16385 2 })) ≡ says 2 0
   pub number-3 : verdictReport (tableCheck (record { days = 1 ∷ 1025 ∷ []; first = 1 ∷ 1 ∷ []; second = 2 ∷ 2 ∷ [] })) ≡ says 3 1
   pub number-4 : verdictReport (tableCheck (record { days = 1 ∷ 1 ∷ 1 ∷ []; first = 1 ∷ 1 ∷ 2 ∷ []; second = 2 ∷ 2 ∷ 2 ∷ [] })) ≡ says 4 2
   pub number-5 : verdictReport (tableCheck (record { days = 1 ∷ 3 ∷ 2 ∷ []; first = 1 ∷ 1 ∷ 1 ∷ []; second = 2 ∷ 2 ∷ 2 ∷ [] })) ≡ says 5 2
   -- "k = 0 gives 6"
-  pub number-6 : countedReport (ringAnswer frameOf (ask 0) 1 6 6 8216) ≡ says 6 0
-  pub number-7 : verdictReport (timesAnswer frameOf (ask 2) 2 6 1 4096 6 8216) ≡ says 7 0
-  pub number-8 : countedReport (ringAnswer frameOf (ask 2) 1 2 5 8216) ≡ says 8 0
-  pub number-9 : verdictReport (timesAnswer frameOf (ask 2) 1 6 1 4096 6 8215) ≡ says 9 0
-  pub number-10 : countedReport (minimalAnswer frameOf (ask 2) 1 6 0 0 0 8216) ≡ says 10 0
-  pub number-14 : verdictReport (recallAnswer frameOf (two-entries 1 1 2 0 1 2) 1 6 6) ≡ says 14 1
+  pub number-6 : countedReport (ringAnswer season (ask 0) 1 6 6 8216) ≡ says 6 0
+  pub number-7 : verdictReport (timesAnswer season (ask 2) 2 6 1 4096 6 8216) ≡ says 7 0
+  pub number-8 : countedReport (ringAnswer season (ask 2) 1 2 5 8216) ≡ says 8 0
+  pub number-9 : verdictReport (timesAnswer season (ask 2) 1 6 1 4096 6 8215) ≡ says 9 0
+  pub number-10 : countedReport (minimalAnswer season (ask 2) 1 6 0 0 0 8216) ≡ says 10 0
+  pub number-14 : verdictReport (recallAnswer season (two-entries 1 1 2 0 1 2) 1 6 6) ≡ says 14 1
 
 pub call-numbers-hold : CallNumbers
 unfolding compute
