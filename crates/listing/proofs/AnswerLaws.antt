@@ -21,7 +21,7 @@ use Rattle.rings.specs.TableCheck.{dayBefore, rowFaults, rowCheck, tableCheck}
 use Rattle.rings.specs.Buffers.{over}
 use Rattle.rings.specs.declared.Query.{Query}
 use Rattle.rings.specs.declared.refusal.Refusal.{Refusal}
-use Rattle.rings.specs.declared.refusal.Refusal.the-variants.{UnequalColumns, TooManyRows, BadDay, BadAccounts, OutOfOrder, BadK, BadWindow, BadLengths, SmallScratch, NoRoom}
+use Rattle.rings.specs.declared.refusal.Refusal.the-variants.{ColumnsDiffer, TooLarge, BadDay, BadAccounts, DayFalls, BadK, BadRange, BadLength, Scratch, NoRoom}
 use Rattle.rings.specs.declared.refusal.Told.{Told}
 use Rattle.rings.specs.declared.refusal.Verdict.{Verdict}
 use Rattle.rings.specs.declared.refusal.Verdict.the-variants.{Accepted, Refused}
@@ -79,16 +79,16 @@ low-order m f i (suc n) l h = low-then m (f i) (inOrder (tabulate f (suc i) n)) 
 low-row : (n j before day a b : ℕ) → j < n → Low n (rowFaults j before day a b)
 unfolding rowFaults placeOf
 low-row n j before day a b h =
-    low-then n (BadDay j when no (leb 1 day and leb day 1024)) (BadAccounts j when ltb 4095 b or no (ltb a b) then OutOfOrder j when ltb day before)
+    low-then n (BadDay j when no (leb 1 day and leb day 1024)) (BadAccounts j when ltb 4095 b or no (ltb a b) then DayFalls j when ltb day before)
     (low-when n (BadDay j) (no (leb 1 day and leb day 1024)) (omega arith))
-    (low-then n (BadAccounts j when ltb 4095 b or no (ltb a b)) (OutOfOrder j when ltb day before) (low-when n (BadAccounts j) (ltb 4095 b or no (ltb a b)) (omega arith)) (low-when n (OutOfOrder j) (ltb day before) (omega arith)))
+    (low-then n (BadAccounts j when ltb 4095 b or no (ltb a b)) (DayFalls j when ltb day before) (low-when n (BadAccounts j) (ltb 4095 b or no (ltb a b)) (omega arith)) (low-when n (DayFalls j) (ltb day before) (omega arith)))
 
 low-table : (t : Table) → Low (size t) (tableCheck t)
 unfolding tableCheck rowCheck placeOf
 low-table t =
-    low-then (size t) (UnequalColumns when no (eqb (length (t .first)) (size t) and eqb (length (t .second)) (size t))) (TooManyRows when ltb 16384 (size t) then inOrder (tabulate (rowCheck t) 0 (size t)))
-    (low-when (size t) UnequalColumns (no (eqb (length (t .first)) (size t) and eqb (length (t .second)) (size t))) (omega arith))
-    (low-then (size t) (TooManyRows when ltb 16384 (size t)) (inOrder (tabulate (rowCheck t) 0 (size t))) (low-when (size t) TooManyRows (ltb 16384 (size t)) (omega arith))
+    low-then (size t) (ColumnsDiffer when no (eqb (length (t .first)) (size t) and eqb (length (t .second)) (size t))) (TooLarge when ltb 16384 (size t) then inOrder (tabulate (rowCheck t) 0 (size t)))
+    (low-when (size t) ColumnsDiffer (no (eqb (length (t .first)) (size t) and eqb (length (t .second)) (size t))) (omega arith))
+    (low-then (size t) (TooLarge when ltb 16384 (size t)) (inOrder (tabulate (rowCheck t) 0 (size t))) (low-when (size t) TooLarge (ltb 16384 (size t)) (omega arith))
     (low-order (size t) (rowCheck t) 0 (size t) (omega arith) (λ j h. low-row (size t) j (dayBefore t j) (dayOf t j) (firstOf t j) (secondOf t j) h)))
 
 low-query : (n : ℕ) (q : Query) → Low n (queryCheck q)
@@ -97,15 +97,15 @@ low-query n q = low-when n BadK (no (leb 1 (q .k) and leb (q .k) 4095)) (omega a
 
 low-range : (n lo hi : ℕ) → Low n (rangeCheck lo hi)
 unfolding rangeCheck placeOf
-low-range n lo hi = low-when n BadWindow (no (leb 1 lo and leb lo hi and leb hi 1024)) (omega arith)
+low-range n lo hi = low-when n BadRange (no (leb 1 lo and leb lo hi and leb hi 1024)) (omega arith)
 
 low-scratch : (n rows scratch : ℕ) → Low n (scratchCheck rows scratch)
 unfolding scratchCheck placeOf
-low-scratch n rows scratch = low-when n SmallScratch (ltb scratch (8192 + 4 * rows)) (omega arith)
+low-scratch n rows scratch = low-when n Scratch (ltb scratch (8192 + 4 * rows)) (omega arith)
 
-low-lengths : (n : ℕ) (b : Bool) → Low n (BadLengths when b)
+low-lengths : (n : ℕ) (b : Bool) → Low n (BadLength when b)
 unfolding placeOf
-low-lengths n b = low-when n BadLengths b (omega arith)
+low-lengths n b = low-when n BadLength b (omega arith)
 
 low-room : (n : ℕ) (b : Bool) → Low n (NoRoom when b)
 unfolding placeOf
@@ -134,7 +134,7 @@ rings-room t q lo hi places scratch e =
     let e₁ = accepted-right (tableCheck t) _ e in
     let e₂ = accepted-right (queryCheck q) _ e₁ in
     let e₃ = accepted-right (rangeCheck lo hi) _ e₂ in
-    let e₄ = accepted-right (BadLengths when no (eqb (places .ends) (places .starts) and eqb (places .rows) (places .starts))) _ e₃ in
+    let e₄ = accepted-right (BadLength when no (eqb (places .ends) (places .starts) and eqb (places .rows) (places .starts))) _ e₃ in
     let e₅ = accepted-right (scratchCheck (size t) scratch) _ e₄ in
     ltb-false (places .starts) (length (listing t q lo hi)) (when-accepted NoRoom (ltb (places .starts) (length (listing t q lo hi))) e₅)
 

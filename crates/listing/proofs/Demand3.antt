@@ -23,7 +23,7 @@ use Rattle.rings.specs.TableCheck.{tableCheck}
 use Rattle.rings.specs.MinimalWindowsCall.{minimalAnswer, minimalRows, minimalStarts, minimalEnds}
 use Rattle.rings.specs.RecallCall.{columnsOf, recallAnswer, recallMarks}
 use Rattle.rings.specs.declared.Query.{Query}
-use Rattle.rings.specs.declared.refusal.Refusal.the-variants.{BadLengths, NoRoom}
+use Rattle.rings.specs.declared.refusal.Refusal.the-variants.{BadLength, NoRoom}
 use Rattle.rings.specs.declared.refusal.Verdict.{Verdict}
 use Rattle.rings.specs.declared.refusal.Verdict.the-variants.{Accepted}
 use Rattle.rings.specs.declared.refusal.Counted.{Counted}
@@ -90,11 +90,11 @@ module _ (t : Table) (q : Query) (lo hi : ℕ) (table : tableCheck t ≡ Accepte
       then-accepted (queryCheck q then (rangeCheck lo hi then (lengths then (scratchCheck (size t) scratch then room)))) table
       ∙ (then-accepted (rangeCheck lo hi then (lengths then (scratchCheck (size t) scratch then room))) query
       ∙ (then-accepted (lengths then (scratchCheck (size t) scratch then room)) range
-      ∙ (then-accepted (scratchCheck (size t) scratch then room) (passes BadLengths (and-i (eq-eqb (places .ends) (places .starts) ee) (eq-eqb (places .rows) (places .starts) er)))
+      ∙ (then-accepted (scratchCheck (size t) scratch then room) (passes BadLength (and-i (eq-eqb (places .ends) (places .starts) ee) (eq-eqb (places .rows) (places .starts) er)))
       ∙ then-accepted room es)))
     where
       lengths : Verdict
-      lengths = BadLengths when no (eqb (places .ends) (places .starts) and eqb (places .rows) (places .starts))
+      lengths = BadLength when no (eqb (places .ends) (places .starts) and eqb (places .rows) (places .starts))
 
       room : Verdict
       room = NoRoom when ltb (places .starts) (length list)

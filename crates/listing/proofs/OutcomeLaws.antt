@@ -26,7 +26,7 @@ use Rattle.rings.specs.declared.refusal.Place.the-variants.{Nowhere, Row, Entry
 use Rattle.rings.specs.Buffers.{over}
 use Rattle.rings.specs.declared.Query.{Query}
 use Rattle.rings.specs.declared.refusal.Refusal.{Refusal}
-use Rattle.rings.specs.declared.refusal.Refusal.the-variants.{UnequalColumns, TooManyRows, BadDay, BadAccounts, OutOfOrder, BadK, BadWindow, BadLengths, SmallScratch, NoRoom, BadEntry}
+use Rattle.rings.specs.declared.refusal.Refusal.the-variants.{ColumnsDiffer, TooLarge, BadDay, BadAccounts, DayFalls, BadK, BadRange, BadLength, Scratch, NoRoom, BadEntry}
 use Rattle.listing.specs.Listing.{ListedRing, listing}
 use Rattle.listing.specs.ListingCall.{each, listingAnswer}
 use Rattle.listing.specs.Program.{Outcome, found, stopped, placeLine, inputLine, stoppedBy, unlessRefused, tableOf, fromList, listed, fromRows, badQuery, fromQuery, unlessLong, outcome}
@@ -59,15 +59,15 @@ stops n line a b = record { rings = omega arith; number = a; line = b }
 
 number-most : (r : Refusal) → numberOf r ≤ 14
 unfolding numberOf
-number-most UnequalColumns = omega arith
-number-most TooManyRows = omega arith
+number-most ColumnsDiffer = omega arith
+number-most TooLarge = omega arith
 number-most (BadDay j) = omega arith
 number-most (BadAccounts j) = omega arith
-number-most (OutOfOrder j) = omega arith
+number-most (DayFalls j) = omega arith
 number-most BadK = omega arith
-number-most BadWindow = omega arith
-number-most BadLengths = omega arith
-number-most SmallScratch = omega arith
+number-most BadRange = omega arith
+number-most BadLength = omega arith
+number-most Scratch = omega arith
 number-most NoRoom = omega arith
 number-most (BadEntry i) = omega arith
 
@@ -95,17 +95,17 @@ by-rows : (text : List ℕ) (q : Query) (lo hi : ℕ) (r : TableRead) → r ≡ 
 unfolding fromRows unlessRefused listed
 by-rows text q lo hi (TableRead.Rows n) e h =
     by-list (tableOf text) q lo hi (listingAnswer (tableOf text) q lo hi (each 2048) 12288) refl (omega (arith, rows-most text))
-by-rows text q lo hi (TableRead.LineLength n) e h = stops _ _ (omega arith) (omega (arith, reader-most n, place-lines text 1024 1024 1024 e))
-by-rows text q lo hi (TableRead.BrokenField n) e h = stops _ _ (omega arith) (omega (arith, reader-most n, place-lines text 1024 1024 1024 e))
-by-rows text q lo hi (TableRead.LargeNumber n) e h = stops _ _ (omega arith) (omega (arith, reader-most n, place-lines text 1024 1024 1024 e))
-by-rows text q lo hi TableRead.Room e h = stops _ _ (omega arith) (omega (arith, reader-most 0))
+by-rows text q lo hi (TableRead.BadLine n) e h = stops _ _ (omega arith) (omega (arith, reader-most n, place-lines text 1024 1024 1024 e))
+by-rows text q lo hi (TableRead.BadField n) e h = stops _ _ (omega arith) (omega (arith, reader-most n, place-lines text 1024 1024 1024 e))
+by-rows text q lo hi (TableRead.BadNumber n) e h = stops _ _ (omega arith) (omega (arith, reader-most n, place-lines text 1024 1024 1024 e))
+by-rows text q lo hi TableRead.NoRoom e h = stops _ _ (omega arith) (omega (arith, reader-most 0))
 
 by-query : (q : QueryRead) (text : List ℕ) → length text ≤ mostInput → Bounded (fromQuery q text)
 unfolding fromQuery badQuery
 by-query (QueryRead.Query k lo hi) text h = by-rows text (record { k = k }) lo hi (tableReadOf text 1024 1024 1024) refl h
-by-query QueryRead.BadLength text h = stops _ _ (omega arith) (omega arith)
+by-query QueryRead.BadLine text h = stops _ _ (omega arith) (omega arith)
 by-query QueryRead.BadField text h = stops _ _ (omega arith) (omega arith)
-by-query QueryRead.LargeNumber text h = stops _ _ (omega arith) (omega arith)
+by-query QueryRead.BadNumber text h = stops _ _ (omega arith) (omega arith)
 
 by-length : (input : List ℕ) (b : Bool) → ltb mostInput (length input) ≡ b → Bounded (unlessLong b (fromQuery (queryOf input) (drop queryBytes input)))
 unfolding unlessLong stoppedBy numberOf inputLine

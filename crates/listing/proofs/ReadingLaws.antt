@@ -31,7 +31,7 @@ use Rattle.text.proofs.Tests.{true-or-false}
 use Rattle.text.proofs.LineLaws.{step-none, step-short, whole-fits}
 use Rattle.text.proofs.RowsLaws.{column-length}
 use Rattle.rings.specs.Table.{tableOf as columns}
-use Rattle.rings.specs.declared.refusal.Refusal.the-variants.{TooManyRows}
+use Rattle.rings.specs.declared.refusal.Refusal.the-variants.{TooLarge}
 use Rattle.listing.specs.Program.{Outcome, stopped, readerLine, stoppedBy, unlessRefused, tableOf, listed, fromRows, badQuery, fromQuery, unlessLong, outcome}
 use Rattle.rings.specs.Ring.{query}
 use Rattle.listing.specs.ProgramSteps.{Readable, askedBy, rowsOf, asked, Asks}
@@ -59,25 +59,25 @@ lines-most (b ∷ bs) = omega (arith, picked b (linesOf bs) (eqb b 10), lines-mo
 fault-place : (n m : ℕ) (l : Line) (later : TableRead) → n ≤ m → place later ≤ m → place (faultOr n l later) ≤ m
 fault-place n m (Line.Row d a b) later h p = p
 fault-place n m Line.End later h p = p
-fault-place n m Line.BadLength later h p = h
+fault-place n m Line.BadLine later h p = h
 fault-place n m Line.BadField later h p = h
-fault-place n m Line.LargeNumber later h p = h
+fault-place n m Line.BadNumber later h p = h
 
 judged-place : (n : ℕ) (ls : List (List ℕ)) → place (judgedFrom n ls) ≤ n + length ls
 unfolding judgedFrom
 judged-place n [] = omega arith
 judged-place n (l ∷ ls) = fault-place (n + 1) (n + suc (length ls)) (rowOf l) (judgedFrom (n + 1) ls) (omega arith) (omega (arith, judged-place (n + 1) ls))
 
-room-choice : (b : Bool) (n : ℕ) → place (cond b (TableRead.Rows n) TableRead.Room) ≡ 0
+room-choice : (b : Bool) (n : ℕ) → place (cond b (TableRead.Rows n) TableRead.NoRoom) ≡ 0
 room-choice true n = refl
 room-choice false n = refl
 
 room-place : (room : ℕ) (r : TableRead) → place (roomFor room r) ≤ place r
 room-place room (TableRead.Rows n) = omega (arith, room-choice (leb n room) n)
-room-place room (TableRead.LineLength n) = omega arith
-room-place room (TableRead.BrokenField n) = omega arith
-room-place room (TableRead.LargeNumber n) = omega arith
-room-place room TableRead.Room = omega arith
+room-place room (TableRead.BadLine n) = omega arith
+room-place room (TableRead.BadField n) = omega arith
+room-place room (TableRead.BadNumber n) = omega arith
+room-place room TableRead.NoRoom = omega arith
 
 pub place-lines : (text : List ℕ) (d f s : ℕ) {r : TableRead} → r ≡ tableReadOf text d f s → place r ≤ length text
 unfolding tableReadOf
@@ -132,16 +132,16 @@ record Fitting (room n : ℕ) (r : TableRead) : Type 0 where
   fits : n ≤ room
   is : r ≡ TableRead.Rows n
 
-fitting : (room m n : ℕ) (b : Bool) → leb m room ≡ b → cond b (TableRead.Rows m) TableRead.Room ≡ TableRead.Rows n → Fitting room n (TableRead.Rows m)
+fitting : (room m n : ℕ) (b : Bool) → leb m room ≡ b → cond b (TableRead.Rows m) TableRead.NoRoom ≡ TableRead.Rows n → Fitting room n (TableRead.Rows m)
 fitting room m n true t e = let q : m ≡ n = cc in record { fits = omega (arith, leb-true m room t); is = ap TableRead.Rows q }
 fitting room m n false t e = absurd-eq (cc)
 
 room-rows : (room n : ℕ) (r : TableRead) → roomFor room r ≡ TableRead.Rows n → Fitting room n r
 room-rows room n (TableRead.Rows m) e = fitting room m n (leb m room) refl e
-room-rows room n (TableRead.LineLength m) e = absurd-eq (cc)
-room-rows room n (TableRead.BrokenField m) e = absurd-eq (cc)
-room-rows room n (TableRead.LargeNumber m) e = absurd-eq (cc)
-room-rows room n TableRead.Room e = absurd-eq (cc)
+room-rows room n (TableRead.BadLine m) e = absurd-eq (cc)
+room-rows room n (TableRead.BadField m) e = absurd-eq (cc)
+room-rows room n (TableRead.BadNumber m) e = absurd-eq (cc)
+room-rows room n TableRead.NoRoom e = absurd-eq (cc)
 
 -- a column's rows stand in front of it
 front : (values column : List ℕ) {now : List ℕ} (n : ℕ) → length values ≡ n → now ≡ values ++ drop n column → take n now ≡ values
@@ -157,10 +157,10 @@ module _ (text : List ℕ) (k lo hi : ℕ) (days first second : List ℕ) {days�
       let b : take n first′ ≡ firstsOf text = front (firstsOf text) first n (column-length text n (r .is) firstOf) f in
       let c : take n second′ ≡ secondsOf text = front (secondsOf text) second n (column-length text n (r .is) secondOf) s in
       record { most = r .fits; is = λ i. listed (record { days = sym a i; first = sym b i; second = sym c i }) (query k) lo hi }
-  by-answer (TableRead.LineLength n) e d f s = record { most = omega arith; is = refl }
-  by-answer (TableRead.BrokenField n) e d f s = record { most = omega arith; is = refl }
-  by-answer (TableRead.LargeNumber n) e d f s = record { most = omega arith; is = refl }
-  by-answer TableRead.Room e d f s = record { most = omega arith; is = refl }
+  by-answer (TableRead.BadLine n) e d f s = record { most = omega arith; is = refl }
+  by-answer (TableRead.BadField n) e d f s = record { most = omega arith; is = refl }
+  by-answer (TableRead.BadNumber n) e d f s = record { most = omega arith; is = refl }
+  by-answer TableRead.NoRoom e d f s = record { most = omega arith; is = refl }
 
   pub rows-asked : (r : TableRead) {a : Asked} → r ≡ tableReadOf text (length days) (length first) (length second) → Readable text days first second
       → days′ ≡ filled r (daysOf text) days → first′ ≡ filled r (firstsOf text) first → second′ ≡ filled r (secondsOf text) second → a ≡ askedBy r k lo hi
@@ -171,7 +171,7 @@ module _ (text : List ℕ) (k lo hi : ℕ) (days first second : List ℕ) {days�
 
 -- ---- the query line
 
-no-query : {A : Type 0} (k lo hi : ℕ) → QueryRead.BadLength ≡ QueryRead.Query k lo hi → A
+no-query : {A : Type 0} (k lo hi : ℕ) → QueryRead.BadLine ≡ QueryRead.Query k lo hi → A
 no-query k lo hi e = absurd-eq (cc)
 
 pub query-fits : (s : List ℕ) (k lo hi : ℕ) → queryOf s ≡ QueryRead.Query k lo hi → queryBytes ≤ length s
@@ -206,7 +206,7 @@ module _ (input : List ℕ) (short : length input ≤ mostInput) where
   asks-none q e t h w =
       rw w (record { most = omega arith; is = by-query e ∙ (ap (λ (x : QueryRead). fromQuery x (drop queryBytes input)) t ∙ (h ∙ ap badQuery (sym t))) })
 
-pub too-long : (input : List ℕ) → mostInput < length input → outcome input ≡ stoppedBy TooManyRows
+pub too-long : (input : List ℕ) → mostInput < length input → outcome input ≡ stoppedBy TooLarge
 unfolding outcome unlessLong
 too-long input h = rw (lt-ltb mostInput (length input) h)
 

@@ -23,7 +23,7 @@ use Rattle.rings.specs.Checks.{_when_, _then_, queryCheck, rangeCheck, scratchC
 use Rattle.rings.specs.Buffers.{over, cleared, scratchOn}
 use Rattle.rings.specs.TableCheck.{tableCheck}
 use Rattle.rings.specs.declared.Query.{Query}
-use Rattle.rings.specs.declared.refusal.Refusal.the-variants.{BadLengths, NoRoom}
+use Rattle.rings.specs.declared.refusal.Refusal.the-variants.{BadLength, NoRoom}
 use Rattle.rings.specs.declared.refusal.Verdict.{Verdict}
 use Rattle.listing.specs.Listing.{ListedRing, listing, rowSum}
 use Rattle.listing.specs.declared.Listed.{Listed}
@@ -57,7 +57,7 @@ listingChecks t q lo hi places scratch =
     tableCheck t
     then queryCheck q
     then rangeCheck lo hi
-    then BadLengths when no (eqb (places .ends) (places .starts) and eqb (places .rows) (places .starts))
+    then BadLength when no (eqb (places .ends) (places .starts) and eqb (places .rows) (places .starts))
     then scratchCheck (size t) scratch
     then NoRoom when ltb (places .starts) (length (listing t q lo hi))
 

@@ -29,7 +29,7 @@ use Rattle.rings.specs.Table.{Table}
 use Rattle.rings.specs.Refusals.{ruleOf, numberOf}
 use Rattle.rings.specs.declared.Query.{Query}
 use Rattle.rings.specs.declared.refusal.Refusal.{Refusal}
-use Rattle.rings.specs.declared.refusal.Refusal.the-variants.{TooManyRows}
+use Rattle.rings.specs.declared.refusal.Refusal.the-variants.{TooLarge}
 use Rattle.rings.specs.declared.refusal.Place.{Place}
 use Rattle.rings.specs.declared.refusal.Place.the-variants.{Nowhere, Row, Entry}
 use Rattle.listing.specs.Listing.{ListedRing, listing}
@@ -86,13 +86,13 @@ badQuery a = stopped (queryNumber a) (queryPlace a)
 -- there is room for them
 unfoldable pub fromQuery : QueryRead → List ℕ → Outcome
 fromQuery (QueryRead.Query k lo hi) rows = fromRows (tableReadOf rows 1024 1024 1024) (tableOf rows) (record { k = k }) lo hi
-fromQuery QueryRead.BadLength rows = badQuery QueryRead.BadLength
+fromQuery QueryRead.BadLine rows = badQuery QueryRead.BadLine
 fromQuery QueryRead.BadField rows = badQuery QueryRead.BadField
-fromQuery QueryRead.LargeNumber rows = badQuery QueryRead.LargeNumber
+fromQuery QueryRead.BadNumber rows = badQuery QueryRead.BadNumber
 
 -- 01: "Over 18,448 bytes: refusal 2, place 0, before any line is read"
 unfoldable pub unlessLong : Bool → Outcome → Outcome
-unlessLong true o = stoppedBy TooManyRows
+unlessLong true o = stoppedBy TooLarge
 unlessLong false o = o
 
 -- 01: "a query line of 16 bytes .., then rows"

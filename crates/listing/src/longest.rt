@@ -1047,13 +1047,13 @@ pub fn longest_list(ts: u16, te: u16) -> Counted
     ensures { λ r. ⌜ r ≡ longestAnswer ts te ⌝ }
 {
     if ts < 1 {
-        return Counted::Refused(Refusal::BadWindow);
+        return Counted::Refused(Refusal::BadRange);
     }
     if te < ts {
-        return Counted::Refused(Refusal::BadWindow);
+        return Counted::Refused(Refusal::BadRange);
     }
     if 1024 < te {
-        return Counted::Refused(Refusal::BadWindow);
+        return Counted::Refused(Refusal::BadRange);
     }
     let days = (te - ts + 1) as usize;
     Counted::Count(most(days) as usize)

@@ -144,13 +144,13 @@ fn read_input(input: &[u8], days: &mut [u16], first: &mut [u16], second: &mut [u
         QueryRead::Query(k, ts, te) => {
             return read_rows(&input[QUERY_BYTES..], k, ts, te, days, first, second);
         }
-        QueryRead::BadLength => {
+        QueryRead::BadLine => {
             return bad_query(line);
         }
         QueryRead::BadField => {
             return bad_query(line);
         }
-        QueryRead::LargeNumber => {
+        QueryRead::BadNumber => {
             return bad_query(line);
         }
     }
@@ -243,7 +243,7 @@ pub fn list_text(input: &[u8], output: &mut [u8]) -> Printed
     ensures { λ r. ⌜ now (output .exit) ≡ listOutput r (outcome (now (input .entry))) (now (output .entry)) ⌝ }
 {
     if MOST_INPUT < input.len() {
-        return refused(Refusal::TooManyRows);
+        return refused(Refusal::TooLarge);
     }
     let mut days = [0u16; MOST_ROWS];
     let mut first = [0u16; MOST_ROWS];

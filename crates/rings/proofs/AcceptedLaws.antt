@@ -21,7 +21,7 @@ use Rattle.rings.specs.Refusals.{behindScratch}
 use Rattle.rings.specs.Buffers.{clearedIf, scratchOn}
 use Rattle.rings.specs.declared.Query.{Query}
 use Rattle.rings.specs.declared.refusal.Refusal.{Refusal}
-use Rattle.rings.specs.declared.refusal.Refusal.the-variants.{BadK, BadWindow, BadLengths, SmallScratch}
+use Rattle.rings.specs.declared.refusal.Refusal.the-variants.{BadK, BadRange, BadLength, Scratch}
 use Rattle.rings.specs.declared.refusal.Verdict.{Verdict}
 use Rattle.rings.specs.declared.refusal.Verdict.the-variants.{Accepted, Refused}
 use Rattle.rings.proofs.WordLaws.{and-l, and-r}
@@ -30,7 +30,7 @@ use Rattle.rings.proofs.TableLaws.{table-sound}
 
 -- the shared checks
 abbrev pub shared : Table → Query → Bool → Bool → ℕ → Verdict
-shared t q window lengths scratch = tableCheck t then queryCheck q then BadWindow when no window then BadLengths when no lengths then scratchCheck (length (t .days)) scratch
+shared t q window lengths scratch = tableCheck t then queryCheck q then BadRange when no window then BadLength when no lengths then scratchCheck (length (t .days)) scratch
 
 scratch-on : (r : Refusal) (sc : List ℕ) → behindScratch r ≡ false → sc ≡ scratchOn r sc
 unfolding scratchOn clearedIf
@@ -46,16 +46,16 @@ unfolding _then_
 then-assoc Accepted w x = refl
 then-assoc (Refused r) w x = refl
 
-pub then-room : (t : Table) (q : Query) (window lengths : Bool) (n : ℕ) (w : Verdict) → shared t q window lengths n then w ≡ (tableCheck t then queryCheck q then BadWindow when no window then BadLengths when no lengths then scratchCheck (length (t .days)) n then w)
+pub then-room : (t : Table) (q : Query) (window lengths : Bool) (n : ℕ) (w : Verdict) → shared t q window lengths n then w ≡ (tableCheck t then queryCheck q then BadRange when no window then BadLength when no lengths then scratchCheck (length (t .days)) n then w)
 then-room t q window lengths n w =
     then-assoc (tableCheck t) (queryCheck q then b then c then d) w
     ∙ ap (λ (v : Verdict). tableCheck t then v) (then-assoc (queryCheck q) (b then c then d) w ∙ ap (λ (v : Verdict). queryCheck q then v) (then-assoc b (c then d) w ∙ ap (λ (v : Verdict). b then v) (then-assoc c d w)))
   where
     b : Verdict
-    b = BadWindow when no window
+    b = BadRange when no window
 
     c : Verdict
-    c = BadLengths when no lengths
+    c = BadLength when no lengths
 
     d : Verdict
     d = scratchCheck (length (t .days)) n
@@ -63,15 +63,15 @@ then-room t q window lengths n w =
 -- ---- what an accepted call says
 
 module _ (d f s : List ℕ) (q : Query) (window lengths : Bool) (scratch : ℕ)
-    (e : tableCheck (tableOf d f s) then queryCheck q then BadWindow when no window then BadLengths when no lengths then scratchCheck (length d) scratch ≡ Accepted) where
+    (e : tableCheck (tableOf d f s) then queryCheck q then BadRange when no window then BadLength when no lengths then scratchCheck (length d) scratch ≡ Accepted) where
   rest₁ : Verdict
-  rest₁ = BadWindow when no window then BadLengths when no lengths then scratchCheck (length d) scratch
+  rest₁ = BadRange when no window then BadLength when no lengths then scratchCheck (length d) scratch
 
   rest₂ : Verdict
-  rest₂ = BadLengths when no lengths then scratchCheck (length d) scratch
+  rest₂ = BadLength when no lengths then scratchCheck (length d) scratch
 
   abbrev after₁ : Verdict
-  after₁ = queryCheck q then BadWindow when no window then BadLengths when no lengths then scratchCheck (length d) scratch
+  after₁ = queryCheck q then BadRange when no window then BadLength when no lengths then scratchCheck (length d) scratch
 
   pub call-sound : Sound d f s
   call-sound = table-sound d f s (accepted-left (tableCheck (tableOf d f s)) after₁ e)
@@ -85,24 +85,24 @@ module _ (d f s : List ℕ) (q : Query) (window lengths : Bool) (scratch : ℕ)
       let h = passed BadK (leb 1 (q .k) and leb (q .k) 4095) (accepted-left (queryCheck q) rest₁ e₁) in
       (leb-true 1 (q .k) (and-l (leb 1 (q .k)) (leb (q .k) 4095) h), leb-true (q .k) 4095 (and-r (leb 1 (q .k)) (leb (q .k) 4095) h))
 
-  e₂ : BadWindow when no window then BadLengths when no lengths then scratchCheck (length d) scratch ≡ Accepted
+  e₂ : BadRange when no window then BadLength when no lengths then scratchCheck (length d) scratch ≡ Accepted
   unfolding rest₁
   e₂ = accepted-right (queryCheck q) rest₁ e₁
 
   pub call-window : window ≡ true
   unfolding rest₂
-  call-window = passed BadWindow window (accepted-left (BadWindow when no window) rest₂ e₂)
+  call-window = passed BadRange window (accepted-left (BadRange when no window) rest₂ e₂)
 
-  e₃ : BadLengths when no lengths then scratchCheck (length d) scratch ≡ Accepted
+  e₃ : BadLength when no lengths then scratchCheck (length d) scratch ≡ Accepted
   unfolding rest₂
-  e₃ = accepted-right (BadWindow when no window) rest₂ e₂
+  e₃ = accepted-right (BadRange when no window) rest₂ e₂
 
   pub call-lengths : lengths ≡ true
-  call-lengths = passed BadLengths lengths (accepted-left (BadLengths when no lengths) (scratchCheck (length d) scratch) e₃)
+  call-lengths = passed BadLength lengths (accepted-left (BadLength when no lengths) (scratchCheck (length d) scratch) e₃)
 
   pub call-scratch : 8192 + 4 * length d ≤ scratch
   unfolding scratchCheck
-  call-scratch = ltb-false scratch (8192 + 4 * length d) (when-accepted SmallScratch (ltb scratch (8192 + 4 * length d)) (accepted-right (BadLengths when no lengths) (scratchCheck (length d) scratch) e₃))
+  call-scratch = ltb-false scratch (8192 + 4 * length d) (when-accepted Scratch (ltb scratch (8192 + 4 * length d)) (accepted-right (BadLength when no lengths) (scratchCheck (length d) scratch) e₃))
 
 -- a window that passed
 pub window-e : (s e : ℕ) {b : Bool} → b ≡ (leb 1 s and leb s e and leb e 1024) → b ≡ true → (1 ≤ s) × (s ≤ e) × (e ≤ 1024)
@@ -113,7 +113,7 @@ window-e s e h y =
 
 pub range-e : (s e : ℕ) → rangeCheck s e ≡ Accepted → (1 ≤ s) × (s ≤ e) × (e ≤ 1024)
 unfolding rangeCheck
-range-e s e h = window-e s e refl (passed BadWindow (leb 1 s and leb s e and leb e 1024) h)
+range-e s e h = window-e s e refl (passed BadRange (leb 1 s and leb s e and leb e 1024) h)
 
 -- a start in its range
 pub start-e : (lo s hi : ℕ) {b : Bool} → b ≡ (leb 1 lo and leb lo s and leb s hi and leb hi 1024) → b ≡ true → (s ≤ hi) × (hi ≤ 1024)

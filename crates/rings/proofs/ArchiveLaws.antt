@@ -27,7 +27,7 @@ use Rattle.rings.specs.TableCheck.{tableCheck}
 use Rattle.rings.specs.MinimalWindowsCall.{minimalChecks, minimalAnswer, entryColumn, minimalRows, minimalStarts, minimalEnds}
 use Rattle.rings.specs.RecallCall.{Columns, columnsOf, entryAt, comesAfter, inPlace, fits, entryCheck, recallAnswer, recallMarks}
 use Rattle.rings.specs.declared.Query.{Query}
-use Rattle.rings.specs.declared.refusal.Refusal.the-variants.{BadWindow, BadLengths, BadEntry}
+use Rattle.rings.specs.declared.refusal.Refusal.the-variants.{BadRange, BadLength, BadEntry}
 use Rattle.rings.specs.declared.refusal.Verdict.{Verdict}
 use Rattle.rings.specs.declared.refusal.Verdict.the-variants.{Accepted}
 use Rattle.rings.specs.declared.refusal.Counted.{Counted}
@@ -142,11 +142,11 @@ module _ (t : Table) (q : Query) (lo hi : ℕ) (one : 1 ≤ lo) (top : hi ≤ 10
     unfolding recallAnswer rangeCheck
     archive-accepted h =
         then-accepted (lengths then (listed then range)) h
-        ∙ (then-accepted (listed then range) (passes BadLengths (and-i (eq-eqb (length starts) (length rows) (A .as-many-starts)) (and-i (eq-eqb (length ends) (length rows) (A .as-many-ends)) (eq-eqb (size t) (size t) refl))))
-        ∙ (then-accepted range entries-pass ∙ passes BadWindow (and-i (le-leb 1 s (omega arith)) (and-i (le-leb s e order) (le-leb e 1024 (omega arith))))))
+        ∙ (then-accepted (listed then range) (passes BadLength (and-i (eq-eqb (length starts) (length rows) (A .as-many-starts)) (and-i (eq-eqb (length ends) (length rows) (A .as-many-ends)) (eq-eqb (size t) (size t) refl))))
+        ∙ (then-accepted range entries-pass ∙ passes BadRange (and-i (le-leb 1 s (omega arith)) (and-i (le-leb s e order) (le-leb e 1024 (omega arith))))))
       where
         lengths : Verdict
-        lengths = BadLengths when no (eqb (length starts) (length rows) and eqb (length ends) (length rows) and eqb (size t) (size t))
+        lengths = BadLength when no (eqb (length starts) (length rows) and eqb (length ends) (length rows) and eqb (size t) (size t))
 
         listed : Verdict
         listed = inOrder (tabulate (entryCheck t c) 0 (length rows))

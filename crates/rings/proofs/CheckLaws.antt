@@ -23,7 +23,7 @@ use Rattle.rings.specs.Refusals.{behindScratch}
 use Rattle.rings.specs.TableCheck.{dayBefore, rowFaults, rowCheck, tableCheck}
 use Rattle.rings.specs.declared.Query.{Query}
 use Rattle.rings.specs.declared.refusal.Refusal.{Refusal}
-use Rattle.rings.specs.declared.refusal.Refusal.the-variants.{UnequalColumns, TooManyRows, BadDay, BadAccounts, OutOfOrder, BadK, BadWindow, BadLengths, SmallScratch}
+use Rattle.rings.specs.declared.refusal.Refusal.the-variants.{ColumnsDiffer, TooLarge, BadDay, BadAccounts, DayFalls, BadK, BadRange, BadLength, Scratch}
 use Rattle.rings.specs.declared.refusal.Counted.{Counted}
 use Rattle.rings.specs.declared.refusal.Verdict.{Verdict}
 use Rattle.rings.specs.declared.refusal.Verdict.the-variants.{Accepted, Refused}
@@ -103,22 +103,22 @@ front-order f i (suc n) h = front-then (f i) (inOrder (tabulate f (suc i) n)) (h
 front-row : (t : Table) (j : ℕ) → Front (rowCheck t j)
 unfolding rowCheck rowFaults behindScratch
 front-row t j =
-    front-then (BadDay j when no (leb 1 (dayOf t j) and leb (dayOf t j) 1024)) (BadAccounts j when ltb 4095 (secondOf t j) or no (ltb (firstOf t j) (secondOf t j)) then OutOfOrder j when ltb (dayOf t j) (dayBefore t j)) (front-when (BadDay j) (no (leb 1 (dayOf t j) and leb (dayOf t j) 1024)) refl)
-    (front-then (BadAccounts j when ltb 4095 (secondOf t j) or no (ltb (firstOf t j) (secondOf t j))) (OutOfOrder j when ltb (dayOf t j) (dayBefore t j)) (front-when (BadAccounts j) (ltb 4095 (secondOf t j) or no (ltb (firstOf t j) (secondOf t j))) refl) (front-when (OutOfOrder j) (ltb (dayOf t j) (dayBefore t j)) refl))
+    front-then (BadDay j when no (leb 1 (dayOf t j) and leb (dayOf t j) 1024)) (BadAccounts j when ltb 4095 (secondOf t j) or no (ltb (firstOf t j) (secondOf t j)) then DayFalls j when ltb (dayOf t j) (dayBefore t j)) (front-when (BadDay j) (no (leb 1 (dayOf t j) and leb (dayOf t j) 1024)) refl)
+    (front-then (BadAccounts j when ltb 4095 (secondOf t j) or no (ltb (firstOf t j) (secondOf t j))) (DayFalls j when ltb (dayOf t j) (dayBefore t j)) (front-when (BadAccounts j) (ltb 4095 (secondOf t j) or no (ltb (firstOf t j) (secondOf t j))) refl) (front-when (DayFalls j) (ltb (dayOf t j) (dayBefore t j)) refl))
 
 pub front-table : (t : Table) → Front (tableCheck t)
 unfolding tableCheck behindScratch
 front-table t =
-    front-then (UnequalColumns when no (eqb (length (t .first)) (length (t .days)) and eqb (length (t .second)) (length (t .days)))) (TooManyRows when ltb 16384 (length (t .days)) then inOrder (tabulate (rowCheck t) 0 (length (t .days)))) (front-when UnequalColumns (no (eqb (length (t .first)) (length (t .days)) and eqb (length (t .second)) (length (t .days)))) refl)
-    (front-then (TooManyRows when ltb 16384 (length (t .days))) (inOrder (tabulate (rowCheck t) 0 (length (t .days)))) (front-when TooManyRows (ltb 16384 (length (t .days))) refl) (front-order (rowCheck t) 0 (length (t .days)) (front-row t)))
+    front-then (ColumnsDiffer when no (eqb (length (t .first)) (length (t .days)) and eqb (length (t .second)) (length (t .days)))) (TooLarge when ltb 16384 (length (t .days)) then inOrder (tabulate (rowCheck t) 0 (length (t .days)))) (front-when ColumnsDiffer (no (eqb (length (t .first)) (length (t .days)) and eqb (length (t .second)) (length (t .days)))) refl)
+    (front-then (TooLarge when ltb 16384 (length (t .days))) (inOrder (tabulate (rowCheck t) 0 (length (t .days)))) (front-when TooLarge (ltb 16384 (length (t .days))) refl) (front-order (rowCheck t) 0 (length (t .days)) (front-row t)))
 
-pub front-call : (t : Table) (q : Query) (window lengths : Bool) (rows scratch : ℕ) → Front (tableCheck t then queryCheck q then BadWindow when no window then BadLengths when no lengths then scratchCheck rows scratch)
+pub front-call : (t : Table) (q : Query) (window lengths : Bool) (rows scratch : ℕ) → Front (tableCheck t then queryCheck q then BadRange when no window then BadLength when no lengths then scratchCheck rows scratch)
 unfolding queryCheck scratchCheck behindScratch
 front-call t q window lengths rows scratch =
-    front-then (tableCheck t) (queryCheck q then BadWindow when no window then BadLengths when no lengths then scratchCheck rows scratch) (front-table t)
-    (front-then (queryCheck q) (BadWindow when no window then BadLengths when no lengths then scratchCheck rows scratch) (front-when BadK (no (leb 1 (q .k) and leb (q .k) 4095)) refl)
-    (front-then (BadWindow when no window) (BadLengths when no lengths then scratchCheck rows scratch) (front-when BadWindow (no window) refl)
-    (front-then (BadLengths when no lengths) (scratchCheck rows scratch) (front-when BadLengths (no lengths) refl) (front-when SmallScratch (ltb scratch (8192 + 4 * rows)) refl))))
+    front-then (tableCheck t) (queryCheck q then BadRange when no window then BadLength when no lengths then scratchCheck rows scratch) (front-table t)
+    (front-then (queryCheck q) (BadRange when no window then BadLength when no lengths then scratchCheck rows scratch) (front-when BadK (no (leb 1 (q .k) and leb (q .k) 4095)) refl)
+    (front-then (BadRange when no window) (BadLength when no lengths then scratchCheck rows scratch) (front-when BadRange (no window) refl)
+    (front-then (BadLength when no lengths) (scratchCheck rows scratch) (front-when BadLength (no lengths) refl) (front-when Scratch (ltb scratch (8192 + 4 * rows)) refl))))
 
 -- ---- the answer of a call that counts
 

@@ -29,7 +29,7 @@ use Rattle.rings.specs.CoreTimesCall.{timesAnswer, accountColumn, rowCol
 use Rattle.rings.specs.MinimalWindowsCall.{minimalChecks, minimalAnswer, entryColumn, minimalRows, minimalStarts, minimalEnds}
 use Rattle.rings.specs.RecallCall.{Columns, entryCheck, recallAnswer, recallMarks}
 use Rattle.rings.specs.declared.Query.{Query}
-use Rattle.rings.specs.declared.refusal.Refusal.the-variants.{BadWindow, BadLengths, NoRoom}
+use Rattle.rings.specs.declared.refusal.Refusal.the-variants.{BadRange, BadLength, NoRoom}
 use Rattle.rings.specs.declared.refusal.Verdict.{Verdict}
 use Rattle.rings.specs.declared.refusal.Verdict.the-variants.{Accepted}
 use Rattle.rings.specs.declared.refusal.Counted.{Counted}
@@ -222,11 +222,11 @@ module _ (t : Table) (q : Query) where
   unfolding timesAnswer
   times-passed lo hi s accountPlaces rowPlaces scratch h =
       let window = leb 1 lo and leb lo s and leb s hi and leb hi 1024 in
-      let rest = BadLengths when no (eqb accountPlaces 4096 and eqb rowPlaces (size t)) then scratchCheck (size t) scratch in
-      let h₁ = accepted-right (tableCheck t) (queryCheck q then BadWindow when no window then rest) h in
-      let h₂ = accepted-right (queryCheck q) (BadWindow when no window then rest) h₁ in
-      let inside = passed BadWindow window (accepted-left (BadWindow when no window) rest h₂) in
-      (accepted-left (tableCheck t) (queryCheck q then BadWindow when no window then rest) h, start-e lo s hi refl inside .1)
+      let rest = BadLength when no (eqb accountPlaces 4096 and eqb rowPlaces (size t)) then scratchCheck (size t) scratch in
+      let h₁ = accepted-right (tableCheck t) (queryCheck q then BadRange when no window then rest) h in
+      let h₂ = accepted-right (queryCheck q) (BadRange when no window then rest) h₁ in
+      let inside = passed BadRange window (accepted-left (BadRange when no window) rest h₂) in
+      (accepted-left (tableCheck t) (queryCheck q then BadRange when no window then rest) h, start-e lo s hi refl inside .1)
 
   times-left : (lo hi s scratch : ℕ) (accounts rows : List ℕ)
       → (let answer = timesAnswer t q lo hi s (length accounts) (length rows) scratch in
@@ -246,12 +246,12 @@ module _ (t : Table) (q : Query) where
       let equal = eqb startPlaces rowPlaces and eqb endPlaces rowPlaces in
       let full = ltb rowPlaces (length (minimalWindows t q lo hi)) in
       let room = scratchCheck (size t) scratch then NoRoom when full in
-      let h₁ = accepted-right (tableCheck t) (queryCheck q then rangeCheck lo hi then BadLengths when no equal then room) h in
-      let h₂ = accepted-right (queryCheck q) (rangeCheck lo hi then BadLengths when no equal then room) h₁ in
-      let h₃ = accepted-right (rangeCheck lo hi) (BadLengths when no equal then room) h₂ in
-      let h₄ = accepted-right (BadLengths when no equal) room h₃ in
+      let h₁ = accepted-right (tableCheck t) (queryCheck q then rangeCheck lo hi then BadLength when no equal then room) h in
+      let h₂ = accepted-right (queryCheck q) (rangeCheck lo hi then BadLength when no equal then room) h₁ in
+      let h₃ = accepted-right (rangeCheck lo hi) (BadLength when no equal then room) h₂ in
+      let h₄ = accepted-right (BadLength when no equal) room h₃ in
       let h₅ = accepted-right (scratchCheck (size t) scratch) (NoRoom when full) h₄ in
-      let same = lengths-e startPlaces rowPlaces endPlaces rowPlaces refl (passed BadLengths equal (accepted-left (BadLengths when no equal) room h₃)) in
+      let same = lengths-e startPlaces rowPlaces endPlaces rowPlaces refl (passed BadLength equal (accepted-left (BadLength when no equal) room h₃)) in
       (same .0, same .1, ltb-false rowPlaces (length (minimalWindows t q lo hi)) (when-accepted NoRoom full h₅))
 
   windows-left : (lo hi scratch n : ℕ) (rows starts ends : List ℕ)
@@ -293,8 +293,8 @@ module _ (t : Table) (q : Query) where
   recall-passed c s e places h =
       let equal = eqb (length (c .starts)) (length (c .rows)) and eqb (length (c .ends)) (length (c .rows)) and eqb places (size t) in
       let listed = inOrder (tabulate (entryCheck t c) 0 (length (c .rows))) in
-      let h₁ = accepted-right (tableCheck t) (BadLengths when no equal then listed then rangeCheck s e) h in
-      let h₂ = accepted-right (BadLengths when no equal) (listed then rangeCheck s e) h₁ in
+      let h₁ = accepted-right (tableCheck t) (BadLength when no equal then listed then rangeCheck s e) h in
+      let h₂ = accepted-right (BadLength when no equal) (listed then rangeCheck s e) h₁ in
       range-e s e (accepted-right listed (rangeCheck s e) h₂) .2
 
   module _ (c : Columns) (s e : ℕ) where

@@ -28,7 +28,7 @@ use Rattle.rings.specs.TableCheck.{tableCheck}
 use Rattle.rings.specs.RecallCall.{Columns, columnsOf, entryAt, comesAfter, inPlace, fits, entryCheck, recallAnswer}
 use Rattle.rings.specs.Inner.Recalling.{entryOf, dated, judged, hits, InTable, marksOf, Markable}
 use Rattle.rings.specs.declared.refusal.Refusal.{Refusal}
-use Rattle.rings.specs.declared.refusal.Refusal.the-variants.{BadLengths, BadEntry}
+use Rattle.rings.specs.declared.refusal.Refusal.the-variants.{BadLength, BadEntry}
 use Rattle.rings.specs.declared.refusal.Verdict.{Verdict}
 use Rattle.rings.specs.declared.refusal.Verdict.the-variants.{Accepted, Refused}
 use Rattle.rings.proofs.WordLaws.{true-or-false, and-i, and-l, and-r, or-l, same-truth, some-i, some-e, length-tabulate, getD-tabulate}
@@ -136,13 +136,13 @@ module _ (d r b e : List ℕ) where
 
 -- what a passed 8 says
 pub lengths-same : (d r b e : List ℕ) (p : ℕ)
-    → Accepted ≡ (BadLengths when no (eqb (length b) (length r) and eqb (length e) (length r) and eqb p (length d)))
+    → Accepted ≡ (BadLength when no (eqb (length b) (length r) and eqb (length e) (length r) and eqb p (length d)))
     → (length b ≡ length r) × (length e ≡ length r) × (p ≡ length d)
 lengths-same d r b e p h =
     let x = eqb (length b) (length r) in
     let y = eqb (length e) (length r) in
     let z = eqb p (length d) in
-    let all = passed BadLengths (x and y and z) (sym h) in
+    let all = passed BadLength (x and y and z) (sym h) in
     let rest = and-r x (y and z) all in
     (eqb-true (length b) (length r) (and-l x (y and z) all), eqb-true (length e) (length r) (and-l y z rest), eqb-true p (length d) (and-r y z rest))
 
@@ -169,29 +169,29 @@ module _ (d f g r b e : List ℕ) (lo hi p : ℕ) where
 
   pub answer-table : {x : Refusal} → Refused x ≡ tableCheck t → Refused x ≡ recallAnswer t c′ lo hi p
   unfolding recallAnswer
-  answer-table h = sym (then-refused (BadLengths when unequal then listed then rangeCheck lo hi) (sym h))
+  answer-table h = sym (then-refused (BadLength when unequal then listed then rangeCheck lo hi) (sym h))
 
-  pub answer-lengths : {x : Refusal} → Accepted ≡ tableCheck t → Refused x ≡ (BadLengths when unequal) → Refused x ≡ recallAnswer t c′ lo hi p
+  pub answer-lengths : {x : Refusal} → Accepted ≡ tableCheck t → Refused x ≡ (BadLength when unequal) → Refused x ≡ recallAnswer t c′ lo hi p
   unfolding recallAnswer
   answer-lengths h₁ h₂ =
       sym
-      (then-accepted (BadLengths when unequal then listed then rangeCheck lo hi) (sym h₁) ∙ then-refused (listed then rangeCheck lo hi)
+      (then-accepted (BadLength when unequal then listed then rangeCheck lo hi) (sym h₁) ∙ then-refused (listed then rangeCheck lo hi)
       (sym h₂))
 
-  pub answer-entries : {x : Refusal} → Accepted ≡ tableCheck t → Accepted ≡ (BadLengths when unequal)
+  pub answer-entries : {x : Refusal} → Accepted ≡ tableCheck t → Accepted ≡ (BadLength when unequal)
       → Refused x ≡ inOrder (tabulate (entryCheck (dated d) c′) 0 (length r)) → Refused x ≡ recallAnswer t c′ lo hi p
   unfolding recallAnswer
   answer-entries h₁ h₂ h₃ =
       sym
-      (then-accepted (BadLengths when unequal then listed then rangeCheck lo hi) (sym h₁)
+      (then-accepted (BadLength when unequal then listed then rangeCheck lo hi) (sym h₁)
       ∙ (then-accepted (listed then rangeCheck lo hi) (sym h₂) ∙ then-refused (rangeCheck lo hi) (to-listed h₃)))
 
-  pub answer-window : {v : Verdict} → Accepted ≡ tableCheck t → Accepted ≡ (BadLengths when unequal)
+  pub answer-window : {v : Verdict} → Accepted ≡ tableCheck t → Accepted ≡ (BadLength when unequal)
       → Accepted ≡ inOrder (tabulate (entryCheck (dated d) c′) 0 (length r)) → v ≡ rangeCheck lo hi → v ≡ recallAnswer t c′ lo hi p
   unfolding recallAnswer
   answer-window h₁ h₂ h₃ h₄ =
       sym
-      (then-accepted (BadLengths when unequal then listed then rangeCheck lo hi) (sym h₁)
+      (then-accepted (BadLength when unequal then listed then rangeCheck lo hi) (sym h₁)
       ∙ (then-accepted (listed then rangeCheck lo hi) (sym h₂) ∙ (then-accepted (rangeCheck lo hi) (to-listed h₃) ∙ sym h₄)))
 
   -- a list that passes 14 names rows of the table
@@ -212,9 +212,9 @@ module _ (d f g r b e : List ℕ) (lo hi p : ℕ) where
   unfolding recallAnswer
   list-fits h =
       let rest = listed then rangeCheck lo hi in
-      let after = accepted-right (tableCheck t) (BadLengths when unequal then rest) (sym h) in
-      let same = lengths-same d r b e p (sym (accepted-left (BadLengths when unequal) rest after)) in
-      let good = accepted-left listed (rangeCheck lo hi) (accepted-right (BadLengths when unequal) rest after) in
+      let after = accepted-right (tableCheck t) (BadLength when unequal then rest) (sym h) in
+      let same = lengths-same d r b e p (sym (accepted-left (BadLength when unequal) rest after)) in
+      let good = accepted-left listed (rangeCheck lo hi) (accepted-right (BadLength when unequal) rest after) in
       (same .0, same .1, same .2, rows-inside good)
 
 -- the call after its checks: m₀ are the marks as lent, m the cleared marks

@@ -21,7 +21,7 @@ use Rattle.rings.specs.Sound.{Sound}
 use Rattle.rings.specs.Checks.{_when_, _then_, inOrder}
 use Rattle.rings.specs.TableCheck.{dayBefore, rowFaults, rowCheck, tableCheck}
 use Rattle.rings.specs.declared.refusal.Refusal.{Refusal}
-use Rattle.rings.specs.declared.refusal.Refusal.the-variants.{UnequalColumns, TooManyRows, BadDay, BadAccounts, OutOfOrder}
+use Rattle.rings.specs.declared.refusal.Refusal.the-variants.{ColumnsDiffer, TooLarge, BadDay, BadAccounts, DayFalls}
 use Rattle.rings.specs.declared.refusal.Verdict.{Verdict}
 use Rattle.rings.specs.declared.refusal.Verdict.the-variants.{Accepted, Refused}
 use Rattle.rings.proofs.WordLaws.{true-or-false, clash, and-l, and-r, or-l, or-r, not-no}
@@ -72,11 +72,11 @@ faults-none j before day a b e =
     let p = no (leb 1 day and leb day 1024) in
     let q = ltb 4095 b or no (ltb a b) in
     let r = ltb day before in
-    let rest = BadAccounts j when q then OutOfOrder j when r in
+    let rest = BadAccounts j when q then DayFalls j when r in
     let e₁ = when-accepted (BadDay j) p (accepted-left (BadDay j when p) rest e) in
     let e′ = accepted-right (BadDay j when p) rest e in
-    let e₂ = when-accepted (BadAccounts j) q (accepted-left (BadAccounts j when q) (OutOfOrder j when r) e′) in
-    let e₃ = when-accepted (OutOfOrder j) r (accepted-right (BadAccounts j when q) (OutOfOrder j when r) e′) in
+    let e₂ = when-accepted (BadAccounts j) q (accepted-left (BadAccounts j when q) (DayFalls j when r) e′) in
+    let e₃ = when-accepted (DayFalls j) r (accepted-right (BadAccounts j when q) (DayFalls j when r) e′) in
     let both = not-no (leb 1 day and leb day 1024) e₁ in (
       leb-true 1 day (and-l (leb 1 day) (leb day 1024) both),
       leb-true day 1024 (and-r (leb 1 day) (leb day 1024) both),
@@ -102,10 +102,10 @@ table-sound d f s e =
     let b = no (eqb (length f) (length d) and eqb (length s) (length d)) in
     let g = ltb 16384 (length d) in
     let rest = inOrder (tabulate (rowCheck (tableOf d f s)) 0 (length d)) in
-    let e₁ = when-accepted UnequalColumns b (accepted-left (UnequalColumns when b) (TooManyRows when g then rest) e) in
-    let e′ = accepted-right (UnequalColumns when b) (TooManyRows when g then rest) e in
-    let e₂ = when-accepted TooManyRows g (accepted-left (TooManyRows when g) rest e′) in
-    let e₃ = accepted-right (TooManyRows when g) rest e′ in
+    let e₁ = when-accepted ColumnsDiffer b (accepted-left (ColumnsDiffer when b) (TooLarge when g then rest) e) in
+    let e′ = accepted-right (ColumnsDiffer when b) (TooLarge when g then rest) e in
+    let e₂ = when-accepted TooLarge g (accepted-left (TooLarge when g) rest e′) in
+    let e₃ = accepted-right (TooLarge when g) rest e′ in
     let both = not-no (eqb (length f) (length d) and eqb (length s) (length d)) e₁ in
     record {
       firsts = eqb-true (length f) (length d) (and-l (eqb (length f) (length d)) (eqb (length s) (length d)) both);

@@ -23,7 +23,7 @@ use Rattle.rings.specs.MinimalWindowsCall.{minimalAnswer}
 use Rattle.rings.specs.RecallCall.{Columns, recallAnswer, recallMarks}
 use Rattle.rings.specs.Compute.{compute}
 use Rattle.rings.specs.declared.Query.{Query}
-use Rattle.rings.specs.declared.refusal.Refusal.the-variants.{UnequalColumns, TooManyRows, BadDay, BadAccounts, BadK, BadWindow, BadLengths, SmallScratch, NoRoom, BadEntry}
+use Rattle.rings.specs.declared.refusal.Refusal.the-variants.{ColumnsDiffer, TooLarge, BadDay, BadAccounts, BadK, BadRange, BadLength, Scratch, NoRoom, BadEntry}
 use Rattle.rings.specs.declared.refusal.Verdict.the-variants.{Accepted, Refused}
 use Rattle.rings.specs.declared.refusal.Counted.{Counted}
 
@@ -53,39 +53,39 @@ pub record CheckRows : Type 0 where
   -- equal rows may stand twice
   pub twice : tableCheck (record { days = 3 ∷ 3 ∷ []; first = 1 ∷ 1 ∷ []; second = 2 ∷ 2 ∷ [] }) ≡ Accepted
   -- 1, then 2, before a row's fault; the lowest faulty row, by its first fault
-  pub too-many-rows : (t : Table) → eqb (length (t .first)) (length (t .days)) ≡ true → eqb (length (t .second)) (length (t .days)) ≡ true → ltb 16384 (length (t .days)) ≡ true → tableCheck t ≡ Refused TooManyRows
-  pub lengths-first : tableCheck (record { days = 0 ∷ []; first = 1 ∷ []; second = [] }) ≡ Refused UnequalColumns
+  pub too-many-rows : (t : Table) → eqb (length (t .first)) (length (t .days)) ≡ true → eqb (length (t .second)) (length (t .days)) ≡ true → ltb 16384 (length (t .days)) ≡ true → tableCheck t ≡ Refused TooLarge
+  pub lengths-first : tableCheck (record { days = 0 ∷ []; first = 1 ∷ []; second = [] }) ≡ Refused ColumnsDiffer
   pub lowest-row : tableCheck (record { days = 1 ∷ 2 ∷ 0 ∷ []; first = 1 ∷ 2 ∷ 1 ∷ []; second = 2 ∷ 1 ∷ 2 ∷ [] }) ≡ Refused (BadAccounts 1)
   pub day-before-accounts : tableCheck (record { days = 1 ∷ 0 ∷ []; first = 1 ∷ 2 ∷ []; second = 2 ∷ 2 ∷ [] }) ≡ Refused (BadDay 1)
   pub accounts-before-order : tableCheck (record { days = 2 ∷ 1 ∷ []; first = 1 ∷ 2 ∷ []; second = 2 ∷ 2 ∷ [] }) ≡ Refused (BadAccounts 1)
   -- Window ring: 6, 7, 8, 9 one after the other
   pub table-first : ringAnswer (row 0 0 1) (ask 0) 2 1 0 0 ≡ Counted.Refused (BadDay 0)
   pub ring-6 : ringAnswer season (ask 4096) 2 1 0 0 ≡ Counted.Refused BadK
-  pub ring-7 : ringAnswer season (ask 2) 2 1 0 0 ≡ Counted.Refused BadWindow
-  pub ring-7-above : ringAnswer season (ask 2) 1 1025 0 0 ≡ Counted.Refused BadWindow
-  pub ring-8 : ringAnswer season (ask 2) 1 2 5 0 ≡ Counted.Refused BadLengths
-  pub ring-9 : ringAnswer season (ask 2) 1 2 6 8215 ≡ Counted.Refused SmallScratch
+  pub ring-7 : ringAnswer season (ask 2) 2 1 0 0 ≡ Counted.Refused BadRange
+  pub ring-7-above : ringAnswer season (ask 2) 1 1025 0 0 ≡ Counted.Refused BadRange
+  pub ring-8 : ringAnswer season (ask 2) 1 2 5 0 ≡ Counted.Refused BadLength
+  pub ring-9 : ringAnswer season (ask 2) 1 2 6 8215 ≡ Counted.Refused Scratch
   pub ring-done : ringAnswer season (ask 2) 1 2 6 8216 ≡ Counted.Count 3
   -- 9 keeps every buffer; success leaves the scratch 0, the whole of a longer one
   pub kept-marks : ringMarks (ringAnswer season (ask 2) 1 2 6 8215) season (ask 2) 1 2 (replicate 6 9) ≡ replicate 6 9
   pub kept-scratch : countedScratch (ringAnswer season (ask 2) 1 2 6 3) (replicate 3 9) ≡ replicate 3 9
   pub whole-scratch : countedScratch (ringAnswer season (ask 2) 1 2 6 8300) (replicate 8300 9) ≡ replicate 8300 0
   -- Core times: 7 is about the range and the start; 8 about both columns
-  pub times-7-before : timesAnswer season (ask 2) 2 6 1 4096 6 8216 ≡ Refused BadWindow
-  pub times-7-after : timesAnswer season (ask 2) 1 5 6 4096 6 8216 ≡ Refused BadWindow
-  pub times-8-accounts : timesAnswer season (ask 2) 1 6 1 4095 6 8216 ≡ Refused BadLengths
-  pub times-8-rows : timesAnswer season (ask 2) 1 6 1 4096 7 0 ≡ Refused BadLengths
-  pub times-9 : timesAnswer season (ask 2) 1 6 1 4096 6 8215 ≡ Refused SmallScratch
-  pub times-kept : rowColumn (Refused SmallScratch) season (ask 2) 6 1 (replicate 6 9) ≡ replicate 6 9
+  pub times-7-before : timesAnswer season (ask 2) 2 6 1 4096 6 8216 ≡ Refused BadRange
+  pub times-7-after : timesAnswer season (ask 2) 1 5 6 4096 6 8216 ≡ Refused BadRange
+  pub times-8-accounts : timesAnswer season (ask 2) 1 6 1 4095 6 8216 ≡ Refused BadLength
+  pub times-8-rows : timesAnswer season (ask 2) 1 6 1 4096 7 0 ≡ Refused BadLength
+  pub times-9 : timesAnswer season (ask 2) 1 6 1 4096 6 8215 ≡ Refused Scratch
+  pub times-kept : rowColumn (Refused Scratch) season (ask 2) 6 1 (replicate 6 9) ≡ replicate 6 9
   pub times-scratch : verdictScratch (timesAnswer season (ask 2) 1 6 1 4096 6 8215) (replicate 8215 9) ≡ replicate 8215 9
   -- Minimal windows: 8 before 9, 9 before 10
-  pub minimal-8 : minimalAnswer season (ask 2) 1 6 7 7 8 0 ≡ Counted.Refused BadLengths
-  pub minimal-9 : minimalAnswer season (ask 2) 1 6 7 7 7 0 ≡ Counted.Refused SmallScratch
+  pub minimal-8 : minimalAnswer season (ask 2) 1 6 7 7 8 0 ≡ Counted.Refused BadLength
+  pub minimal-9 : minimalAnswer season (ask 2) 1 6 7 7 7 0 ≡ Counted.Refused Scratch
   -- 10 leaves the scratch 0
   pub minimal-10 : minimalAnswer season (ask 2) 1 6 7 7 7 8216 ≡ Counted.Refused NoRoom
   pub minimal-10-scratch : countedScratch (minimalAnswer season (ask 2) 1 6 7 7 7 8216) (replicate 8216 9) ≡ replicate 8216 0
   -- Recall: 8, then 14 at the first wrong entry, then 7
-  pub recall-8 : recallAnswer season (entry 6 1 2) 2 1 5 ≡ Refused BadLengths
+  pub recall-8 : recallAnswer season (entry 6 1 2) 2 1 5 ≡ Refused BadLength
   pub recall-14-row : recallAnswer season (entry 6 1 2) 2 1 6 ≡ Refused (BadEntry 0)
   pub recall-14-start : recallAnswer season (entry 0 0 2) 1 6 6 ≡ Refused (BadEntry 0)
   pub recall-14-day : recallAnswer season (entry 3 1 3) 1 6 6 ≡ Refused (BadEntry 0)
@@ -93,7 +93,7 @@ pub record CheckRows : Type 0 where
   pub recall-14-falling : recallAnswer season (two-entries 1 1 2 0 1 2) 1 6 6 ≡ Refused (BadEntry 1)
   pub recall-14-same-start : recallAnswer season (two-entries 1 1 2 1 1 4) 1 6 6 ≡ Refused (BadEntry 1)
   pub recall-14-same-end : recallAnswer season (two-entries 1 1 4 1 2 4) 1 6 6 ≡ Refused (BadEntry 1)
-  pub recall-7 : recallAnswer season (two-entries 1 1 2 1 2 4) 2 1 6 ≡ Refused BadWindow
+  pub recall-7 : recallAnswer season (two-entries 1 1 2 1 2 4) 2 1 6 ≡ Refused BadRange
   pub recall-empty-list : recallMarks (recallAnswer season (record { rows = []; starts = []; ends = [] }) 1 6 6) season (record { rows = []; starts = []; ends = [] }) 1 6 (replicate 6 9) ≡ replicate 6 0
   -- Mistake: "counting rows as neighbours". Two rows of one pair, k = 2
   pub one-neighbour : ringAnswer (record { days = 1 ∷ 2 ∷ []; first = 1 ∷ 1 ∷ []; second = 2 ∷ 2 ∷ [] }) (ask 2) 1 2 2 8200 ≡ Counted.Count 0

@@ -13,14 +13,14 @@ use lib.Dec.{leb, ltb}
 use Rattle.rings.specs.Words.{_and_, no}
 use Rattle.rings.specs.declared.Query.{Query}
 use Rattle.rings.specs.declared.refusal.Refusal.{Refusal}
-use Rattle.rings.specs.declared.refusal.Refusal.the-variants.{BadK, BadWindow, SmallScratch}
+use Rattle.rings.specs.declared.refusal.Refusal.the-variants.{BadK, BadRange, Scratch}
 use Rattle.rings.specs.declared.refusal.Verdict.{Verdict}
 use Rattle.rings.specs.declared.refusal.Verdict.the-variants.{Accepted, Refused}
 use Rattle.rings.specs.declared.refusal.Counted.{Counted}
 
 infix 20 _when_
 infixr 15 _then_
--- 01's "7: not .." reads `BadWindow when no ..`
+-- 01's "7: not .." reads `BadRange when no ..`
 unfoldable pub _when_ : Refusal → Bool → Verdict
 r when true = Refused r
 r when false = Accepted
@@ -44,8 +44,8 @@ queryCheck q = BadK when no (leb 1 (q .k) and leb (q .k) 4095)
 
 -- 01: "7: not 1 ≤ s ≤ e ≤ 1,024"; "7: not 1 ≤ Ts ≤ Te ≤ 1,024, as for every range"
 unfoldable pub rangeCheck : ℕ → ℕ → Verdict
-rangeCheck s e = BadWindow when no (leb 1 s and leb s e and leb e 1024)
+rangeCheck s e = BadRange when no (leb 1 s and leb s e and leb e 1024)
 
 -- 01: "9: scratch below 8,192 + 4 × rows 16-bit numbers"
 unfoldable pub scratchCheck : ℕ → ℕ → Verdict
-scratchCheck rows scratch = SmallScratch when ltb scratch (8192 + 4 * rows)
+scratchCheck rows scratch = Scratch when ltb scratch (8192 + 4 * rows)

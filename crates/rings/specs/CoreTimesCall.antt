@@ -11,7 +11,7 @@ use Rattle.rings.specs.CoreTimes.{accountTime, rowTime}
 use Rattle.rings.specs.Checks.{_when_, _then_, queryCheck, scratchCheck}
 use Rattle.rings.specs.TableCheck.{tableCheck}
 use Rattle.rings.specs.declared.Query.{Query}
-use Rattle.rings.specs.declared.refusal.Refusal.the-variants.{BadWindow, BadLengths}
+use Rattle.rings.specs.declared.refusal.Refusal.the-variants.{BadRange, BadLength}
 use Rattle.rings.specs.declared.refusal.Verdict.{Verdict}
 
 -- 01: "6. 7: not 1 ≤ Ts ≤ s ≤ Te ≤ 1,024. 8: account column not 4,096 long, or row column not as long as the table. 9"
@@ -19,8 +19,8 @@ unfoldable pub timesAnswer : Table → Query → ℕ → ℕ → ℕ → ℕ →
 timesAnswer t q lo hi s accountPlaces rowPlaces scratch =
     tableCheck t
     then queryCheck q
-    then BadWindow when no (leb 1 lo and leb lo s and leb s hi and leb hi 1024)
-    then BadLengths when no (eqb accountPlaces 4096 and eqb rowPlaces (size t))
+    then BadRange when no (leb 1 lo and leb lo s and leb s hi and leb hi 1024)
+    then BadLength when no (eqb accountPlaces 4096 and eqb rowPlaces (size t))
     then scratchCheck (size t) scratch
 
 -- 01: "the least e with s ≤ e ≤ Te such that the account is in the ring of [s, e]; 65,535 means never": so for an account of no row

@@ -14,7 +14,7 @@ use Rattle.rings.specs.Checks.{_when_, _then_, counted, queryCheck, rang
 use Rattle.rings.specs.Buffers.{over}
 use Rattle.rings.specs.TableCheck.{tableCheck}
 use Rattle.rings.specs.declared.Query.{Query}
-use Rattle.rings.specs.declared.refusal.Refusal.the-variants.{BadLengths, NoRoom}
+use Rattle.rings.specs.declared.refusal.Refusal.the-variants.{BadLength, NoRoom}
 use Rattle.rings.specs.declared.refusal.Verdict.{Verdict}
 use Rattle.rings.specs.declared.refusal.Counted.{Counted}
 
@@ -24,7 +24,7 @@ minimalChecks t q lo hi rowPlaces startPlaces endPlaces scratch =
     tableCheck t
     then queryCheck q
     then rangeCheck lo hi
-    then BadLengths when no (eqb startPlaces rowPlaces and eqb endPlaces rowPlaces)
+    then BadLength when no (eqb startPlaces rowPlaces and eqb endPlaces rowPlaces)
     then scratchCheck (size t) scratch
     then NoRoom when ltb rowPlaces (length (minimalWindows t q lo hi))
 

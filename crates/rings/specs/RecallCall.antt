@@ -19,7 +19,7 @@ use Rattle.rings.specs.Windows.{Entry, entries, recalled}
 use Rattle.rings.specs.Checks.{_when_, _then_, inOrder, rangeCheck}
 use Rattle.rings.specs.Buffers.{marks}
 use Rattle.rings.specs.TableCheck.{tableCheck}
-use Rattle.rings.specs.declared.refusal.Refusal.the-variants.{BadLengths, BadEntry}
+use Rattle.rings.specs.declared.refusal.Refusal.the-variants.{BadLength, BadEntry}
 use Rattle.rings.specs.declared.refusal.Verdict.{Verdict}
 
 pub record Columns : Type 0 where
@@ -53,7 +53,7 @@ entryCheck t c i = BadEntry i when no (fits t (entryAt c i) and inPlace c i)
 unfoldable pub recallAnswer : Table → Columns → ℕ → ℕ → ℕ → Verdict
 recallAnswer t c s e markPlaces =
     tableCheck t
-    then BadLengths when no (eqb (length (c .starts)) (length (c .rows)) and eqb (length (c .ends)) (length (c .rows)) and eqb markPlaces (size t))
+    then BadLength when no (eqb (length (c .starts)) (length (c .rows)) and eqb (length (c .ends)) (length (c .rows)) and eqb markPlaces (size t))
     then inOrder (tabulate (entryCheck t c) 0 (length (c .rows)))
     then rangeCheck s e
 

@@ -11,7 +11,7 @@
 use Prim.Native.Nat.{ℕ}
 use mathlib.Core.Bool.{Bool, true, false}
 use Rattle.rings.specs.declared.refusal.Refusal.{Refusal}
-use Rattle.rings.specs.declared.refusal.Refusal.the-variants.{UnequalColumns, TooManyRows, BadDay, BadAccounts, OutOfOrder, BadK, BadWindow, BadLengths, SmallScratch, NoRoom, BadEntry}
+use Rattle.rings.specs.declared.refusal.Refusal.the-variants.{ColumnsDiffer, TooLarge, BadDay, BadAccounts, DayFalls, BadK, BadRange, BadLength, Scratch, NoRoom, BadEntry}
 use Rattle.rings.specs.declared.refusal.Place.{Place}
 use Rattle.rings.specs.declared.refusal.Place.the-variants.{Nowhere, Row, Entry}
 use Rattle.rings.specs.declared.refusal.Told.{Told}
@@ -26,15 +26,15 @@ pub record Rule : Type 0 where
 
 -- a row for each refusal
 abbrev pub ruleOf : Refusal → Rule
-ruleOf UnequalColumns = record { number = 1; place = Nowhere; behind-scratch = false }
-ruleOf TooManyRows = record { number = 2; place = Nowhere; behind-scratch = false }
+ruleOf ColumnsDiffer = record { number = 1; place = Nowhere; behind-scratch = false }
+ruleOf TooLarge = record { number = 2; place = Nowhere; behind-scratch = false }
 ruleOf (BadDay j) = record { number = 3; place = Row j; behind-scratch = false }
 ruleOf (BadAccounts j) = record { number = 4; place = Row j; behind-scratch = false }
-ruleOf (OutOfOrder j) = record { number = 5; place = Row j; behind-scratch = false }
+ruleOf (DayFalls j) = record { number = 5; place = Row j; behind-scratch = false }
 ruleOf BadK = record { number = 6; place = Nowhere; behind-scratch = false }
-ruleOf BadWindow = record { number = 7; place = Nowhere; behind-scratch = false }
-ruleOf BadLengths = record { number = 8; place = Nowhere; behind-scratch = false }
-ruleOf SmallScratch = record { number = 9; place = Nowhere; behind-scratch = false }
+ruleOf BadRange = record { number = 7; place = Nowhere; behind-scratch = false }
+ruleOf BadLength = record { number = 8; place = Nowhere; behind-scratch = false }
+ruleOf Scratch = record { number = 9; place = Nowhere; behind-scratch = false }
 ruleOf NoRoom = record { number = 10; place = Nowhere; behind-scratch = true }
 ruleOf (BadEntry i) = record { number = 14; place = Entry i; behind-scratch = false }
 

@@ -9,7 +9,7 @@ use lib.Dec.{leb, ltb, eqb}
 use Rattle.rings.specs.Words.{_and_, _or_, no, tabulate}
 use Rattle.rings.specs.Table.{Table, size, dayOf, firstOf, secondOf}
 use Rattle.rings.specs.Checks.{_when_, _then_, inOrder}
-use Rattle.rings.specs.declared.refusal.Refusal.the-variants.{UnequalColumns, TooManyRows, BadDay, BadAccounts, OutOfOrder}
+use Rattle.rings.specs.declared.refusal.Refusal.the-variants.{ColumnsDiffer, TooLarge, BadDay, BadAccounts, DayFalls}
 use Rattle.rings.specs.declared.refusal.Verdict.{Verdict}
 
 unfoldable pub dayBefore : Table → ℕ → ℕ
@@ -22,7 +22,7 @@ unfoldable pub rowFaults : ℕ → ℕ → ℕ → ℕ → ℕ → Verdict
 rowFaults j before day a b =
     BadDay j when no (leb 1 day and leb day 1024)
     then BadAccounts j when ltb 4095 b or no (ltb a b)
-    then OutOfOrder j when ltb day before
+    then DayFalls j when ltb day before
 
 unfoldable pub rowCheck : Table → ℕ → Verdict
 rowCheck t j = rowFaults j (dayBefore t j) (dayOf t j) (firstOf t j) (secondOf t j)
@@ -30,6 +30,6 @@ rowCheck t j = rowFaults j (dayBefore t j) (dayOf t j) (firstOf t j) (secondOf t
 -- 01: "1: column lengths differ. 2: over 16,384 rows. Then the lowest faulty row, by its first fault"
 unfoldable pub tableCheck : Table → Verdict
 tableCheck t =
-    UnequalColumns when no (eqb (length (t .first)) (size t) and eqb (length (t .second)) (size t))
-    then TooManyRows when ltb 16384 (size t)
+    ColumnsDiffer when no (eqb (length (t .first)) (size t) and eqb (length (t .second)) (size t))
+    then TooLarge when ltb 16384 (size t)
     then inOrder (tabulate (rowCheck t) 0 (size t))

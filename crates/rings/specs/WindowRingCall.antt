@@ -12,7 +12,7 @@ use Rattle.rings.specs.Checks.{_when_, _then_, counted, queryCheck, rang
 use Rattle.rings.specs.Buffers.{marks}
 use Rattle.rings.specs.TableCheck.{tableCheck}
 use Rattle.rings.specs.declared.Query.{Query}
-use Rattle.rings.specs.declared.refusal.Refusal.the-variants.{BadLengths}
+use Rattle.rings.specs.declared.refusal.Refusal.the-variants.{BadLength}
 use Rattle.rings.specs.declared.refusal.Verdict.{Verdict}
 use Rattle.rings.specs.declared.refusal.Counted.{Counted}
 
@@ -22,7 +22,7 @@ ringChecks t q s e markPlaces scratch =
     tableCheck t
     then queryCheck q
     then rangeCheck s e
-    then BadLengths when no (eqb markPlaces (size t))
+    then BadLength when no (eqb markPlaces (size t))
     then scratchCheck (size t) scratch
 
 -- 01: "marks 1 or 0 for each row and the count of ones"

@@ -6,7 +6,7 @@ ghost use Rattle.rings.specs.Words.{_and_, no};
 ghost use Rattle.rings.specs.Table.{tableOf, size};
 ghost use Rattle.rings.specs.TableCheck.{tableCheck};
 ghost use Rattle.rings.specs.Checks.{_when_, _then_, queryCheck, scratchCheck};
-ghost use Rattle.rings.specs.declared.refusal.Refusal.the-variants.{BadLengths, BadWindow};
+ghost use Rattle.rings.specs.declared.refusal.Refusal.the-variants.{BadLength, BadRange};
 use crate::Query;
 use crate::limits::ADJACENCY;
 use crate::refusal::Refusal;
@@ -56,7 +56,7 @@ pub fn are_equal(a: usize, b: usize, c: usize, d: usize) -> bool
 fn check_numbers(rows: usize, query: Query, window: bool, lengths: bool, scratch: usize) -> Verdict
     requires { ⌜ rows ≤ 16384 ⌝ }
     ensures { λ r. ⌜ r ≡ (
-        queryCheck query then BadWindow when no window then BadLengths when no lengths then scratchCheck rows scratch) ⌝ }
+        queryCheck query then BadRange when no window then BadLength when no lengths then scratchCheck rows scratch) ⌝ }
 {
     let k = query.k;
     if k < 1 {
@@ -66,13 +66,13 @@ fn check_numbers(rows: usize, query: Query, window: bool, lengths: bool, scratch
         return Verdict::Refused(Refusal::BadK);
     }
     if !window {
-        return Verdict::Refused(Refusal::BadWindow);
+        return Verdict::Refused(Refusal::BadRange);
     }
     if !lengths {
-        return Verdict::Refused(Refusal::BadLengths);
+        return Verdict::Refused(Refusal::BadLength);
     }
     if scratch < ADJACENCY + 4 * rows {
-        return Verdict::Refused(Refusal::SmallScratch);
+        return Verdict::Refused(Refusal::Scratch);
     }
     Verdict::Accepted
 }
@@ -89,7 +89,7 @@ pub fn check_call(
 ) -> Verdict
     ensures { λ r. ⌜ (
         let t = tableOf (now (days .entry)) (now (first .entry)) (now (second .entry)) in
-        r ≡ (tableCheck t then queryCheck query then BadWindow when no window then BadLengths when no lengths
+        r ≡ (tableCheck t then queryCheck query then BadRange when no window then BadLength when no lengths
         then scratchCheck (size t) scratch)) ⌝ }
 {
     let found = check_table(days, first, second);

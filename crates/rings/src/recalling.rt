@@ -10,7 +10,7 @@ ghost use Rattle.rings.specs.Table.{tableOf};
 ghost use Rattle.rings.specs.Checks.{_when_, inOrder, rangeCheck};
 ghost use Rattle.rings.specs.RecallCall.{columnsOf, entryCheck, recallAnswer, recallMarks};
 ghost use Rattle.rings.specs.Inner.Recalling.{entryOf, dated, judged, EqualLists, Markable, marksOf};
-ghost use Rattle.rings.specs.declared.refusal.Refusal.the-variants.{BadLengths};
+ghost use Rattle.rings.specs.declared.refusal.Refusal.the-variants.{BadLength};
 use crate::refusal::Refusal;
 use crate::refusal::Verdict;
 use crate::slices::entry;
@@ -18,16 +18,16 @@ use crate::table::check_table;
 
 // 8: three list columns of one length, and a mark for each row.
 fn check_lengths(rows: usize, starts: usize, ends: usize, places: usize, n: usize) -> Verdict
-    ensures { λ r. ⌜ r ≡ (BadLengths when no (eqb starts rows and eqb ends rows and eqb places n)) ⌝ }
+    ensures { λ r. ⌜ r ≡ (BadLength when no (eqb starts rows and eqb ends rows and eqb places n)) ⌝ }
 {
     if starts != rows {
-        return Verdict::Refused(Refusal::BadLengths);
+        return Verdict::Refused(Refusal::BadLength);
     }
     if ends != rows {
-        return Verdict::Refused(Refusal::BadLengths);
+        return Verdict::Refused(Refusal::BadLength);
     }
     if places != n {
-        return Verdict::Refused(Refusal::BadLengths);
+        return Verdict::Refused(Refusal::BadLength);
     }
     Verdict::Accepted
 }
@@ -37,13 +37,13 @@ fn check_window(s: u16, e: u16) -> Verdict
     ensures { λ r. ⌜ r ≡ rangeCheck s e ⌝ }
 {
     if s < 1 {
-        return Verdict::Refused(Refusal::BadWindow);
+        return Verdict::Refused(Refusal::BadRange);
     }
     if e < s {
-        return Verdict::Refused(Refusal::BadWindow);
+        return Verdict::Refused(Refusal::BadRange);
     }
     if 1024 < e {
-        return Verdict::Refused(Refusal::BadWindow);
+        return Verdict::Refused(Refusal::BadRange);
     }
     Verdict::Accepted
 }

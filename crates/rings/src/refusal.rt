@@ -6,23 +6,23 @@ ghost use Rattle.rings.specs.Refusals.{toldOf};
 // and place.
 pub enum Refusal {
     // 1: column lengths differ.
-    UnequalColumns,
+    ColumnsDiffer,
     // 2: over 16,384 rows.
-    TooManyRows,
+    TooLarge,
     // 3: a day outside 1 to 1,024, at its row.
     BadDay(usize),
     // 4: accounts out of range or not rising, at their row.
     BadAccounts(usize),
     // 5: a day below the previous row's, at its row.
-    OutOfOrder(usize),
+    DayFalls(usize),
     // 6: k outside 1 to 4,095.
     BadK,
     // 7: not a window, or not a range.
-    BadWindow,
+    BadRange,
     // 8: a lent buffer of the wrong length, or columns that differ in length.
-    BadLengths,
+    BadLength,
     // 9: too little scratch.
-    SmallScratch,
+    Scratch,
     // 10: more entries than the columns hold.
     NoRoom,
     // 14: an entry of a minimal-window list, at its place from 0.
@@ -59,11 +59,11 @@ pub fn tell(r: Refusal) -> Told
     ensures { λ t. ⌜ t ≡ toldOf r ⌝ }
 {
     match r {
-        Refusal::UnequalColumns => Told {
+        Refusal::ColumnsDiffer => Told {
             number: 1,
             place: Place::Nowhere,
         },
-        Refusal::TooManyRows => Told {
+        Refusal::TooLarge => Told {
             number: 2,
             place: Place::Nowhere,
         },
@@ -75,7 +75,7 @@ pub fn tell(r: Refusal) -> Told
             number: 4,
             place: Place::Row(row),
         },
-        Refusal::OutOfOrder(row) => Told {
+        Refusal::DayFalls(row) => Told {
             number: 5,
             place: Place::Row(row),
         },
@@ -83,15 +83,15 @@ pub fn tell(r: Refusal) -> Told
             number: 6,
             place: Place::Nowhere,
         },
-        Refusal::BadWindow => Told {
+        Refusal::BadRange => Told {
             number: 7,
             place: Place::Nowhere,
         },
-        Refusal::BadLengths => Told {
+        Refusal::BadLength => Told {
             number: 8,
             place: Place::Nowhere,
         },
-        Refusal::SmallScratch => Told {
+        Refusal::Scratch => Told {
             number: 9,
             place: Place::Nowhere,
         },

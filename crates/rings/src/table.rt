@@ -27,7 +27,7 @@ fn check_row(j: usize, before: u16, day: u16, a: u16, b: u16) -> Verdict
         return Verdict::Refused(Refusal::BadAccounts(j));
     }
     if day < before {
-        return Verdict::Refused(Refusal::OutOfOrder(j));
+        return Verdict::Refused(Refusal::DayFalls(j));
     }
     Verdict::Accepted
 }
@@ -61,13 +61,13 @@ pub fn check_table(days: &[u16], first: &[u16], second: &[u16]) -> Verdict
     ensures { λ r. ⌜ r ≡ tableCheck (tableOf (now (days .entry)) (now (first .entry)) (now (second .entry))) ⌝ }
 {
     if first.len() != days.len() {
-        return Verdict::Refused(Refusal::UnequalColumns);
+        return Verdict::Refused(Refusal::ColumnsDiffer);
     }
     if second.len() != days.len() {
-        return Verdict::Refused(Refusal::UnequalColumns);
+        return Verdict::Refused(Refusal::ColumnsDiffer);
     }
     if ROWS < days.len() {
-        return Verdict::Refused(Refusal::TooManyRows);
+        return Verdict::Refused(Refusal::TooLarge);
     }
     check_rows(days, first, second)
 }

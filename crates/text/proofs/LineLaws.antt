@@ -44,7 +44,7 @@ use Rattle.text.specs.Line.{lineAt, Reached, lineNumber, rowOf}
 use Rattle.text.specs.declared.layout.Format.{Format}
 use Rattle.text.specs.declared.layout.Layout.{Layout}
 use Rattle.text.specs.declared.lines.Line.{Line}
-use Rattle.text.specs.declared.lines.Line.the-variants.{Row, End, BadLength, BadField, LargeNumber}
+use Rattle.text.specs.declared.lines.Line.the-variants.{Row, End, BadLine, BadField, BadNumber}
 use Rattle.text.specs.declared.lines.Step.{Step}
 use Rattle.text.specs.declared.decimal.Field.{Field}
 use Rattle.text.proofs.FieldLaws.{tail, tail-is}
@@ -82,7 +82,7 @@ pub step-first : (y : Layout) (s : List ℕ) → 0 < length s → stepAs y (line
 unfolding stepAs
 step-first y s h = ap (stepAs y) (lines-first s h)
 
-pub step-short : (y : Layout) (s : List ℕ) → 0 < length s → isWhole (bytesOf y) (firstLine s) ≡ false → stepAs y (linesOf s) ≡ BadLength
+pub step-short : (y : Layout) (s : List ℕ) → 0 < length s → isWhole (bytesOf y) (firstLine s) ≡ false → stepAs y (linesOf s) ≡ BadLine
 unfolding lineAs
 step-short y s h e = step-first y s h ∙ pick-false _ _ _ e
 
@@ -200,16 +200,16 @@ found-line text n h =
 passed-most : (l : Line) → passed l ≤ 1
 passed-most (Row d a b) = omega arith
 passed-most End = omega arith
-passed-most BadLength = omega arith
+passed-most BadLine = omega arith
 passed-most BadField = omega arith
-passed-most LargeNumber = omega arith
+passed-most BadNumber = omega arith
 
 passed-whole : (l : List ℕ) → 0 < passed (lineAs tableLayout l) → isWhole lineBytes l ≡ true
 unfolding lineAs
 passed-whole l h =
     ⊎-elim (λ t. t) (λ t. absurd (none (pick-false _ _ _ t))) (true-or-false (isWhole lineBytes l))
   where
-    none : lineAs tableLayout l ≡ BadLength → ⊥
+    none : lineAs tableLayout l ≡ BadLine → ⊥
     none e = omega (arith, ap passed e)
 
 pub reached-first : (text : List ℕ) → Reached text 0
@@ -260,16 +260,16 @@ module _ (text : List ℕ) (n : ℕ) {s : Step} (is : s ≡ stepFrom text n) whe
 abbrev pub is-end : Line → ℕ
 is-end (Row d a b) = 0
 is-end End = 1
-is-end BadLength = 0
+is-end BadLine = 0
 is-end BadField = 0
-is-end LargeNumber = 0
+is-end BadNumber = 0
 
-judged-is : (broken large : Bool) (d a b : ℕ) → is-end (cond broken BadField (cond large LargeNumber (Row d a b))) ≡ 0
+judged-is : (broken large : Bool) (d a b : ℕ) → is-end (cond broken BadField (cond large BadNumber (Row d a b))) ≡ 0
 judged-is true large d a b = refl
 judged-is false true d a b = refl
 judged-is false false d a b = refl
 
-line-is : (whole : Bool) (r : Line) → is-end r ≡ 0 → is-end (cond whole r BadLength) ≡ 0
+line-is : (whole : Bool) (r : Line) → is-end r ≡ 0 → is-end (cond whole r BadLine) ≡ 0
 line-is true r e = e
 line-is false r e = refl
 
@@ -277,7 +277,7 @@ fields-are : (x y z : Field) → is-end (judged x y z) ≡ 0
 unfolding judged
 fields-are x y z =
     let broken = anyRefuses (lineNumber BadField) x y z in
-    let large = anyRefuses (lineNumber LargeNumber) x y z in
+    let large = anyRefuses (lineNumber BadNumber) x y z in
     judged-is broken large (fieldValue x) (fieldValue y) (fieldValue z)
 
 pub never-end : (l : List ℕ) → is-end (rowOf l) ≡ 0

@@ -31,22 +31,22 @@ use Rattle.text.specs.declared.lines.Line.{Line}
 use Rattle.text.specs.declared.lines.Line.the-variants as line
 use Rattle.text.specs.declared.lines.Step.{Step}
 use Rattle.text.specs.declared.table.TableRead.{TableRead}
-use Rattle.text.specs.declared.table.TableRead.the-variants.{Rows, LineLength}
+use Rattle.text.specs.declared.table.TableRead.the-variants.{Rows, BadLine}
 use Rattle.text.proofs.Tests.{true-or-false, pick-false, zero-not-one, lt-or-le}
 use Rattle.text.proofs.LineLaws.{step-from, step-found, step-line, is-end, never-end}
 use Rattle.text.proofs.PasteLaws.{Pasting, pasting-none, pasting-on, pasting-all, pasted-start}
 
 -- ---- a text of rows alone
 
-no-rows : {A : Type 0} (n c : ℕ) → LineLength n ≡ Rows c → A
+no-rows : {A : Type 0} (n c : ℕ) → BadLine n ≡ Rows c → A
 no-rows n c e = zero-not-one (cc)
 
 rest-rows : (n c : ℕ) (r : Line) (later : TableRead) → faultOr n r later ≡ Rows c → later ≡ Rows c
 rest-rows n c (line.Row d a b) later e = e
 rest-rows n c line.End later e = e
-rest-rows n c line.BadLength later e = no-rows n c e
+rest-rows n c line.BadLine later e = no-rows n c e
 rest-rows n c line.BadField later e = zero-not-one (cc)
-rest-rows n c line.LargeNumber later e = zero-not-one (cc)
+rest-rows n c line.BadNumber later e = zero-not-one (cc)
 
 row-whole : (n c : ℕ) (l : List ℕ) (later : TableRead) → faultOr n (rowOf l) later ≡ Rows c → isWhole lineBytes l ≡ true
 unfolding rowOf lineAs
@@ -72,9 +72,9 @@ rows-whole n c (l ∷ ls) e (suc i) h =
 row-passed : (n c : ℕ) (r : Line) (later : TableRead) → is-end r ≡ 0 → faultOr n r later ≡ Rows c → passed r ≡ 1
 row-passed n c (line.Row d a b) later z e = refl
 row-passed n c line.End later z e = sym z
-row-passed n c line.BadLength later z e = no-rows n c e
+row-passed n c line.BadLine later z e = no-rows n c e
 row-passed n c line.BadField later z e = zero-not-one (cc)
-row-passed n c line.LargeNumber later z e = zero-not-one (cc)
+row-passed n c line.BadNumber later z e = zero-not-one (cc)
 
 rows-passed : (n c : ℕ) (ls : List (List ℕ)) → judgedFrom n ls ≡ Rows c → (i : ℕ) → i < length ls → passed (rowOf (getD ls i [])) ≡ 1
 unfolding judgedFrom
@@ -83,7 +83,7 @@ rows-passed n c (l ∷ ls) e zero h = row-passed (n + 1) c (rowOf l) (judgedFrom
 rows-passed n c (l ∷ ls) e (suc i) h =
     rows-passed (n + 1) c ls (rest-rows (n + 1) c (rowOf l) (judgedFrom (n + 1) ls) e) i (le-of-suc-le-suc h)
 
-no-bytes : rowOf [] ≡ line.BadLength
+no-bytes : rowOf [] ≡ line.BadLine
 unfolding rowOf lineAs isWhole
 no-bytes = refl
 
@@ -131,7 +131,7 @@ module _ (text : List ℕ) (c : ℕ) (so : judgedFrom 0 (linesOf text) ≡ Rows 
     pub column-length : length (map (λ (l : List ℕ). f (rowOf l)) (linesOf text)) ≡ c
     column-length = length-map (linesOf text) (λ (l : List ℕ). f (rowOf l)) ∙ sym all
 
-    module _ (z : f line.BadLength ≡ 0) (i : ℕ) (h : i < c) where
+    module _ (z : f line.BadLine ≡ 0) (i : ℕ) (h : i < c) where
       -- its number at a row is that of the line found there
       column-at : getD column i 0 ≡ f (stepAt text i)
       column-at =

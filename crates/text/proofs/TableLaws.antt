@@ -27,7 +27,7 @@ use Rattle.text.specs.declared.lines.Line.{Line}
 use Rattle.text.specs.declared.lines.Line.the-variants as line
 use Rattle.text.specs.declared.lines.Step.{Step}
 use Rattle.text.specs.declared.table.TableRead.{TableRead}
-use Rattle.text.specs.declared.table.TableRead.the-variants.{Rows, Room}
+use Rattle.text.specs.declared.table.TableRead.the-variants.{Rows, NoRoom}
 use Rattle.text.proofs.Tests.{true-or-false, pick-true, pick-false, zero-not-one}
 use Rattle.text.proofs.LineLaws.{next-start, step-none, step-short, whole-fits, step-found, step-line, is-end, never-end}
 use Rattle.text.proofs.SplitLaws.{lines-first, whole-size}
@@ -59,7 +59,7 @@ whole-step s e =
       split = lines-first s (omega arith) ∙ ap (λ (k : ℕ). firstLine s ∷ linesOf (drop k s)) (whole-size lineBytes (firstLine s) e);
     }
 
-no-row : {A : Type 0} (d a b : ℕ) → line.BadLength ≡ line.Row d a b → A
+no-row : {A : Type 0} (d a b : ℕ) → line.BadLine ≡ line.Row d a b → A
 no-row d a b e = zero-not-one (cc)
 
 no-end-row : {A : Type 0} (d a b : ℕ) → line.End ≡ line.Row d a b → A
@@ -110,9 +110,9 @@ module _ {text : List ℕ} {found : TableRead} {n : ℕ} {s : Step} (so : Judgin
   by-stay : (l : Line) → s .found ≡ l → passed l ≡ 0 → faultOr (n + 1) l (Rows n) ≡ found
   by-stay (line.Row d a b) e z = zero-not-one (sym z)
   by-stay line.End e z = at-end e
-  by-stay line.BadLength e z = at-fault line.BadLength e refl
+  by-stay line.BadLine e z = at-fault line.BadLine e refl
   by-stay line.BadField e z = at-fault line.BadField e refl
-  by-stay line.LargeNumber e z = at-fault line.LargeNumber e refl
+  by-stay line.BadNumber e z = at-fault line.BadNumber e refl
 
   -- a reader that stays is at the text's end or at the lowest faulty line
   pub stays : s .line ≡ n → faultOr (n + 1) (s .found) (Rows n) ≡ found
@@ -123,9 +123,9 @@ module _ {text : List ℕ} {found : TableRead} {n : ℕ} {s : Step} (so : Judgin
       let on : s .line ≡ n + 1 = step-line text n is ∙ ap (λ (l : Line). n + passed l) e in
       record { next = on; judging = rw on (at-row d a b e) }
   by-move line.End e h = absurd (h refl)
-  by-move line.BadLength e h = absurd (h refl)
+  by-move line.BadLine e h = absurd (h refl)
   by-move line.BadField e h = absurd (h refl)
-  by-move line.LargeNumber e h = absurd (h refl)
+  by-move line.BadNumber e h = absurd (h refl)
 
   -- one that moves has passed a row
   pub moves : (s .line ≡ n → ⊥) → NextLine text found n (s .line)
@@ -157,7 +157,7 @@ module _ (text : List ℕ) (old : Columns) {r : TableRead} (is : r ≡ judgedFro
   }
 
   module _ {n places : ℕ} (e : r ≡ Rows n) (q : places ≡ room) where
-    pub reads-short : places < n → TableReads text old Room old
+    pub reads-short : places < n → TableReads text old NoRoom old
     reads-short h = record {
       answers = sym (pick-false _ _ _ (lt-leb n room (rw q at h))) ∙ answer e;
       days-hold = refl;

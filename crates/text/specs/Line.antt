@@ -34,7 +34,7 @@ use Rattle.text.specs.declared.decimal.Field.the-variants.{Large, Broken
 use Rattle.text.specs.declared.layout.Format.{Format}
 use Rattle.text.specs.declared.layout.Layout.{Layout}
 use Rattle.text.specs.declared.lines.Line.{Line}
-use Rattle.text.specs.declared.lines.Line.the-variants.{Row, End, BadLength, BadField, LargeNumber}
+use Rattle.text.specs.declared.lines.Line.the-variants.{Row, End, BadLine, BadField, BadNumber}
 use Rattle.text.specs.declared.lines.Step.{Step}
 use Rattle.text.specs.declared.lines.QueryRead.{QueryRead}
 use Rattle.text.specs.declared.lines.QueryRead.the-variants as query
@@ -62,9 +62,9 @@ isWhole size l = eqb (length l) size && eqb (getD l (size - 1) 0) 10
 abbrev pub lineNumber : Line → ℕ
 lineNumber (Row day first second) = 0
 lineNumber End = 0
-lineNumber BadLength = 11
+lineNumber BadLine = 11
 lineNumber BadField = fieldNumber Broken
-lineNumber LargeNumber = fieldNumber Large
+lineNumber BadNumber = fieldNumber Large
 
 abbrev pub anyRefuses : ℕ → Field → Field → Field → Bool
 anyRefuses number x y z = refuses number x || refuses number y || refuses number z
@@ -73,7 +73,7 @@ anyRefuses number x y z = refuses number x || refuses number y || refuses number
 unfoldable pub judged : Field → Field → Field → Line
 judged x y z =
     cond (anyRefuses (lineNumber BadField) x y z) BadField
-    (cond (anyRefuses (lineNumber LargeNumber) x y z) LargeNumber
+    (cond (anyRefuses (lineNumber BadNumber) x y z) BadNumber
     (Row (fieldValue x) (fieldValue y) (fieldValue z)))
 
 unfoldable pub fieldAt : Format → ℕ → List ℕ → Field
@@ -84,7 +84,7 @@ unfoldable pub lineAs : Layout → List ℕ → Line
 lineAs y l =
     let a = y .first .width in
     let b = y .second .width in
-    cond (isWhole (bytesOf y) l) (judged (fieldAt (y .first) 0 l) (fieldAt (y .second) a l) (fieldAt (y .third) (a + b) l)) BadLength
+    cond (isWhole (bytesOf y) l) (judged (fieldAt (y .first) 0 l) (fieldAt (y .second) a l) (fieldAt (y .third) (a + b) l)) BadLine
 
 -- what a reader finds where these lines are left; "Empty text gives 0 rows"
 unfoldable pub stepAs : Layout → List (List ℕ) → Line
@@ -104,9 +104,9 @@ stepAt text n = stepAs tableLayout (linesOf (drop (lineBytes * n) text))
 abbrev pub passed : Line → ℕ
 passed (Row day first second) = 1
 passed End = 0
-passed BadLength = 0
+passed BadLine = 0
 passed BadField = 0
-passed LargeNumber = 0
+passed BadNumber = 0
 
 unfoldable pub stepFrom : List ℕ → ℕ → Step
 stepFrom text n = record { found = stepAt text n; line = n + passed (stepAt text n) }
@@ -122,10 +122,10 @@ pub record Reached (text : List ℕ) (n : ℕ) : Type 0 where
 -- a query line is judged as a line is; "11 when input is empty"
 abbrev pub queryFrom : Line → QueryRead
 queryFrom (Row k from to) = query.Query k from to
-queryFrom End = query.BadLength
-queryFrom BadLength = query.BadLength
+queryFrom End = query.BadLine
+queryFrom BadLine = query.BadLine
 queryFrom BadField = query.BadField
-queryFrom LargeNumber = query.LargeNumber
+queryFrom BadNumber = query.BadNumber
 
 -- 01, listing program: "a query line of 16 bytes (k, Ts, Te, 5 columns each, byte 10)"
 unfoldable pub queryOf : List ℕ → QueryRead
@@ -134,13 +134,13 @@ queryOf text = queryFrom (stepAs queryLayout (linesOf text))
 -- "It reads the query line first (11, 12, 13 at line 1; 11 when input is empty)"
 abbrev pub queryNumber : QueryRead → ℕ
 queryNumber (query.Query k from to) = 0
-queryNumber query.BadLength = lineNumber BadLength
+queryNumber query.BadLine = lineNumber BadLine
 queryNumber query.BadField = lineNumber BadField
-queryNumber query.LargeNumber = lineNumber LargeNumber
+queryNumber query.BadNumber = lineNumber BadNumber
 
 -- "at line 1"
 abbrev pub queryPlace : QueryRead → ℕ
 queryPlace (query.Query k from to) = 0
-queryPlace query.BadLength = 1
+queryPlace query.BadLine = 1
 queryPlace query.BadField = 1
-queryPlace query.LargeNumber = 1
+queryPlace query.BadNumber = 1

@@ -27,29 +27,29 @@ use Rattle.text.specs.declared.lines.Line.{Line}
 use Rattle.text.specs.declared.lines.Line.the-variants as line
 use Rattle.text.specs.declared.print.Put.{Put}
 use Rattle.text.specs.declared.table.TableRead.{TableRead}
-use Rattle.text.specs.declared.table.TableRead.the-variants.{Rows, LineLength, BrokenField, LargeNumber, Room}
+use Rattle.text.specs.declared.table.TableRead.the-variants.{Rows, BadLine, BadField, BadNumber, NoRoom}
 
 -- "A row is one payment: a day .. and two accounts"
 abbrev pub dayOf : Line → ℕ
 dayOf (line.Row day first second) = day
 dayOf line.End = 0
-dayOf line.BadLength = 0
+dayOf line.BadLine = 0
 dayOf line.BadField = 0
-dayOf line.LargeNumber = 0
+dayOf line.BadNumber = 0
 
 abbrev pub firstOf : Line → ℕ
 firstOf (line.Row day first second) = first
 firstOf line.End = 0
-firstOf line.BadLength = 0
+firstOf line.BadLine = 0
 firstOf line.BadField = 0
-firstOf line.LargeNumber = 0
+firstOf line.BadNumber = 0
 
 abbrev pub secondOf : Line → ℕ
 secondOf (line.Row day first second) = second
 secondOf line.End = 0
-secondOf line.BadLength = 0
+secondOf line.BadLine = 0
 secondOf line.BadField = 0
-secondOf line.LargeNumber = 0
+secondOf line.BadNumber = 0
 
 -- "A table is three lent columns of 16-bit numbers"
 unfoldable pub daysOf : List ℕ → List ℕ
@@ -65,9 +65,9 @@ secondsOf text = map (λ l. secondOf (rowOf l)) (linesOf text)
 abbrev pub faultOr : ℕ → Line → TableRead → TableRead
 faultOr n (line.Row day first second) later = later
 faultOr n line.End later = later
-faultOr n line.BadLength later = LineLength n
-faultOr n line.BadField later = BrokenField n
-faultOr n line.LargeNumber later = LargeNumber n
+faultOr n line.BadLine later = BadLine n
+faultOr n line.BadField later = BadField n
+faultOr n line.BadNumber later = BadNumber n
 
 -- "The lowest faulty line refuses"; n lines stand before these. "Empty text gives 0 rows"
 unfoldable pub judgedFrom : ℕ → List (List ℕ) → TableRead
@@ -76,11 +76,11 @@ judgedFrom n (l ∷ ls) = faultOr (n + 1) (rowOf l) (judgedFrom (n + 1) ls)
 
 -- "Then 10: fewer places than lines in any column"
 abbrev pub roomFor : ℕ → TableRead → TableRead
-roomFor room (Rows n) = cond (leb n room) (Rows n) Room
-roomFor room (LineLength n) = LineLength n
-roomFor room (BrokenField n) = BrokenField n
-roomFor room (LargeNumber n) = LargeNumber n
-roomFor room Room = Room
+roomFor room (Rows n) = cond (leb n room) (Rows n) NoRoom
+roomFor room (BadLine n) = BadLine n
+roomFor room (BadField n) = BadField n
+roomFor room (BadNumber n) = BadNumber n
+roomFor room NoRoom = NoRoom
 
 -- the shortest column decides
 unfoldable pub tableReadOf : List ℕ → ℕ → ℕ → ℕ → TableRead
@@ -89,10 +89,10 @@ tableReadOf text days first second = roomFor (min days (min first second)) (judg
 -- "Unused places keep their contents"; "Every buffer keeps its contents on a refusal"
 abbrev pub filled : TableRead → List ℕ → List ℕ → List ℕ
 filled (Rows n) values column = values ++ drop n column
-filled (LineLength n) values column = column
-filled (BrokenField n) values column = column
-filled (LargeNumber n) values column = column
-filled Room values column = column
+filled (BadLine n) values column = column
+filled (BadField n) values column = column
+filled (BadNumber n) values column = column
+filled NoRoom values column = column
 
 -- "three columns"
 pub record Columns : Type 0 where
@@ -123,23 +123,23 @@ pub record TableReads (text : List ℕ) (old : Columns) (answer : TableRead) (ne
 -- "A refusal is a number and a place"; 0 for none. 11, 12 and 13 are the faulty line's own; 10 is that of every call with too little room
 abbrev pub number : TableRead → ℕ
 number (Rows n) = 0
-number (LineLength n) = lineNumber line.BadLength
-number (BrokenField n) = lineNumber line.BadField
-number (LargeNumber n) = lineNumber line.LargeNumber
-number Room = putNumber Put.NoRoom
+number (BadLine n) = lineNumber line.BadLine
+number (BadField n) = lineNumber line.BadField
+number (BadNumber n) = lineNumber line.BadNumber
+number NoRoom = putNumber Put.NoRoom
 
 -- "a line counted from 1 for 11, 12, 13; else 0"
 abbrev pub place : TableRead → ℕ
 place (Rows n) = 0
-place (LineLength n) = n
-place (BrokenField n) = n
-place (LargeNumber n) = n
-place Room = 0
+place (BadLine n) = n
+place (BadField n) = n
+place (BadNumber n) = n
+place NoRoom = 0
 
 -- the rows read
 abbrev pub count : TableRead → ℕ
 count (Rows n) = n
-count (LineLength n) = 0
-count (BrokenField n) = 0
-count (LargeNumber n) = 0
-count Room = 0
+count (BadLine n) = 0
+count (BadField n) = 0
+count (BadNumber n) = 0
+count NoRoom = 0

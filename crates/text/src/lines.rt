@@ -17,9 +17,9 @@ use crate::layout::TABLE;
 pub enum Line {
     Row(u16, u16, u16),
     End,
-    BadLength,
+    BadLine,
     BadField,
-    LargeNumber,
+    BadNumber,
 }
 
 // What a step of the line reader finds at a line, and the line that is reached then.
@@ -31,9 +31,9 @@ pub struct Step {
 // What a query line holds.
 pub enum QueryRead {
     Query(u16, u16, u16),
-    BadLength,
+    BadLine,
     BadField,
-    LargeNumber,
+    BadNumber,
 }
 
 fn is_broken(f: Field) -> bool
@@ -98,7 +98,7 @@ fn judge(x: Field, y: Field, z: Field) -> Line
         return Line::BadField;
     }
     if any_large(x, y, z) {
-        return Line::LargeNumber;
+        return Line::BadNumber;
     }
     Line::Row(number_of(x), number_of(y), number_of(z))
 }
@@ -146,7 +146,7 @@ fn first_as(s: &[u8], layout: Layout) -> Line
     let y = x + b.width;
     let z = y + c.width;
     if !is_whole(s, z + 1) {
-        return Line::BadLength;
+        return Line::BadLine;
     }
     judge(field_at(s, 0, a), field_at(s, x, b), field_at(s, y, c))
 }
@@ -158,9 +158,9 @@ fn passed(l: Line) -> usize
     match l {
         Line::Row(_, _, _) => 1,
         Line::End => 0,
-        Line::BadLength => 0,
+        Line::BadLine => 0,
         Line::BadField => 0,
-        Line::LargeNumber => 0,
+        Line::BadNumber => 0,
     }
 }
 
@@ -192,9 +192,9 @@ pub fn read_query(text: &[u8]) -> QueryRead
 {
     match first_as(text, QUERY) {
         Line::Row(k, from, to) => QueryRead::Query(k, from, to),
-        Line::End => QueryRead::BadLength,
-        Line::BadLength => QueryRead::BadLength,
+        Line::End => QueryRead::BadLine,
+        Line::BadLine => QueryRead::BadLine,
         Line::BadField => QueryRead::BadField,
-        Line::LargeNumber => QueryRead::LargeNumber,
+        Line::BadNumber => QueryRead::BadNumber,
     }
 }

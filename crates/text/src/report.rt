@@ -40,10 +40,10 @@ pub fn report_table(read: TableRead) -> Report
             place: 0,
             count: n,
         },
-        TableRead::LineLength(line) => refused(LINE_LENGTH, line),
-        TableRead::BrokenField(line) => refused(BROKEN_FIELD, line),
-        TableRead::LargeNumber(line) => refused(LARGE_NUMBER, line),
-        TableRead::Room => refused(NO_ROOM, 0),
+        TableRead::BadLine(line) => refused(LINE_LENGTH, line),
+        TableRead::BadField(line) => refused(BROKEN_FIELD, line),
+        TableRead::BadNumber(line) => refused(LARGE_NUMBER, line),
+        TableRead::NoRoom => refused(NO_ROOM, 0),
     }
 }
 
@@ -53,8 +53,8 @@ pub fn report_query(read: QueryRead) -> Report
 {
     match read {
         QueryRead::Query(_, _, _) => refused(0, 0),
-        QueryRead::BadLength => refused(LINE_LENGTH, 1),
+        QueryRead::BadLine => refused(LINE_LENGTH, 1),
         QueryRead::BadField => refused(BROKEN_FIELD, 1),
-        QueryRead::LargeNumber => refused(LARGE_NUMBER, 1),
+        QueryRead::BadNumber => refused(LARGE_NUMBER, 1),
     }
 }

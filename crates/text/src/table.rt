@@ -10,10 +10,10 @@ use crate::reader::read_line;
 // The rows read, or the refusal. A line is counted from 1.
 pub enum TableRead {
     Rows(usize),
-    LineLength(usize),
-    BrokenField(usize),
-    LargeNumber(usize),
-    Room,
+    BadLine(usize),
+    BadField(usize),
+    BadNumber(usize),
+    NoRoom,
 }
 
 fn day_of(l: Line) -> u16
@@ -22,9 +22,9 @@ fn day_of(l: Line) -> u16
     match l {
         Line::Row(day, _, _) => day,
         Line::End => 0,
-        Line::BadLength => 0,
+        Line::BadLine => 0,
         Line::BadField => 0,
-        Line::LargeNumber => 0,
+        Line::BadNumber => 0,
     }
 }
 
@@ -34,9 +34,9 @@ fn first_of(l: Line) -> u16
     match l {
         Line::Row(_, first, _) => first,
         Line::End => 0,
-        Line::BadLength => 0,
+        Line::BadLine => 0,
         Line::BadField => 0,
-        Line::LargeNumber => 0,
+        Line::BadNumber => 0,
     }
 }
 
@@ -46,9 +46,9 @@ fn second_of(l: Line) -> u16
     match l {
         Line::Row(_, _, second) => second,
         Line::End => 0,
-        Line::BadLength => 0,
+        Line::BadLine => 0,
         Line::BadField => 0,
-        Line::LargeNumber => 0,
+        Line::BadNumber => 0,
     }
 }
 
@@ -61,9 +61,9 @@ fn ended(l: Line, line: usize) -> TableRead
     match l {
         Line::Row(_, _, _) => TableRead::Rows(line),
         Line::End => TableRead::Rows(line),
-        Line::BadLength => TableRead::LineLength(line + 1),
-        Line::BadField => TableRead::BrokenField(line + 1),
-        Line::LargeNumber => TableRead::LargeNumber(line + 1),
+        Line::BadLine => TableRead::BadLine(line + 1),
+        Line::BadField => TableRead::BadField(line + 1),
+        Line::BadNumber => TableRead::BadNumber(line + 1),
     }
 }
 
@@ -130,21 +130,21 @@ pub fn read_table(text: &[u8], days: &mut [u16], first: &mut [u16], second: &mut
 {
     let judged = check_lines(text);
     match judged {
-        TableRead::LineLength(n) => {
-            return TableRead::LineLength(n);
+        TableRead::BadLine(n) => {
+            return TableRead::BadLine(n);
         }
-        TableRead::BrokenField(n) => {
-            return TableRead::BrokenField(n);
+        TableRead::BadField(n) => {
+            return TableRead::BadField(n);
         }
-        TableRead::LargeNumber(n) => {
-            return TableRead::LargeNumber(n);
+        TableRead::BadNumber(n) => {
+            return TableRead::BadNumber(n);
         }
-        TableRead::Room => {
-            return TableRead::Room;
+        TableRead::NoRoom => {
+            return TableRead::NoRoom;
         }
         TableRead::Rows(n) => {
             if least(days.len(), first.len(), second.len()) < n {
-                return TableRead::Room;
+                return TableRead::NoRoom;
             }
             write_rows(text, days, first, second);
             return TableRead::Rows(n);

@@ -1,7 +1,7 @@
 use Rattle.listing.proofs.ReadingLaws.{too-long, asked-none, asked-most, part-most, asked-rows}
 use Rattle.listing.proofs.AnswerLaws.{answer-none, answer-refused, answer-as}
 use Rattle.listing.specs.Program.{outcome}
-use Rattle.rings.specs.declared.refusal.Refusal.the-variants.{TooManyRows}
+use Rattle.rings.specs.declared.refusal.Refusal.the-variants.{TooLarge}
 use Rattle.rings.specs.Refusals.{placeOf}
 use lib.Seq.{length-take-le}
 use native.Mathlib.Omega.{arith}
@@ -25,7 +25,7 @@ returns : tie.Need-returns
 returns c =
     let if1 = c .before .if1 in
     let args = c .before .before .before .before .args in
-    let prints = answer-refused (outcome ((args) .input .now)) ((args) .output .now) TooManyRows
+    let prints = answer-refused (outcome ((args) .input .now)) ((args) .output .now) TooLarge
     (too-long ((args) .input .now) ((if1) .taken)) ((c .refused) .ensures) in (prints .answer, prints .output)
 
 -- src/program.rt:251:35

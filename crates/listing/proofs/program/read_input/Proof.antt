@@ -82,7 +82,7 @@ returns-2 c =
     let read-query = c .before .before .before .read-query in
     let args = c .before .before .before .before .before .before .before .before .args in
     let pre = c .before .before .before .before .before .before .before .before .pre in
-    asks-none ((args) .input .now) ((pre) .short) QueryRead.BadLength ((read-query) .ensures) ((enum-told) .given .1)
+    asks-none ((args) .input .now) ((pre) .short) QueryRead.BadLine ((read-query) .ensures) ((enum-told) .given .1)
     refl ((c .bad-query) .ensures)
 
 -- src/program.rt:150:13
@@ -120,7 +120,7 @@ returns-4 c =
     let read-query = c .before .before .before .read-query in
     let args = c .before .before .before .before .before .before .before .before .args in
     let pre = c .before .before .before .before .before .before .before .before .pre in
-    asks-none ((args) .input .now) ((pre) .short) QueryRead.LargeNumber ((read-query) .ensures) ((enum-told3) .given .1)
+    asks-none ((args) .input .now) ((pre) .short) QueryRead.BadNumber ((read-query) .ensures) ((enum-told3) .given .1)
     refl ((c .bad-query3) .ensures)
 
 pub read-input-spec : {M : Type 1} → statement M
