@@ -8,11 +8,9 @@ use Rattle.engine.proofs.numbers.of_read.Reads as reads
 use Rattle.engine.proofs.numbers.of_read.Lts as lts
 use Rattle.text.proofs.report_table.Reads as report-table-reads
 
--- src/numbers.rt:74:9
 report-table-requires : tie.Need-report-table-requires
 report-table-requires c κs = search needs
 
--- src/numbers.rt:71:1
 returns : tie.Need-returns
 returns c = ap {B = Numbers} (λ (t : Report). record { number = t .number; place = t .place; count = t .count }) ((c .report-table) .ensures)
 

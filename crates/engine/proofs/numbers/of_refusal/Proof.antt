@@ -7,15 +7,12 @@ use Rattle.engine.proofs.numbers.of_refusal.Lts as lts
 use Rattle.engine.proofs.numbers.place_number.Reads as place-number-reads
 use Rattle.rings.proofs.tell.Reads as tell-reads
 
--- src/numbers.rt:33:9
 tell-requires : tie.Need-tell-requires
 tell-requires c κs = search needs
 
--- src/numbers.rt:37:16
 place-number-requires : tie.Need-place-number-requires
 place-number-requires c κs = search needs
 
--- src/numbers.rt:30:1
 returns : tie.Need-returns
 returns c = refusal-told ((c .before .before .args) .r) ((c .before .tell) .ensures) ((c .place-number) .ensures)
 

@@ -15,31 +15,24 @@ use Rattle.listing.proofs.list.pass.Reads as pass-reads
 use Rattle.rings.proofs.clear.Reads as clear-reads
 use Rattle.rings.proofs.starts.prepare.Reads as prepare-reads
 
--- src/list.rt:274:5
 prepare-requires : tie.Need-prepare-requires
 prepare-requires c κs = search needs
 
--- src/list.rt:275:9
 has-room-requires : tie.Need-has-room-requires
 has-room-requires c κs = search needs
 
--- src/list.rt:288:9
 clear-requires : tie.Need-clear-requires
 clear-requires c κs = search needs
 
--- src/list.rt:289:9
 same-length : tie.Need-same-length
 same-length c = search needs
 
--- src/list.rt:289:9
 same-length-2 : tie.Need-same-length-2
 same-length-2 c = search needs
 
--- src/list.rt:289:9
 same-length-3 : tie.Need-same-length-3
 same-length-3 c = search needs
 
--- src/list.rt:289:9
 same-length-4 : tie.Need-same-length-4
 same-length-4 c =
     let clear = c .before .before .clear in
@@ -47,7 +40,6 @@ same-length-4 c =
     let prepare = c .before .before .before .before .before .before .before .before .before .before .before .before .before .before .before .before .before .before .before .before .prepare in
     (clear) .kept .0 ∙ ((has-room) .kept .1 .1 .1 .0 ∙ (prepare) .kept .1 .1 .1 .0)
 
--- src/list.rt:289:9
 returns : tie.Need-returns
 unfolding cleared
 returns c =
@@ -59,7 +51,6 @@ returns c =
     ((clear) .ensures ∙ ap (λ (m : ℕ). replicate m 0) ((has-room) .kept .1 .1 .1 .0 ∙ (prepare) .kept .1 .1 .1 .0))
     (not-true _ ((if1) .taken))
 
--- src/list.rt:292:9
 pass-requires : tie.Need-pass-requires
 pass-requires c κs =
     let has-room = c .before .before .before .before .before .before .before .before .before .before .before .before .before .has-room in
@@ -71,23 +62,18 @@ pass-requires c κs =
       columns = found-room ((pre) .columns) ((has-room) .ensures .unwritten);
     }
 
--- src/list.rt:305:5
 clear-requires-2 : tie.Need-clear-requires-2
 clear-requires-2 c κs = search needs
 
--- src/list.rt:253:1
 same-length-5 : tie.Need-same-length-5
 same-length-5 c = search needs
 
--- src/list.rt:253:1
 same-length-6 : tie.Need-same-length-6
 same-length-6 c = search needs
 
--- src/list.rt:253:1
 same-length-7 : tie.Need-same-length-7
 same-length-7 c = search needs
 
--- src/list.rt:253:1
 same-length-8 : tie.Need-same-length-8
 same-length-8 c =
     let clear2 = c .before .before .clear2 in
@@ -96,7 +82,6 @@ same-length-8 c =
     let prepare = c .before .before .before .before .before .before .before .before .before .before .before .before .before .before .before .before .before .before .before .before .before .before .before .before .before .before .before .before .before .before .before .before .before .prepare in
     (clear2) .kept .0 ∙ ((pass) .kept .1 .1 .1 .0 ∙ ((has-room) .kept .1 .1 .1 .0 ∙ (prepare) .kept .1 .1 .1 .0))
 
--- src/list.rt:253:1
 returns-2 : tie.Need-returns-2
 unfolding cleared
 returns-2 c =

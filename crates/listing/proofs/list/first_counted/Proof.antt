@@ -13,57 +13,48 @@ Inv-loop counts low te day₀ day = Uncounted counts low day × (day ≤ te + 1)
 abbrev μ-loop : tie.MeasureT-loop
 μ-loop counts low te day₀ day = te + 1 - day
 
--- src/list.rt:123:5
 loop-holds : tie.Need-loop-holds Inv-loop μ-loop
 loop-holds c = (uncounted-start _ _, omega (arith, c .pre .order))
 
--- src/list.rt:124:19
 cast-if1 : tie.Need-cast-if1 Inv-loop μ-loop
 cast-if1 c =
     let pre = c .before .before .pre in
     omega (arith, c .loop-test .taken, pre .last)
 
--- src/list.rt:124:12
 mul-if1 : tie.Need-mul-if1 Inv-loop μ-loop
 mul-if1 c =
     let pre = c .before .before .pre in
     omega (arith, c .loop-test .taken, pre .last)
 
--- src/list.rt:124:12
 shared-slice-read-if1 : tie.Need-shared-slice-read-if1 Inv-loop μ-loop
 shared-slice-read-if1 c =
     let loop-test = c .before .loop-test in
     let pre = c .before .before .before .pre in
     omega (arith, loop-test .taken, pre .last, pre .long)
 
--- src/list.rt:125:13
 returns : tie.Need-returns Inv-loop μ-loop
 returns c =
     let loop-test = c .before .before .loop-test in
     let loop = c .before .before .before .loop in
     counted-one (loop .inv .0) (loop-test .taken) (c .if1 .taken)
 
--- src/list.rt:127:15
 add-day : tie.Need-add-day Inv-loop μ-loop
 add-day c =
     let loop-test = c .before .before .loop-test in
     let pre = c .before .before .before .before .pre in
     omega (arith, loop-test .taken, pre .last)
 
--- src/list.rt:123:5
 loop-less : tie.Need-loop-less Inv-loop μ-loop
 loop-less c =
     let loop-test = c .before .before .loop-test in
     omega (arith, loop-test .taken)
 
--- src/list.rt:123:5
 loop-again : tie.Need-loop-again Inv-loop μ-loop
 loop-again c =
     let loop-test = c .before .before .loop-test in
     let loop = c .before .before .before .loop in
     (uncounted-next (loop .inv .0) (c .if1 .left), omega (arith, loop-test .taken))
 
--- src/list.rt:118:1
 returns-2 : tie.Need-returns-2 Inv-loop μ-loop
 returns-2 c =
     let loop = c .before .loop in

@@ -8,56 +8,44 @@ use Rattle.listing.proofs.list.has_room.Lts as lts
 use Rattle.listing.proofs.list.pass.Reads as pass-reads
 use Rattle.listing.proofs.longest.most.Reads as most-reads
 
--- src/list.rt:232:25
 add-most : tie.Need-add-most
 add-most c = search needs
 
--- src/list.rt:232:25
 sub-most : tie.Need-sub-most
 sub-most c = search needs
 
--- src/list.rt:232:24
 cast-most : tie.Need-cast-most
 cast-most c = search needs
 
--- src/list.rt:232:19
 most-requires : tie.Need-most-requires
 most-requires c κs =
     let pre = c .before .before .before .before .before .before .before .pre in
     omega (arith, (pre) .asked .from, (pre) .asked .order, (pre) .asked .to)
 
--- src/list.rt:232:19
 cast-longest : tie.Need-cast-longest
 cast-longest c = search needs
 
--- src/list.rt:234:9
 returns : tie.Need-returns
 returns c =
     let most = c .before .most in
     let pre = c .before .before .before .before .before .before .before .before .before .pre in
     room-most _ _ _ _ _ ((pre) .prepared) ((most) .ensures) (c .if1 .taken)
 
--- src/list.rt:236:9
 pass-requires : tie.Need-pass-requires
 pass-requires c κs = search needs
 
--- src/list.rt:211:1
 same-length : tie.Need-same-length
 same-length c = search needs
 
--- src/list.rt:211:1
 same-length-2 : tie.Need-same-length-2
 same-length-2 c = search needs
 
--- src/list.rt:211:1
 same-length-3 : tie.Need-same-length-3
 same-length-3 c = search needs
 
--- src/list.rt:211:1
 same-length-4 : tie.Need-same-length-4
 same-length-4 c = search needs
 
--- src/list.rt:211:1
 returns-2 : tie.Need-returns-2
 returns-2 c =
     let pass = c .before .before .before .before .before .before .before .before .before .pass in

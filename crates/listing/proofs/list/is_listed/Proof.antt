@@ -4,13 +4,11 @@ use Rattle.listing.proofs.list.is_listed.Tie as tie
 use Rattle.listing.proofs.list.is_listed.Reads as reads
 use Rattle.listing.proofs.list.is_listed.Lts as lts
 
--- src/list.rt:122:9
 returns : tie.Need-returns
 returns c =
     let args′ = c .before .args in
     let args = args′ in listed-no (args .least) (args .e) (c .if1 .taken)
 
--- src/list.rt:118:1
 returns-2 : tie.Need-returns-2
 returns-2 c =
     let args′ = c .before .args in

@@ -21,36 +21,30 @@ abbrev μ-loop : tie.MeasureT-loop
 μ-loop s te low least room counts starts₀ ends₀ rows₀ count₀ sum₀ total₀ e₀ starts ends rows count sum total e =
     te + 1 - e
 
--- src/list.rt:95:9
 returns : tie.Need-returns Inv-loop μ-loop
 returns c =
     let pre = c .before .before .before .before .before .pre in
     ends-none (pre) (c .if1 .taken)
 
--- src/list.rt:101:5
 loop-holds : tie.Need-loop-holds Inv-loop μ-loop
 loop-holds c =
     let pre = c .before .before .before .before .before .pre in
     ends-start (pre)
 
--- src/list.rt:102:28
 cast-added : tie.Need-cast-added Inv-loop μ-loop
 cast-added c = search needs
 
--- src/list.rt:102:21
 mul-added : tie.Need-mul-added Inv-loop μ-loop
 mul-added c =
     let pre = c .before .before .before .before .before .before .before .pre in
     omega (arith, (c .loop-test) .taken, (pre) .counts .last)
 
--- src/list.rt:102:21
 shared-slice-read-added : tie.Need-shared-slice-read-added Inv-loop μ-loop
 shared-slice-read-added c =
     let loop-test = c .before .loop-test in
     let pre = c .before .before .before .before .before .before .before .before .pre in
     omega (arith, (loop-test) .taken, (pre) .counts .last, (pre) .counts .long)
 
--- src/list.rt:103:17
 add-total : tie.Need-add-total Inv-loop μ-loop
 add-total c =
     let loop-test = c .before .loop-test in
@@ -58,24 +52,20 @@ add-total c =
     let pre = c .before .before .before .before .before .before .before .before .pre in
     omega (arith, ends-total (pre) ((loop) .inv) ((loop-test) .taken))
 
--- src/list.rt:104:13
 is-listed-requires : tie.Need-is-listed-requires Inv-loop μ-loop
 is-listed-requires c κs = search needs
 
--- src/list.rt:106:17
 add-e : tie.Need-add-e Inv-loop μ-loop
 add-e c =
     let loop-test = c .before .before .before .loop-test in
     let pre = c .before .before .before .before .before .before .before .before .before .before .pre in
     omega (arith, (loop-test) .taken, (pre) .counts .last)
 
--- src/list.rt:101:5
 loop-less : tie.Need-loop-less Inv-loop μ-loop
 loop-less c =
     let loop-test = c .before .before .before .loop-test in
     omega (arith, (loop-test) .taken)
 
--- src/list.rt:101:5
 loop-again : tie.Need-loop-again Inv-loop μ-loop
 loop-again c =
     let is-listed = c .before .is-listed in
@@ -84,14 +74,12 @@ loop-again c =
     let pre = c .before .before .before .before .before .before .before .before .before .before .pre in
     ends-skip (pre) ((loop) .inv) ((loop-test) .taken) ((is-listed) .ensures) (not-true _ (c .if2 .taken))
 
--- src/list.rt:109:9
 enter-requires : tie.Need-enter-requires Inv-loop μ-loop
 enter-requires c κs =
     let loop = c .before .before .before .before .before .before .before .loop in
     let pre = c .before .before .before .before .before .before .before .before .before .before .before .before .before .pre in
     ends-room (pre) ((loop) .inv)
 
--- src/list.rt:110:17
 add-count : tie.Need-add-count Inv-loop μ-loop
 add-count c =
     let loop-test = c .before .before .before .before .before .before .before .before .before .before .before .before .before .loop-test in
@@ -99,7 +87,6 @@ add-count c =
     let pre = c .before .before .before .before .before .before .before .before .before .before .before .before .before .before .before .before .before .before .before .before .pre in
     omega (arith, (loop) .inv .few, (pre) .few, (loop-test) .taken, (pre) .counts .last)
 
--- src/list.rt:111:21
 cast-sum : tie.Need-cast-sum Inv-loop μ-loop
 cast-sum c =
     let loop-test = c .before .before .before .before .before .before .before .before .before .before .before .before .before .loop-test in
@@ -107,7 +94,6 @@ cast-sum c =
     let pre = c .before .before .before .before .before .before .before .before .before .before .before .before .before .before .before .before .before .before .before .before .pre in
     omega (arith, ends-total (pre) ((loop) .inv) ((loop-test) .taken))
 
--- src/list.rt:111:15
 add-sum : tie.Need-add-sum Inv-loop μ-loop
 add-sum c =
     let loop-test = c .before .before .before .before .before .before .before .before .before .before .before .before .before .loop-test in
@@ -122,20 +108,17 @@ add-sum c =
       (pre) .counts .last,
     )
 
--- src/list.rt:112:13
 add-e-2 : tie.Need-add-e-2 Inv-loop μ-loop
 add-e-2 c =
     let loop-test = c .before .before .before .before .before .before .before .before .before .before .before .before .before .loop-test in
     let pre = c .before .before .before .before .before .before .before .before .before .before .before .before .before .before .before .before .before .before .before .before .pre in
     omega (arith, (loop-test) .taken, (pre) .counts .last)
 
--- src/list.rt:101:5
 loop-less-2 : tie.Need-loop-less-2 Inv-loop μ-loop
 loop-less-2 c =
     let loop-test = c .before .before .before .before .before .before .before .before .before .before .before .before .before .loop-test in
     omega (arith, (loop-test) .taken)
 
--- src/list.rt:101:5
 loop-again-2 : tie.Need-loop-again-2 Inv-loop μ-loop
 loop-again-2 c =
     let enter = c .before .before .before .before .before .before .enter in
@@ -147,25 +130,21 @@ loop-again-2 c =
     ends-one (pre) ((loop) .inv) ((loop-test) .taken) ((is-listed) .ensures) (not-false _ ((if2) .left))
     ((enter) .ensures)
 
--- src/list.rt:76:1
 same-length : tie.Need-same-length Inv-loop μ-loop
 same-length c =
     let loop = c .before .loop in
     (loop) .inv .lengths .starts
 
--- src/list.rt:76:1
 same-length-2 : tie.Need-same-length-2 Inv-loop μ-loop
 same-length-2 c =
     let loop = c .before .loop in
     (loop) .inv .lengths .ends
 
--- src/list.rt:76:1
 same-length-3 : tie.Need-same-length-3 Inv-loop μ-loop
 same-length-3 c =
     let loop = c .before .loop in
     (loop) .inv .lengths .rows
 
--- src/list.rt:76:1
 returns-2 : tie.Need-returns-2 Inv-loop μ-loop
 returns-2 c =
     let loop = c .before .loop in

@@ -12,27 +12,21 @@ use Rattle.rings.proofs.checks.are_equal.Reads as are-equal-reads
 use Rattle.rings.proofs.checks.check_call.Reads as check-call-reads
 use Rattle.rings.proofs.checks.is_window.Reads as is-window-reads
 
--- src/list.rt:334:9
 is-window-requires : tie.Need-is-window-requires
 is-window-requires c κs = search needs
 
--- src/list.rt:335:9
 are-equal-requires : tie.Need-are-equal-requires
 are-equal-requires c κs = search needs
 
--- src/list.rt:336:9
 check-call-requires : tie.Need-check-call-requires
 check-call-requires c κs = search needs
 
--- src/list.rt:338:26
 enum-known-found : tie.Need-enum-known-found
 enum-known-found c = search needs
 
--- src/list.rt:347:17
 enum-told : tie.Need-enum-told
 enum-told c = search needs
 
--- src/list.rt:340:13
 find-rings-requires : tie.Need-find-rings-requires
 find-rings-requires c κs =
     let enum-told = c .before .before .before .before .enum-told in
@@ -44,7 +38,6 @@ find-rings-requires c κs =
     ((args) .te) (columnsOf ((args) .starts .now) ((args) .ends .now) ((args) .rows .now)) ((args) .scratch .now)
     ((is-window) .ensures) ((are-equal) .ensures) (sym ((check-call) .ensures) ∙ (enum-told) .given .1)
 
--- src/list.rt:312:1
 returns : tie.Need-returns
 returns c =
     let found = c .before .found in
@@ -56,23 +49,18 @@ returns c =
     ((args) .scratch .now) ((is-window) .ensures) ((are-equal) .ensures)
     (sym ((check-call) .ensures) ∙ (found) .given .1)
 
--- src/list.rt:312:1
 same-length : tie.Need-same-length
 same-length c = search needs
 
--- src/list.rt:312:1
 same-length-2 : tie.Need-same-length-2
 same-length-2 c = search needs
 
--- src/list.rt:312:1
 same-length-3 : tie.Need-same-length-3
 same-length-3 c = search needs
 
--- src/list.rt:312:1
 same-length-4 : tie.Need-same-length-4
 same-length-4 c = search needs
 
--- src/list.rt:312:1
 returns-2 : tie.Need-returns-2
 returns-2 c =
     let find-rings = c .before .before .before .before .before .before .before .before .find-rings in

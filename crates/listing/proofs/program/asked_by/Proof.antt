@@ -10,25 +10,21 @@ use Rattle.listing.proofs.program.asked_by.Lts as lts
 use Rattle.listing.proofs.program.reader_line.Reads as reader-line-reads
 use Rattle.text.proofs.report_table.Reads as report-table-reads
 
--- src/program.rt:95:9
 report-table-requires : tie.Need-report-table-requires
 report-table-requires c κs = search needs
 
--- src/program.rt:99:9
 returns : tie.Need-returns
 returns c =
     let report-table = c .before .report-table in
     let args = c .before .before .args in
     told-rows ((args) .read) ((args) .k) ((args) .ts) ((args) .te) ((report-table) .ensures) ((c .if1) .taken)
 
--- src/program.rt:101:9
 reader-line-requires : tie.Need-reader-line-requires
 reader-line-requires c κs =
     let report-table = c .before .report-table in
     let pre = c .before .before .pre in
     omega (arith, (pre), ap (λ (t : Report). t .place) ((report-table) .ensures))
 
--- src/program.rt:91:1
 returns-2 : tie.Need-returns-2
 returns-2 c =
     let if1 = c .before .if1 in

@@ -8,11 +8,9 @@ use Rattle.listing.proofs.program.bad_query.Reads as reads
 use Rattle.listing.proofs.program.bad_query.Lts as lts
 use Rattle.text.proofs.report_query.Reads as report-query-reads
 
--- src/program.rt:109:9
 report-query-requires : tie.Need-report-query-requires
 report-query-requires c κs = search needs
 
--- src/program.rt:106:1
 returns : tie.Need-returns
 returns c = ap (λ (t : Report). Asked.Refused (t .number) (t .place)) ((c .report-query) .ensures)
 

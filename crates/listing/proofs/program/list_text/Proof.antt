@@ -15,12 +15,10 @@ use Rattle.listing.proofs.program.print_rings.Reads as print-rings-read
 use Rattle.listing.proofs.program.read_input.Reads as read-input-reads
 use Rattle.listing.proofs.program.refused.Reads as refused-reads
 
--- src/program.rt:246:9
 refused-requires : tie.Need-refused-requires
 unfolding placeOf
 refused-requires c κs = omega arith
 
--- src/program.rt:246:9
 returns : tie.Need-returns
 returns c =
     let if1 = c .before .if1 in
@@ -28,27 +26,21 @@ returns c =
     let prints = answer-refused (outcome ((args) .input .now)) ((args) .output .now) TooLarge
     (too-long ((args) .input .now) ((if1) .taken)) ((c .refused) .ensures) in (prints .answer, prints .output)
 
--- src/program.rt:251:35
 slice-aggregate-read-input : tie.Need-slice-aggregate-read-input
 slice-aggregate-read-input c = search needs
 
--- src/program.rt:251:46
 slice-aggregate-read-input-2 : tie.Need-slice-aggregate-read-input-2
 slice-aggregate-read-input-2 c = search needs
 
--- src/program.rt:251:58
 slice-aggregate-read-input-3 : tie.Need-slice-aggregate-read-input-3
 slice-aggregate-read-input-3 c = search needs
 
--- src/program.rt:251:9
 read-input-requires : tie.Need-read-input-requires
 read-input-requires c κs = search needs
 
--- src/program.rt:253:26
 enum-known-asked : tie.Need-enum-known-asked
 enum-known-asked c = search needs
 
--- src/program.rt:254:13
 returns-2 : tie.Need-returns-2
 returns-2 c =
     let asked = c .before .asked in
@@ -57,18 +49,15 @@ returns-2 c =
     let prints = answer-none (outcome ((args) .input .now)) ((args) .output .now)
     (asked-none ((read-input) .ensures) ((asked) .given .1)) in (prints .answer, prints .output)
 
--- src/program.rt:256:23
 enum-known-asked-2 : tie.Need-enum-known-asked-2
 enum-known-asked-2 c = search needs
 
--- src/program.rt:258:17
 array-share-prefix-days : tie.Need-array-share-prefix-days
 array-share-prefix-days c =
     let asked2 = c .before .asked2 in
     let read-input = c .before .before .before .before .before .before .read-input in
     omega (arith, asked-most ((read-input) .ensures) ((asked2) .given .1))
 
--- src/program.rt:258:17
 slice-aggregate-print-rings : tie.Need-slice-aggregate-print-rings
 slice-aggregate-print-rings c =
     let asked2 = c .before .before .asked2 in
@@ -79,14 +68,12 @@ slice-aggregate-print-rings c =
     (omega (arith, asked-most ((read-input) .ensures) ((asked2) .given .1)))
     )
 
--- src/program.rt:259:17
 array-share-prefix-first : tie.Need-array-share-prefix-first
 array-share-prefix-first c =
     let asked2 = c .before .before .asked2 in
     let read-input = c .before .before .before .before .before .before .before .read-input in
     omega (arith, asked-most ((read-input) .ensures) ((asked2) .given .1))
 
--- src/program.rt:259:17
 slice-aggregate-print-rings-2 : tie.Need-slice-aggregate-print-rings-2
 slice-aggregate-print-rings-2 c =
     let asked2 = c .before .before .before .asked2 in
@@ -97,14 +84,12 @@ slice-aggregate-print-rings-2 c =
     (omega (arith, asked-most ((read-input) .ensures) ((asked2) .given .1)))
     )
 
--- src/program.rt:260:17
 array-share-prefix-second : tie.Need-array-share-prefix-second
 array-share-prefix-second c =
     let asked2 = c .before .before .before .asked2 in
     let read-input = c .before .before .before .before .before .before .before .before .read-input in
     omega (arith, asked-most ((read-input) .ensures) ((asked2) .given .1))
 
--- src/program.rt:260:17
 slice-aggregate-print-rings-3 : tie.Need-slice-aggregate-print-rings-3
 slice-aggregate-print-rings-3 c =
     let asked2 = c .before .before .before .before .asked2 in
@@ -115,18 +100,15 @@ slice-aggregate-print-rings-3 c =
     (omega (arith, asked-most ((read-input) .ensures) ((asked2) .given .1)))
     )
 
--- src/program.rt:257:13
 print-rings-requires : tie.Need-print-rings-requires
 print-rings-requires c κs =
     let asked2 = c .before .before .before .before .before .asked2 in
     let read-input = c .before .before .before .before .before .before .before .before .before .before .read-input in
     part-most ((read-input) .ensures) ((read-input) .last .1 .0) ((asked2) .given .1)
 
--- src/program.rt:257:13
 same-length : tie.Need-same-length
 same-length c = search needs
 
--- src/program.rt:257:13
 returns-3 : tie.Need-returns-3
 returns-3 c =
     let print-rings = c .before .before .print-rings in

@@ -8,36 +8,29 @@ use Rattle.listing.proofs.program.place_line.Tie as tie
 use Rattle.listing.proofs.program.place_line.Reads as reads
 use Rattle.listing.proofs.program.place_line.Lts as lts
 
--- src/program.rt:60:27
 enum-told : tie.Need-enum-told
 enum-told c = search needs
 
--- src/program.rt:61:20
 enum-known-place : tie.Need-enum-known-place
 enum-known-place c = search needs
 
--- src/program.rt:61:28
 add-result : tie.Need-add-result
 add-result c =
     let place = c .before .place in
     let pre = c .before .before .before .pre in
     omega (arith, (pre), ap placeNumber ((place) .given .1))
 
--- src/program.rt:62:28
 enum-told-2 : tie.Need-enum-told-2
 enum-told-2 c = search needs
 
--- src/program.rt:55:1
 returns : tie.Need-returns
 returns c = ap placeLine (sym ((c .enum-told) .given .1))
 
--- src/program.rt:55:1
 returns-2 : tie.Need-returns-2
 returns-2 c =
     let place = c .before .place in
     ap placeLine (sym ((place) .given .1))
 
--- src/program.rt:55:1
 returns-3 : tie.Need-returns-3
 returns-3 c = ap placeLine (sym ((c .enum-told2) .given .1))
 

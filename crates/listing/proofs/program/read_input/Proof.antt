@@ -12,15 +12,12 @@ use Rattle.listing.proofs.program.bad_query.Reads as bad-query-reads
 use Rattle.listing.proofs.program.read_rows.Reads as read-rows-reads
 use Rattle.text.proofs.read_query.Reads as read-query-reads
 
--- src/program.rt:141:9
 read-query-requires : tie.Need-read-query-requires
 read-query-requires c κs = search needs
 
--- src/program.rt:143:26
 enum-known-line : tie.Need-enum-known-line
 enum-known-line c = search needs
 
--- src/program.rt:144:30
 sub-read-rows : tie.Need-sub-read-rows
 sub-read-rows c =
     let line = c .before .line in
@@ -28,7 +25,6 @@ sub-read-rows c =
     let args = c .before .before .before .before .before .before .before .before .args in
     omega (arith, query-fits ((args) .input .now) _ _ _ (sym ((read-query) .ensures) ∙ (line) .given .1))
 
--- src/program.rt:144:30
 part-read-rows-start : tie.Need-part-read-rows-start
 part-read-rows-start c =
     let line = c .before .line in
@@ -36,27 +32,21 @@ part-read-rows-start c =
     let args = c .before .before .before .before .before .before .before .before .args in
     omega (arith, query-fits ((args) .input .now) _ _ _ (sym ((read-query) .ensures) ∙ (line) .given .1))
 
--- src/program.rt:144:30
 part-read-rows-end : tie.Need-part-read-rows-end
 part-read-rows-end c = search needs
 
--- src/program.rt:144:13
 read-rows-requires : tie.Need-read-rows-requires
 read-rows-requires c κs = search needs
 
--- src/program.rt:144:13
 same-length : tie.Need-same-length
 same-length c = search needs
 
--- src/program.rt:144:13
 same-length-2 : tie.Need-same-length-2
 same-length-2 c = search needs
 
--- src/program.rt:144:13
 same-length-3 : tie.Need-same-length-3
 same-length-3 c = search needs
 
--- src/program.rt:144:13
 returns : tie.Need-returns
 returns c =
     let read-rows = c .before .before .before .before .before .before .read-rows in
@@ -66,15 +56,12 @@ returns c =
     let pre = c .before .before .before .before .before .before .before .before .before .before .before .before .before .before .before .before .before .before .before .pre in
     asks-query ((args) .input .now) ((pre) .short) ((read-query) .ensures) ((line) .given .1) ((read-rows) .ensures)
 
--- src/program.rt:147:13
 enum-told : tie.Need-enum-told
 enum-told c = search needs
 
--- src/program.rt:147:13
 bad-query-requires : tie.Need-bad-query-requires
 bad-query-requires c κs = search needs
 
--- src/program.rt:147:13
 returns-2 : tie.Need-returns-2
 unfolding fromQuery
 returns-2 c =
@@ -85,15 +72,12 @@ returns-2 c =
     asks-none ((args) .input .now) ((pre) .short) QueryRead.BadLine ((read-query) .ensures) ((enum-told) .given .1)
     refl ((c .bad-query) .ensures)
 
--- src/program.rt:150:13
 enum-told-2 : tie.Need-enum-told-2
 enum-told-2 c = search needs
 
--- src/program.rt:150:13
 bad-query-requires-2 : tie.Need-bad-query-requires-2
 bad-query-requires-2 c κs = search needs
 
--- src/program.rt:150:13
 returns-3 : tie.Need-returns-3
 unfolding fromQuery
 returns-3 c =
@@ -104,15 +88,12 @@ returns-3 c =
     asks-none ((args) .input .now) ((pre) .short) QueryRead.BadField ((read-query) .ensures) ((enum-told2) .given .1)
     refl ((c .bad-query2) .ensures)
 
--- src/program.rt:153:13
 enum-told-3 : tie.Need-enum-told-3
 enum-told-3 c = search needs
 
--- src/program.rt:153:13
 bad-query-requires-3 : tie.Need-bad-query-requires-3
 bad-query-requires-3 c κs = search needs
 
--- src/program.rt:153:13
 returns-4 : tie.Need-returns-4
 unfolding fromQuery
 returns-4 c =

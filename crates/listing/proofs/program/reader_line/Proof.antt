@@ -5,17 +5,14 @@ use Rattle.listing.proofs.program.reader_line.Tie as tie
 use Rattle.listing.proofs.program.reader_line.Reads as reads
 use Rattle.listing.proofs.program.reader_line.Lts as lts
 
--- src/program.rt:85:9
 returns : tie.Need-returns
 returns c =
     let args = c .before .args in
     reader-none ((args) .line) (c .if1 .taken)
 
--- src/program.rt:87:5
 add-result : tie.Need-add-result
 add-result c = search needs
 
--- src/program.rt:80:1
 returns-2 : tie.Need-returns-2
 returns-2 c =
     let args = c .before .args in

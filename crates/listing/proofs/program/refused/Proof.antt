@@ -11,18 +11,15 @@ use Rattle.listing.proofs.program.refused.Lts as lts
 use Rattle.listing.proofs.program.place_line.Reads as place-line-reads
 use Rattle.rings.proofs.tell.Reads as tell-reads
 
--- src/program.rt:71:9
 tell-requires : tie.Need-tell-requires
 tell-requires c κs = search needs
 
--- src/program.rt:73:9
 place-line-requires : tie.Need-place-line-requires
 unfolding placeOf toldOf
 place-line-requires c κs =
     let pre = c .before .pre in
     omega (arith, (pre), ap (λ (t : Told). placeNumber (t .place)) ((c .tell) .ensures))
 
--- src/program.rt:67:1
 returns : tie.Need-returns
 returns c =
     let tell = c .before .tell in

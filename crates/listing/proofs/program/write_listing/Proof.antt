@@ -11,20 +11,16 @@ use Rattle.listing.proofs.program.refused.Reads as refused-reads
 use Rattle.listing.proofs.program.write_lines.Reads as write-lines-reads
 use Rattle.text.proofs.put_header.Reads as put-header-reads
 
--- src/program.rt:190:22
 add-size : tie.Need-add-size
 add-size c = search needs
 
--- src/program.rt:190:16
 mul-size : tie.Need-mul-size
 mul-size c = search needs
 
--- src/program.rt:192:9
 refused-requires : tie.Need-refused-requires
 unfolding placeOf
 refused-requires c κs = omega arith
 
--- src/program.rt:192:9
 returns : tie.Need-returns
 returns c =
     let if1 = c .before .if1 in
@@ -32,19 +28,15 @@ returns c =
     text-none (columnsOf ((args) .starts .now) ((args) .ends .now) ((args) .rows .now)) ((args) .output .now)
     ((args) .count) ((if1) .taken) ((c .refused) .ensures)
 
--- src/program.rt:194:5
 put-header-requires : tie.Need-put-header-requires
 put-header-requires c κs = search needs
 
--- src/program.rt:195:5
 write-lines-requires : tie.Need-write-lines-requires
 write-lines-requires c κs = search needs
 
--- src/program.rt:178:1
 same-length : tie.Need-same-length
 same-length c = search needs
 
--- src/program.rt:178:1
 returns-2 : tie.Need-returns-2
 returns-2 c =
     let write-lines = c .before .before .write-lines in

@@ -5,12 +5,10 @@ use Rattle.rings.proofs.checks.are_equal.Tie as tie
 use Rattle.rings.proofs.checks.are_equal.Reads as reads
 use Rattle.rings.proofs.checks.are_equal.Lts as lts
 
--- src/checks.rt:51:9
 returns : tie.Need-returns
 unfolding _and_
 returns c = simp (ne-eqb _ _ (c .if1 .taken))
 
--- src/checks.rt:47:1
 returns-2 : tie.Need-returns-2
 unfolding _and_
 returns-2 c = simp (eq-eqb _ _ (c .if1 .left))

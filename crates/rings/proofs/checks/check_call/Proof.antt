@@ -9,32 +9,26 @@ use Rattle.rings.proofs.checks.check_call.Lts as lts
 use Rattle.rings.proofs.checks.check_numbers.Reads as check-numbers-reads
 use Rattle.rings.proofs.table.check_table.Reads as check-table-reads
 
--- src/checks.rt:84:9
 check-table-requires : tie.Need-check-table-requires
 check-table-requires c κs = search needs
 
--- src/checks.rt:86:26
 enum-known-found : tie.Need-enum-known-found
 enum-known-found c = search needs
 
--- src/checks.rt:87:44
 enum-told : tie.Need-enum-told
 enum-told c = search needs
 
--- src/checks.rt:87:30
 check-numbers-requires : tie.Need-check-numbers-requires
 check-numbers-requires c κs =
     let check-table = c .before .before .check-table in
     table-sound _ _ _ (sym (check-table .ensures) ∙ c .enum-told .given .1) .most
 
--- src/checks.rt:81:1
 returns : tie.Need-returns
 returns c =
     let found = c .before .found in
     let check-table = c .before .before .before .check-table in
     sym (then-refused _ (sym (check-table .ensures) ∙ found .given .1))
 
--- src/checks.rt:81:1
 returns-2 : tie.Need-returns-2
 returns-2 c =
     let enum-told = c .before .enum-told in

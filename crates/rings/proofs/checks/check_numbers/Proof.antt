@@ -7,19 +7,16 @@ use Rattle.rings.proofs.checks.check_numbers.Tie as tie
 use Rattle.rings.proofs.checks.check_numbers.Reads as reads
 use Rattle.rings.proofs.checks.check_numbers.Lts as lts
 
--- src/checks.rt:63:9
 returns : tie.Need-returns
 unfolding queryCheck scratchCheck _when_ _then_ _and_ no
 returns c = simp (lt-leb _ _ (c .if1 .taken))
 
--- src/checks.rt:66:9
 returns-2 : tie.Need-returns-2
 unfolding queryCheck scratchCheck _when_ _then_ _and_ no
 returns-2 c =
     let if1 = c .before .if1 in
     simp (le-leb _ _ (if1 .left), lt-leb _ _ (c .if2 .taken))
 
--- src/checks.rt:69:9
 returns-3 : tie.Need-returns-3
 unfolding queryCheck scratchCheck _when_ _then_ _and_ no
 returns-3 c =
@@ -28,7 +25,6 @@ returns-3 c =
     let args = c .before .before .before .args in
     simp (le-leb _ _ (if1 .left), le-leb _ _ (if2 .left), not-true (args .window) (c .if3 .taken))
 
--- src/checks.rt:72:9
 returns-4 : tie.Need-returns-4
 unfolding queryCheck scratchCheck _when_ _then_ _and_ no
 returns-4 c =
@@ -43,15 +39,12 @@ returns-4 c =
       not-true (args .lengths) (c .if4 .taken),
     )
 
--- src/checks.rt:74:25
 mul-if5 : tie.Need-mul-if5
 mul-if5 c = search needs
 
--- src/checks.rt:74:18
 add-if5 : tie.Need-add-if5
 add-if5 c = search needs
 
--- src/checks.rt:75:9
 returns-5 : tie.Need-returns-5
 unfolding queryCheck scratchCheck _when_ _then_ _and_ no
 returns-5 c =
@@ -68,7 +61,6 @@ returns-5 c =
       lt-ltb _ _ (c .if5 .taken),
     )
 
--- src/checks.rt:57:1
 returns-6 : tie.Need-returns-6
 unfolding queryCheck scratchCheck _when_ _then_ _and_ no
 returns-6 c =

@@ -5,19 +5,16 @@ use Rattle.rings.proofs.checks.is_start.Tie as tie
 use Rattle.rings.proofs.checks.is_start.Reads as reads
 use Rattle.rings.proofs.checks.is_start.Lts as lts
 
--- src/checks.rt:35:9
 returns : tie.Need-returns
 unfolding _and_
 returns c = simp (lt-leb _ _ (c .if1 .taken))
 
--- src/checks.rt:38:9
 returns-2 : tie.Need-returns-2
 unfolding _and_
 returns-2 c =
     let if1 = c .before .if1 in
     simp (le-leb _ _ (if1 .left), lt-leb _ _ (c .if2 .taken))
 
--- src/checks.rt:41:9
 returns-3 : tie.Need-returns-3
 unfolding _and_
 returns-3 c =
@@ -25,7 +22,6 @@ returns-3 c =
     let if1 = c .before .before .if1 in
     simp (le-leb _ _ (if1 .left), le-leb _ _ (if2 .left), lt-leb _ _ (c .if3 .taken))
 
--- src/checks.rt:31:1
 returns-4 : tie.Need-returns-4
 unfolding _and_
 returns-4 c =

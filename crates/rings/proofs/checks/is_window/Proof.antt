@@ -5,19 +5,16 @@ use Rattle.rings.proofs.checks.is_window.Tie as tie
 use Rattle.rings.proofs.checks.is_window.Reads as reads
 use Rattle.rings.proofs.checks.is_window.Lts as lts
 
--- src/checks.rt:22:9
 returns : tie.Need-returns
 unfolding _and_
 returns c = simp (lt-leb _ _ (c .if1 .taken))
 
--- src/checks.rt:25:9
 returns-2 : tie.Need-returns-2
 unfolding _and_
 returns-2 c =
     let if1 = c .before .if1 in
     simp (le-leb _ _ (if1 .left), lt-leb _ _ (c .if2 .taken))
 
--- src/checks.rt:18:1
 returns-3 : tie.Need-returns-3
 unfolding _and_
 returns-3 c =

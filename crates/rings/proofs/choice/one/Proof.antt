@@ -5,11 +5,9 @@ use Rattle.rings.proofs.choice.one.Tie as tie
 use Rattle.rings.proofs.choice.one.Reads as reads
 use Rattle.rings.proofs.choice.one.Lts as lts
 
--- src/choice.rt:51:1
 returns : tie.Need-returns
 returns c = record { yes = λ e. refl; no = λ e. clash (c .if1 .taken) e }
 
--- src/choice.rt:51:1
 returns-2 : tie.Need-returns-2
 returns-2 c = record { yes = λ e. clash e (c .if1 .left); no = λ e. refl }
 

@@ -9,51 +9,39 @@ use Rattle.rings.proofs.heads.pass_head.Lts as lts
 use Rattle.rings.proofs.slices.entry.Reads as entry-reads
 use Rattle.rings.proofs.slices.put.Reads as put-reads
 
--- src/heads.rt:20:9
 entry-requires : tie.Need-entry-requires
 entry-requires c κs = search needs
 
--- src/heads.rt:21:32
 add-entry : tie.Need-add-entry
 add-entry c = search needs
 
--- src/heads.rt:21:9
 entry-requires-2 : tie.Need-entry-requires-2
 entry-requires-2 c κs = search needs
 
--- src/heads.rt:23:9
 same-length : tie.Need-same-length
 same-length c = search needs
 
--- src/heads.rt:23:9
 returns : tie.Need-returns
 returns c = Passing.stays refl
 
--- src/heads.rt:25:23
 add-entry-2 : tie.Need-add-entry-2
 add-entry-2 c = search needs
 
--- src/heads.rt:25:8
 entry-requires-3 : tie.Need-entry-requires-3
 entry-requires-3 c κs = search needs
 
--- src/heads.rt:26:22
 add-put : tie.Need-add-put
 add-put c = search needs
 
--- src/heads.rt:26:32
 add-put-2 : tie.Need-add-put-2
 add-put-2 c = search needs
 
--- src/heads.rt:26:9
 put-requires : tie.Need-put-requires
 put-requires c κs = search needs
 
--- src/heads.rt:16:1
 same-length-2 : tie.Need-same-length-2
 same-length-2 c = search needs
 
--- src/heads.rt:16:1
 returns-2 : tie.Need-returns-2
 returns-2 c =
     let put = c .before .before .put in
@@ -64,11 +52,9 @@ returns-2 c =
     let entry = c .before .before .before .before .before .before .before .before .before .before .entry in
     passing-move (entry .ensures) (entry2 .ensures) (if1 .left) (entry3 .ensures) (if2 .taken) (put .ensures)
 
--- src/heads.rt:16:1
 same-length-3 : tie.Need-same-length-3
 same-length-3 c = search needs
 
--- src/heads.rt:16:1
 returns-3 : tie.Need-returns-3
 returns-3 c = Passing.stays refl
 

@@ -26,7 +26,6 @@ Inv-loop days first second scratch₀ lo next row₀ scratch row = Held days fir
 abbrev μ-loop : tie.MeasureT-loop
 μ-loop days first second scratch₀ lo next row₀ scratch row = next - row
 
--- src/heads.rt:44:5
 loop-holds : tie.Need-loop-holds Inv-loop μ-loop
 loop-holds c =
     let pre = c .before .before .before .before .pre in
@@ -36,20 +35,17 @@ loop-holds c =
       within = pre .ordered;
     }
 
--- src/heads.rt:45:13
 entry-requires : tie.Need-entry-requires Inv-loop μ-loop
 entry-requires c κs =
     let pre = c .before .before .before .before .before .before .pre in
     omega (arith, c .loop-test .taken, pre .within, pre .sound .firsts)
 
--- src/heads.rt:46:13
 entry-requires-2 : tie.Need-entry-requires-2 Inv-loop μ-loop
 entry-requires-2 c κs =
     let loop-test = c .before .loop-test in
     let pre = c .before .before .before .before .before .before .before .pre in
     omega (arith, loop-test .taken, pre .within, pre .sound .seconds)
 
--- src/heads.rt:47:9
 pass-head-requires : tie.Need-pass-head-requires Inv-loop μ-loop
 pass-head-requires c κs =
     let entry = c .before .before .entry in
@@ -59,7 +55,6 @@ pass-head-requires c κs =
     heads-asks (pre .sound .most) (loop .inv .passed .pruned)
     (first-small (pre .sound) (omega (arith, loop-test .taken, pre .within)) (entry .ensures))
 
--- src/heads.rt:48:9
 pass-head-requires-2 : tie.Need-pass-head-requires-2 Inv-loop μ-loop
 pass-head-requires-2 c κs =
     let pass-head = c .before .before .before .pass-head in
@@ -75,20 +70,17 @@ pass-head-requires-2 c κs =
     )
     (second-small (pre .sound) (omega (arith, loop-test .taken, pre .within)) (entry2 .ensures))
 
--- src/heads.rt:49:9
 add-row : tie.Need-add-row Inv-loop μ-loop
 add-row c =
     let loop-test = c .before .before .before .before .before .before .before .before .before .before .loop-test in
     let pre = c .before .before .before .before .before .before .before .before .before .before .before .before .before .before .before .before .pre in
     omega (arith, loop-test .taken, pre .within, pre .sound .most)
 
--- src/heads.rt:44:5
 loop-less : tie.Need-loop-less Inv-loop μ-loop
 loop-less c =
     let loop-test = c .before .before .before .before .before .before .before .before .before .before .loop-test in
     omega (arith, loop-test .taken)
 
--- src/heads.rt:44:5
 loop-again : tie.Need-loop-again Inv-loop μ-loop
 loop-again c =
     let pass-head2 = c .before .before .pass-head2 in
@@ -106,13 +98,11 @@ loop-again c =
       within = omega (arith, loop-test .taken);
     }
 
--- src/heads.rt:31:1
 same-length : tie.Need-same-length Inv-loop μ-loop
 same-length c =
     let loop = c .before .loop in
     loop .inv .long
 
--- src/heads.rt:31:1
 returns : tie.Need-returns Inv-loop μ-loop
 returns c =
     let loop = c .before .loop in

@@ -8,22 +8,18 @@ use Rattle.rings.proofs.histogram.add_to_histogram.Reads as reads
 use Rattle.rings.proofs.histogram.add_to_histogram.Lts as lts
 use Rattle.rings.proofs.histogram.add_count.Reads as add-count-reads
 
--- src/histogram.rt:60:9
 returns : tie.Need-returns
 returns c = record { counted = λ h. clash h (not-true _ (c .if1 .taken)); same = λ h. refl }
 
--- src/histogram.rt:62:5
 add-count-requires : tie.Need-add-count-requires
 add-count-requires c κs =
     let if1 = c .before .if1 in
     let pre = c .before .before .before .pre in
     pre (not-false _ (if1 .left))
 
--- src/histogram.rt:55:1
 same-length : tie.Need-same-length
 same-length c = search needs
 
--- src/histogram.rt:55:1
 returns-2 : tie.Need-returns-2
 returns-2 c =
     let add-count = c .before .before .add-count in

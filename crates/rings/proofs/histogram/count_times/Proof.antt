@@ -23,11 +23,9 @@ Inv-loop days first second frame end times counts₀ j₀ counts j = (frame .lo 
 abbrev μ-loop : tie.MeasureT-loop
 μ-loop days first second frame end times counts₀ j₀ counts j = end - j
 
--- src/histogram.rt:83:5
 clear-requires : tie.Need-clear-requires Inv-loop μ-loop
 clear-requires c κs = search needs
 
--- src/histogram.rt:85:5
 loop-holds : tie.Need-loop-holds Inv-loop μ-loop
 loop-holds c =
     let clear = c .before .before .clear in
@@ -37,13 +35,11 @@ loop-holds c =
       hist-start _ _ _ (pre .1) (clear .ensures) (λ j h. row-before _ _ _ _ j (pre .0 .known .framed .setting .before-lo j h)),
     )
 
--- src/histogram.rt:86:13
 row-time-requires : tie.Need-row-time-requires Inv-loop μ-loop
 row-time-requires c κs =
     let pre = c .before .before .before .before .before .before .before .before .before .before .before .pre in
     (pre .0 .known, omega (arith, c .loop-test .taken, pre .0 .known .span .within))
 
--- src/histogram.rt:87:9
 add-count-requires : tie.Need-add-count-requires Inv-loop μ-loop
 add-count-requires c κs =
     let row-time = c .before .row-time in
@@ -53,20 +49,17 @@ add-count-requires c κs =
     hist-few _ (loop .inv .2) (omega (arith, loop-test .taken, pre .0 .known .span .within, pre .0 .known .framed .sound .most))
     (is-time _ _ _ _ _ (pre .0 .in-days) (row-time .ensures))
 
--- src/histogram.rt:88:9
 add-j : tie.Need-add-j Inv-loop μ-loop
 add-j c =
     let loop-test = c .before .before .before .before .before .loop-test in
     let pre = c .before .before .before .before .before .before .before .before .before .before .before .before .before .before .before .before .pre in
     omega (arith, loop-test .taken, pre .0 .known .span .within, pre .0 .known .framed .sound .most)
 
--- src/histogram.rt:85:5
 loop-less : tie.Need-loop-less Inv-loop μ-loop
 loop-less c =
     let loop-test = c .before .before .before .before .before .loop-test in
     omega (arith, loop-test .taken)
 
--- src/histogram.rt:85:5
 loop-again : tie.Need-loop-again Inv-loop μ-loop
 loop-again c =
     let add-count = c .before .before .add-count in
@@ -78,14 +71,12 @@ loop-again c =
       hist-next _ (loop .inv .2) (row-time .ensures) (add-count .ensures),
     )
 
--- src/histogram.rt:66:1
 same-length : tie.Need-same-length Inv-loop μ-loop
 same-length c =
     let loop = c .before .loop in
     let pre = c .before .before .before .before .before .before .before .before .before .before .before .pre in
     loop .inv .2 .long ∙ sym (pre .1)
 
--- src/histogram.rt:66:1
 returns : tie.Need-returns Inv-loop μ-loop
 returns c =
     let loop = c .before .loop in

@@ -7,44 +7,36 @@ use Rattle.rings.proofs.histogram.drop_count.Tie as tie
 use Rattle.rings.proofs.histogram.drop_count.Reads as reads
 use Rattle.rings.proofs.histogram.drop_count.Lts as lts
 
--- src/histogram.rt:60:9
 returns : tie.Need-returns
 returns c = pass (c .if1 .taken) refl
 
--- src/histogram.rt:63:17
 mul-counts : tie.Need-mul-counts
 mul-counts c = search needs
 
--- src/histogram.rt:63:17
 slice-read-counts : tie.Need-slice-read-counts
 slice-read-counts c =
     let if1 = c .before .if1 in
     let pre = c .before .before .pre in
     omega (arith, pre .long, pre .has (if1 .left) .in-days)
 
--- src/histogram.rt:63:17
 sub-counts : tie.Need-sub-counts
 sub-counts c =
     let if1 = c .before .if1 in
     let pre = c .before .before .pre in
     omega (arith, pre .has (if1 .left) .one)
 
--- src/histogram.rt:63:5
 mul-counts-2 : tie.Need-mul-counts-2
 mul-counts-2 c = search needs
 
--- src/histogram.rt:63:5
 slice-write-counts : tie.Need-slice-write-counts
 slice-write-counts c =
     let if1 = c .before .if1 in
     let pre = c .before .before .pre in
     omega (arith, pre .long, pre .has (if1 .left) .in-days)
 
--- src/histogram.rt:55:1
 same-length : tie.Need-same-length
 same-length c = search needs
 
--- src/histogram.rt:55:1
 returns-2 : tie.Need-returns-2
 returns-2 c =
     let if1 = c .before .if1 in

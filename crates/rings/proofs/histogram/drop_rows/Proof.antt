@@ -21,7 +21,6 @@ Inv-loop days first second frame next end times counts₀ j₀ counts j = (frame
 abbrev μ-loop : tie.MeasureT-loop
 μ-loop days first second frame next end times counts₀ j₀ counts j = next - j
 
--- src/histogram.rt:112:5
 loop-holds : tie.Need-loop-holds Inv-loop μ-loop
 loop-holds c =
     let pre = c .before .before .before .before .before .pre in (
@@ -35,13 +34,11 @@ loop-holds c =
           ) (pre .1 .timed),
     )
 
--- src/histogram.rt:113:13
 row-time-requires : tie.Need-row-time-requires Inv-loop μ-loop
 row-time-requires c κs =
     let pre = c .before .before .before .before .before .before .before .pre in
     (pre .0 .known, omega (arith, c .loop-test .taken, pre .1 .follows .within))
 
--- src/histogram.rt:114:9
 drop-count-requires : tie.Need-drop-count-requires Inv-loop μ-loop
 drop-count-requires c κs =
     let row-time = c .before .row-time in
@@ -51,20 +48,17 @@ drop-count-requires c κs =
     drop-asks _ _ _ _ _ _ _ (pre .0 .known .framed .setting) (pre .0 .known .times-are) (pre .1 .follows) (loop-test .taken) (pre .0 .in-days)
     (row-time .ensures) (loop .inv .2)
 
--- src/histogram.rt:115:9
 add-j : tie.Need-add-j Inv-loop μ-loop
 add-j c =
     let loop-test = c .before .before .before .before .before .loop-test in
     let pre = c .before .before .before .before .before .before .before .before .before .before .before .before .pre in
     omega (arith, loop-test .taken, pre .1 .follows .within, pre .0 .known .framed .sound .most)
 
--- src/histogram.rt:112:5
 loop-less : tie.Need-loop-less Inv-loop μ-loop
 loop-less c =
     let loop-test = c .before .before .before .before .before .loop-test in
     omega (arith, loop-test .taken)
 
--- src/histogram.rt:112:5
 loop-again : tie.Need-loop-again Inv-loop μ-loop
 loop-again c =
     let drop-count = c .before .before .drop-count in
@@ -78,14 +72,12 @@ loop-again c =
           (row-time .ensures) (loop .inv .2) (drop-count .ensures),
     )
 
--- src/histogram.rt:93:1
 same-length : tie.Need-same-length Inv-loop μ-loop
 same-length c =
     let loop = c .before .loop in
     let pre = c .before .before .before .before .before .before .before .pre in
     loop .inv .2 .long ∙ sym (pre .1 .timed .long)
 
--- src/histogram.rt:93:1
 returns : tie.Need-returns Inv-loop μ-loop
 returns c =
     let loop = c .before .loop in

@@ -13,19 +13,15 @@ use Rattle.rings.proofs.histogram.move_in_histogram.Lts as lts
 use Rattle.rings.proofs.histogram.add_count.Reads as add-count-reads
 use Rattle.rings.proofs.slices.wide.Reads as wide-reads
 
--- src/histogram.rt:71:9
 returns : tie.Need-returns
 returns c = record { counted = λ h. clash h (not-true _ (c .if1 .taken)); same = λ h. refl }
 
--- src/histogram.rt:73:9
 wide-requires : tie.Need-wide-requires
 wide-requires c κs = search needs
 
--- src/histogram.rt:74:17
 mul-counts : tie.Need-mul-counts
 mul-counts c = search needs
 
--- src/histogram.rt:74:17
 slice-read-counts : tie.Need-slice-read-counts
 slice-read-counts c =
     let wide = c .before .wide in
@@ -33,7 +29,6 @@ slice-read-counts c =
     let pre = c .before .before .before .before .pre in
     omega (arith, wide .ensures, (pre (not-false _ (if1 .left))) .long, (pre (not-false _ (if1 .left))) .from-day)
 
--- src/histogram.rt:74:17
 sub-counts : tie.Need-sub-counts
 sub-counts c =
     let wide = c .before .wide in
@@ -42,11 +37,9 @@ sub-counts c =
     let pre = c .before .before .before .before .pre in
     subst (λ (i : ℕ). args .m ≤ getD (args .counts .now) i 0) (sym (wide .ensures)) ((pre (not-false _ (if1 .left))) .enough)
 
--- src/histogram.rt:74:5
 mul-counts-2 : tie.Need-mul-counts-2
 mul-counts-2 c = search needs
 
--- src/histogram.rt:74:5
 slice-write-counts : tie.Need-slice-write-counts
 slice-write-counts c =
     let wide = c .before .wide in
@@ -54,7 +47,6 @@ slice-write-counts c =
     let pre = c .before .before .before .before .pre in
     omega (arith, wide .ensures, (pre (not-false _ (if1 .left))) .long, (pre (not-false _ (if1 .left))) .from-day)
 
--- src/histogram.rt:75:5
 add-count-requires : tie.Need-add-count-requires
 add-count-requires c κs =
     let wide = c .before .before .wide in
@@ -66,7 +58,6 @@ add-count-requires c κs =
     (ap (λ (i : ℕ). set (args .counts .now) i (getD (args .counts .now) i 0 - args .m)) (wide .ensures))
     ((pre (not-false _ (if1 .left))) .room)
 
--- src/histogram.rt:66:1
 same-length : tie.Need-same-length
 same-length c =
     let add-count = c .before .before .add-count in
@@ -75,7 +66,6 @@ same-length c =
     add-count .kept .0 ∙ length-set (args .counts .now) (wide .result)
     (getD (args .counts .now) (wide .result) 0 - args .m)
 
--- src/histogram.rt:66:1
 returns-2 : tie.Need-returns-2
 returns-2 c =
     let add-count = c .before .before .add-count in

@@ -13,27 +13,21 @@ use Rattle.rings.proofs.choice.one.Reads as one-reads
 use Rattle.rings.proofs.choice.pick.Reads as pick-reads
 use Rattle.rings.proofs.slices.wide.Reads as wide-reads
 
--- src/histogram.rt:46:9
 returns : tie.Need-returns
 returns c = (record { counted = λ h. clash h (not-true _ (c .if1 .taken)); same = λ h. refl }, λ h. refl)
 
--- src/histogram.rt:48:9
 one-requires : tie.Need-one-requires
 one-requires c κs = search needs
 
--- src/histogram.rt:49:18
 pick-requires : tie.Need-pick-requires
 pick-requires c κs = search needs
 
--- src/histogram.rt:49:9
 wide-requires : tie.Need-wide-requires
 wide-requires c κs = search needs
 
--- src/histogram.rt:50:17
 mul-counts : tie.Need-mul-counts
 mul-counts c = search needs
 
--- src/histogram.rt:50:17
 slice-read-counts : tie.Need-slice-read-counts
 slice-read-counts c =
     let wide = c .before .wide in
@@ -45,7 +39,6 @@ slice-read-counts c =
     take-place (args .counts .now) (picked-as (wide .ensures) (pick .ensures))
     (one .ensures) (pre (not-false _ (if1 .left)) .has) (pre (not-false _ (if1 .left)) .long)
 
--- src/histogram.rt:50:17
 sub-counts : tie.Need-sub-counts
 sub-counts c =
     let wide = c .before .wide in
@@ -57,11 +50,9 @@ sub-counts c =
     take-less (args .counts .now) (picked-as (wide .ensures) (pick .ensures))
     (one .ensures) (pre (not-false _ (if1 .left)) .has)
 
--- src/histogram.rt:50:5
 mul-counts-2 : tie.Need-mul-counts-2
 mul-counts-2 c = search needs
 
--- src/histogram.rt:50:5
 slice-write-counts : tie.Need-slice-write-counts
 slice-write-counts c =
     let wide = c .before .wide in
@@ -73,7 +64,6 @@ slice-write-counts c =
     take-place (args .counts .now) (picked-as (wide .ensures) (pick .ensures))
     (one .ensures) (pre (not-false _ (if1 .left)) .has) (pre (not-false _ (if1 .left)) .long)
 
--- src/histogram.rt:51:5
 add-result : tie.Need-add-result
 add-result c =
     let wide = c .before .wide in
@@ -89,11 +79,9 @@ add-result c =
       pre (not-false _ (if1 .left)) .few,
     )
 
--- src/histogram.rt:41:1
 same-length : tie.Need-same-length
 same-length c = search needs
 
--- src/histogram.rt:41:1
 returns-2 : tie.Need-returns-2
 returns-2 c =
     let wide = c .before .wide in

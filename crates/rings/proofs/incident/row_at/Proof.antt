@@ -8,31 +8,24 @@ use Rattle.rings.proofs.incident.row_at.Lts as lts
 use Rattle.rings.proofs.slices.entry.Reads as entry-reads
 use Rattle.rings.proofs.pairs.other.Reads as other-reads
 
--- src/incident.rt:33:28
 add-entry : tie.Need-add-entry
 add-entry c = search needs
 
--- src/incident.rt:33:9
 entry-requires : tie.Need-entry-requires
 entry-requires c κs = search needs
 
--- src/incident.rt:34:15
 mul-day : tie.Need-mul-day
 mul-day c = search needs
 
--- src/incident.rt:34:15
 shared-slice-read-day : tie.Need-shared-slice-read-day
 shared-slice-read-day c = search needs
 
--- src/incident.rt:35:9
 entry-requires-2 : tie.Need-entry-requires-2
 entry-requires-2 c κs = search needs
 
--- src/incident.rt:36:9
 entry-requires-3 : tie.Need-entry-requires-3
 entry-requires-3 c κs = search needs
 
--- src/incident.rt:37:9
 other-requires : tie.Need-other-requires
 other-requires c κs =
     let entry2 = c .before .entry2 in
@@ -40,23 +33,18 @@ other-requires c κs =
     let pre = c .before .before .before .before .before .before .before .before .pre in
     stands-ends pre (entry .ensures) (entry2 .ensures) (c .entry3 .ensures)
 
--- src/incident.rt:38:44
 mul-entry : tie.Need-mul-entry
 mul-entry c = search needs
 
--- src/incident.rt:38:32
 add-entry-2 : tie.Need-add-entry-2
 add-entry-2 c = search needs
 
--- src/incident.rt:38:32
 add-entry-3 : tie.Need-add-entry-3
 add-entry-3 c = search needs
 
--- src/incident.rt:38:9
 entry-requires-4 : tie.Need-entry-requires-4
 entry-requires-4 c κs = search needs
 
--- src/incident.rt:18:1
 returns : tie.Need-returns
 returns c =
     let other = c .before .other in

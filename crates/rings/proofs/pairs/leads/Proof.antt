@@ -6,23 +6,18 @@ use Rattle.rings.proofs.pairs.leads.Reads as reads
 use Rattle.rings.proofs.pairs.leads.Lts as lts
 use Rattle.rings.proofs.slices.entry.Reads as entry-reads
 
--- src/pairs.rt:22:39
 mul-entry : tie.Need-mul-entry
 mul-entry c = search needs
 
--- src/pairs.rt:22:32
 add-entry : tie.Need-add-entry
 add-entry c = search needs
 
--- src/pairs.rt:22:32
 add-entry-2 : tie.Need-add-entry-2
 add-entry-2 c = search needs
 
--- src/pairs.rt:22:9
 entry-requires : tie.Need-entry-requires
 entry-requires c κs = search needs
 
--- src/pairs.rt:18:1
 returns : tie.Need-returns
 returns c =
     let args = c .before .before .args in

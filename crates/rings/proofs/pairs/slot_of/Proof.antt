@@ -5,15 +5,12 @@ use Rattle.rings.proofs.pairs.slot_of.Tie as tie
 use Rattle.rings.proofs.pairs.slot_of.Reads as reads
 use Rattle.rings.proofs.pairs.slot_of.Lts as lts
 
--- src/pairs.rt:63:6
 mul-result : tie.Need-mul-result
 mul-result c = search needs
 
--- src/pairs.rt:63:6
 add-result : tie.Need-add-result
 add-result c = search needs
 
--- src/pairs.rt:59:1
 returns : tie.Need-returns
 returns c = slot-is (c .args .a) (c .args .b)
 

@@ -19,19 +19,16 @@ abbrev μ-loop : tie.MeasureT-loop
 μ-loop days first second scratch frame end times₀ left queue₀ u₀ tail₀ times queue u tail =
     4096 - u
 
--- src/peel.rt:278:5
 loop-holds : tie.Need-loop-holds Inv-loop μ-loop
 loop-holds c =
     let pre = c .before .before .before .before .before .before .before .pre in
     low-degree-start _ _ _ _ _ (pre .0) (pre .1)
 
--- src/peel.rt:279:12
 mul-if1 : tie.Need-mul-if1 Inv-loop μ-loop
 mul-if1 c =
     let loop-test = c .loop-test in
     omega (arith, loop-test .taken)
 
--- src/peel.rt:279:12
 slice-read-if1 : tie.Need-slice-read-if1 Inv-loop μ-loop
 slice-read-if1 c =
     let loop-test = c .before .loop-test in
@@ -39,11 +36,9 @@ slice-read-if1 c =
     let pre = c .before .before .before .before .before .before .before .before .before .before .pre in
     low-degree-left _ _ _ _ _ (pre .0) (loop .inv) (loop-test .taken)
 
--- src/peel.rt:280:27
 cast-put : tie.Need-cast-put Inv-loop μ-loop
 cast-put c = omega arith
 
--- src/peel.rt:280:13
 put-requires : tie.Need-put-requires Inv-loop μ-loop
 put-requires c κs =
     let loop-test = c .before .before .before .before .loop-test in
@@ -53,7 +48,6 @@ put-requires c κs =
     .before .pre in
     record { place = low-degree-room _ _ _ _ _ (pre .0) (loop .inv) (loop-test .taken) .1; number = omega arith }
 
--- src/peel.rt:281:13
 put-requires-2 : tie.Need-put-requires-2 Inv-loop μ-loop
 put-requires-2 c κs =
     let loop-test = c .before .before .before .before .before .before .before .before .loop-test in
@@ -63,7 +57,6 @@ put-requires-2 c κs =
     .before .before .before .before .pre in
     record { place = low-degree-room _ _ _ _ _ (pre .0) (loop .inv) (loop-test .taken) .0; number = omega (arith, loop-test .taken) }
 
--- src/peel.rt:282:13
 add-tail : tie.Need-add-tail Inv-loop μ-loop
 add-tail c =
     let loop-test =
@@ -75,21 +68,18 @@ add-tail c =
     .before .before .before .before .before .before .before .pre in
     let small = low-degree-small _ _ _ _ _ (pre .0) (loop .inv) (loop-test .taken) in omega (arith, small)
 
--- src/peel.rt:283:13
 add-u : tie.Need-add-u Inv-loop μ-loop
 add-u c =
     let loop-test =
     c .before .before .before .before .before .before .before .before .before .before .before .loop-test in
     omega (arith, loop-test .taken)
 
--- src/peel.rt:278:5
 loop-less : tie.Need-loop-less Inv-loop μ-loop
 loop-less c =
     let loop-test =
     c .before .before .before .before .before .before .before .before .before .before .before .loop-test in
     omega (arith, loop-test .taken)
 
--- src/peel.rt:278:5
 loop-again : tie.Need-loop-again Inv-loop μ-loop
 loop-again c =
     let put2 = c .before .before .put2 in
@@ -104,19 +94,16 @@ loop-again c =
     .before .before .before .before .before .before .before .pre in
     low-degree-removal _ _ _ _ _ (pre .0) (loop .inv) (loop-test .taken) (if1 .taken) (put .ensures) (put2 .ensures)
 
--- src/peel.rt:286:9
 add-u-2 : tie.Need-add-u-2 Inv-loop μ-loop
 add-u-2 c =
     let loop-test = c .before .before .before .loop-test in
     omega (arith, loop-test .taken)
 
--- src/peel.rt:278:5
 loop-less-2 : tie.Need-loop-less-2 Inv-loop μ-loop
 loop-less-2 c =
     let loop-test = c .before .before .before .loop-test in
     omega (arith, loop-test .taken)
 
--- src/peel.rt:278:5
 loop-again-2 : tie.Need-loop-again-2 Inv-loop μ-loop
 loop-again-2 c =
     let loop-test = c .before .before .before .loop-test in
@@ -124,19 +111,16 @@ loop-again-2 c =
     let pre = c .before .before .before .before .before .before .before .before .before .before .before .before .pre in
     let if1 = c .if1 in low-degree-keep _ _ _ _ _ (pre .0) (loop .inv) (loop-test .taken) (if1 .left)
 
--- src/peel.rt:260:1
 same-length : tie.Need-same-length Inv-loop μ-loop
 same-length c =
     let loop = c .before .loop in
     loop .inv .times-length
 
--- src/peel.rt:260:1
 same-length-2 : tie.Need-same-length-2 Inv-loop μ-loop
 same-length-2 c =
     let loop = c .before .loop in
     loop .inv .queue-length
 
--- src/peel.rt:260:1
 returns : tie.Need-returns Inv-loop μ-loop
 returns c =
     let loop = c .before .loop in

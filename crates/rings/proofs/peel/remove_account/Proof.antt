@@ -19,34 +19,29 @@ abbrev μ-loop : tie.MeasureT-loop
 μ-loop days first second scratch frame removal times₀ left₀ queue₀ u end p₀ tail₀ times left queue p tail =
     end - p
 
--- src/peel.rt:90:9
 entry-requires : tie.Need-entry-requires Inv-loop μ-loop
 entry-requires c κs =
     let pre = c .before .before .before .before .before .before .before .before .pre in
     head-place _ _ _ _ _ (pre .0) (pre .1)
 
--- src/peel.rt:91:9
 entry-requires-2 : tie.Need-entry-requires-2 Inv-loop μ-loop
 entry-requires-2 c κs =
     let pre = c .before .before .before .before .before .before .before .before .before .pre in
     let entry = c .entry in
     omega (arith, removing-small _ _ _ _ _ (pre .0) (pre .1) (entry .ensures), pre .0 .adjacency .long)
 
--- src/peel.rt:92:30
 add-entry : tie.Need-add-entry Inv-loop μ-loop
 add-entry c =
     let pre = c .before .before .before .before .before .before .before .before .before .before .pre in
     let entry = c .before .entry in
     omega (arith, removing-small _ _ _ _ _ (pre .0) (pre .1) (entry .ensures))
 
--- src/peel.rt:92:9
 entry-requires-3 : tie.Need-entry-requires-3 Inv-loop μ-loop
 entry-requires-3 c κs =
     let pre = c .before .before .before .before .before .before .before .before .before .before .pre in
     let entry = c .before .entry in
     omega (arith, removing-small _ _ _ _ _ (pre .0) (pre .1) (entry .ensures), pre .0 .adjacency .long)
 
--- src/peel.rt:94:5
 loop-holds : tie.Need-loop-holds Inv-loop μ-loop
 loop-holds c =
     let pre = c .before .before .before .before .before .before .before .before .before .before .before .pre in
@@ -55,7 +50,6 @@ loop-holds c =
     let entry3 = c .entry3 in
     removing-start _ _ _ _ _ (pre .0) (pre .1) (entry .ensures) (entry2 .ensures) (entry3 .ensures)
 
--- src/peel.rt:95:13
 row-at-requires : tie.Need-row-at-requires Inv-loop μ-loop
 row-at-requires c κs =
     let pre =
@@ -65,7 +59,6 @@ row-at-requires c κs =
     let loop-test = c .loop-test in
     removing-stands _ _ _ _ _ (pre .0) (loop .inv) (loop-test .taken)
 
--- src/peel.rt:101:23
 add-t21 : tie.Need-add-t21 Inv-loop μ-loop
 add-t21 c =
     let pre =
@@ -73,25 +66,21 @@ add-t21 c =
     .before .before .before .before .pre in
     omega (arith, head-small _ _ _ _ _ (pre .0) (pre .1))
 
--- src/peel.rt:98:13
 same-length : tie.Need-same-length Inv-loop μ-loop
 same-length c =
     let loop = c .before .before .before .before .before .loop in
     loop .inv .lengths .times
 
--- src/peel.rt:98:13
 same-length-2 : tie.Need-same-length-2 Inv-loop μ-loop
 same-length-2 c =
     let loop = c .before .before .before .before .before .loop in
     loop .inv .lengths .left
 
--- src/peel.rt:98:13
 same-length-3 : tie.Need-same-length-3 Inv-loop μ-loop
 same-length-3 c =
     let loop = c .before .before .before .before .before .loop in
     loop .inv .lengths .queue
 
--- src/peel.rt:98:13
 returns : tie.Need-returns Inv-loop μ-loop
 returns c =
     let pre =
@@ -103,7 +92,6 @@ returns c =
     let if1 = c .before .if1 in
     removing-stop _ _ _ _ _ (pre .0) (loop .inv) (loop-test .taken) (row-at .ensures) (if1 .taken)
 
--- src/peel.rt:105:9
 add-p : tie.Need-add-p Inv-loop μ-loop
 add-p c =
     let pre =
@@ -113,7 +101,6 @@ add-p c =
     let loop-test = c .before .before .before .loop-test in
     omega (arith, removing-few _ _ _ _ _ (pre .0) (loop .inv) (loop-test .taken))
 
--- src/peel.rt:108:13
 drop-neighbour-requires : tie.Need-drop-neighbour-requires Inv-loop μ-loop
 drop-neighbour-requires c κs =
     let pre =
@@ -126,7 +113,6 @@ drop-neighbour-requires c κs =
     let if2 = c .before .before .before .if2 in
     removing-room _ _ _ _ _ (pre .0) (loop .inv) (loop-test .taken) (row-at .ensures) (if1 .left) (if2 .taken)
 
--- src/peel.rt:94:5
 loop-less : tie.Need-loop-less Inv-loop μ-loop
 loop-less c =
     let loop-test =
@@ -134,7 +120,6 @@ loop-less c =
     .before .before .before .loop-test in
     omega (arith, loop-test .taken)
 
--- src/peel.rt:94:5
 loop-again : tie.Need-loop-again Inv-loop μ-loop
 loop-again c =
     let pre =
@@ -158,13 +143,11 @@ loop-again c =
     removing-drop _ _ _ _ _ (pre .0) (loop .inv) (loop-test .taken) (row-at .ensures) (if1 .left) (if2 .taken)
     (drop-neighbour .kept .1 .1 .1 .1 .0) (drop-neighbour .kept .1 .1 .1 .1 .1 .0) (drop-neighbour .kept .1 .1 .1 .1 .1 .1 .0) (drop-neighbour .ensures)
 
--- src/peel.rt:94:5
 loop-less-2 : tie.Need-loop-less-2 Inv-loop μ-loop
 loop-less-2 c =
     let loop-test = c .before .before .before .before .before .before .loop-test in
     omega (arith, loop-test .taken)
 
--- src/peel.rt:94:5
 loop-again-2 : tie.Need-loop-again-2 Inv-loop μ-loop
 loop-again-2 c =
     let pre =
@@ -176,7 +159,6 @@ loop-again-2 c =
     let if2 = c .if2 in
     removing-skip _ _ _ _ _ (pre .0) (loop .inv) (loop-test .taken) (row-at .ensures) (if2 .left)
 
--- src/peel.rt:115:15
 add-t19 : tie.Need-add-t19 Inv-loop μ-loop
 add-t19 c =
     let pre =
@@ -184,25 +166,21 @@ add-t19 c =
     .before .pre in
     omega (arith, head-small _ _ _ _ _ (pre .0) (pre .1))
 
--- src/peel.rt:74:1
 same-length-4 : tie.Need-same-length-4 Inv-loop μ-loop
 same-length-4 c =
     let loop = c .before .before .loop in
     loop .inv .lengths .times
 
--- src/peel.rt:74:1
 same-length-5 : tie.Need-same-length-5 Inv-loop μ-loop
 same-length-5 c =
     let loop = c .before .before .loop in
     loop .inv .lengths .left
 
--- src/peel.rt:74:1
 same-length-6 : tie.Need-same-length-6 Inv-loop μ-loop
 same-length-6 c =
     let loop = c .before .before .loop in
     loop .inv .lengths .queue
 
--- src/peel.rt:74:1
 returns-2 : tie.Need-returns-2 Inv-loop μ-loop
 returns-2 c =
     let pre =

@@ -23,7 +23,6 @@ Inv-loop days first second scratch₀ day times u₀ scratch u = Held days first
 abbrev μ-loop : tie.MeasureT-loop
 μ-loop days first second scratch₀ day times u₀ scratch u = 4096 - u
 
--- src/prune.rt:89:5
 loop-holds : tie.Need-loop-holds Inv-loop μ-loop
 loop-holds c =
     let pre = c .before .before .before .before .before .pre in
@@ -32,30 +31,25 @@ loop-holds c =
       pruning-all = pruning-all-start _ (pre .adjacency);
     }
 
--- src/prune.rt:90:12
 mul-if1 : tie.Need-mul-if1 Inv-loop μ-loop
 mul-if1 c = omega (arith, c .loop-test .taken)
 
--- src/prune.rt:90:12
 shared-slice-read-if1 : tie.Need-shared-slice-read-if1 Inv-loop μ-loop
 shared-slice-read-if1 c =
     let loop-test = c .before .loop-test in
     let pre = c .before .before .before .before .before .before .before .before .pre in
     omega (arith, loop-test .taken, pre .times)
 
--- src/prune.rt:91:13
 add-u : tie.Need-add-u Inv-loop μ-loop
 add-u c =
     let loop-test = c .before .before .loop-test in
     omega (arith, loop-test .taken)
 
--- src/prune.rt:89:5
 loop-less : tie.Need-loop-less Inv-loop μ-loop
 loop-less c =
     let loop-test = c .before .before .loop-test in
     omega (arith, loop-test .taken)
 
--- src/prune.rt:89:5
 loop-again : tie.Need-loop-again Inv-loop μ-loop
 loop-again c =
     let loop = c .before .before .before .loop in
@@ -64,7 +58,6 @@ loop-again c =
       pruning-all = loop .inv .pruning-all;
     }
 
--- src/prune.rt:94:9
 prune-account-requires : tie.Need-prune-account-requires Inv-loop μ-loop
 prune-account-requires c κs =
     let loop-test = c .before .before .before .loop-test in
@@ -72,19 +65,16 @@ prune-account-requires c κs =
     let pre = c .before .before .before .before .before .before .before .before .before .before .pre in
     record { sound = pre .sound; pruned = loop .inv .pruning-all .pruned; times = pre .times; account = loop-test .taken }
 
--- src/prune.rt:95:9
 add-u-2 : tie.Need-add-u-2 Inv-loop μ-loop
 add-u-2 c =
     let loop-test = c .before .before .before .before .before .before .loop-test in
     omega (arith, loop-test .taken)
 
--- src/prune.rt:89:5
 loop-less-2 : tie.Need-loop-less-2 Inv-loop μ-loop
 loop-less-2 c =
     let loop-test = c .before .before .before .before .before .before .loop-test in
     omega (arith, loop-test .taken)
 
--- src/prune.rt:89:5
 loop-again-2 : tie.Need-loop-again-2 Inv-loop μ-loop
 loop-again-2 c =
     let prune-account = c .before .before .prune-account in
@@ -95,13 +85,11 @@ loop-again-2 c =
       pruning-all = pruning-all-next (loop .inv .pruning-all) (loop-test .taken) (prune-account .ensures);
     }
 
--- src/prune.rt:83:1
 same-length : tie.Need-same-length Inv-loop μ-loop
 same-length c =
     let loop = c .before .loop in
     loop .inv .long
 
--- src/prune.rt:83:1
 returns : tie.Need-returns Inv-loop μ-loop
 returns c =
     let loop = c .before .loop in

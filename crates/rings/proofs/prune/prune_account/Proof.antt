@@ -29,25 +29,21 @@ Inv-loop days first second scratch₀ times u last p₀ end₀ scratch p end = H
 abbrev μ-loop : tie.MeasureT-loop
 μ-loop days first second scratch₀ times u last p₀ end₀ scratch p end = last - p
 
--- src/prune.rt:69:9
 entry-requires : tie.Need-entry-requires Inv-loop μ-loop
 entry-requires c κs =
     let pre = c .before .before .before .before .before .before .pre in
     omega (arith, pre .account, pre .pruned .long)
 
--- src/prune.rt:70:32
 add-entry : tie.Need-add-entry Inv-loop μ-loop
 add-entry c =
     let pre = c .before .before .before .before .before .before .before .before .pre in
     omega (arith, pre .account)
 
--- src/prune.rt:70:9
 entry-requires-2 : tie.Need-entry-requires-2 Inv-loop μ-loop
 entry-requires-2 c κs =
     let pre = c .before .before .before .before .before .before .before .before .pre in
     omega (arith, pre .account, pre .pruned .long)
 
--- src/prune.rt:72:5
 loop-holds : tie.Need-loop-holds Inv-loop μ-loop
 loop-holds c =
     let entry = c .before .before .entry in
@@ -57,7 +53,6 @@ loop-holds c =
       pruning = pruning-start _ (pre .pruned .pruned-list _ (pre .account)) (c .entry2 .ensures);
     }
 
--- src/prune.rt:73:13
 row-at-requires : tie.Need-row-at-requires Inv-loop μ-loop
 row-at-requires c κs =
     let pre = c .before .before .before .before .before .before .before .before .before .before .before .before .pre in
@@ -65,27 +60,23 @@ row-at-requires c κs =
     let loop-test = c .before .loop-test in
     pruning-stands (pre .sound) (pre .pruned) (pre .account) (loop .inv .pruning) (omega (arith, loop .inv .cursor, loop-test .taken))
 
--- src/prune.rt:75:21
 mul-timed : tie.Need-mul-timed Inv-loop μ-loop
 mul-timed c =
     let row-at = c .row-at in
     omega (arith, row-at .ensures .small)
 
--- src/prune.rt:75:21
 shared-slice-read-timed : tie.Need-shared-slice-read-timed Inv-loop μ-loop
 shared-slice-read-timed c =
     let row-at = c .before .row-at in
     let pre = c .before .before .before .before .before .before .before .before .before .before .before .before .before .before .pre in
     omega (arith, row-at .ensures .small, pre .times)
 
--- src/prune.rt:76:22
 add-put : tie.Need-add-put Inv-loop μ-loop
 add-put c =
     let pre = c .before .before .before .before .before .before .before .before .before .before .before .before .before .before .before .pre in
     let loop = c .before .before .before .before .before .loop in
     omega (arith, pruning-few (pre .pruned) (pre .account) (loop .inv .pruning) (pre .sound .most))
 
--- src/prune.rt:76:9
 put-requires : tie.Need-put-requires Inv-loop μ-loop
 put-requires c κs =
     let pre = c .before .before .before .before .before .before .before .before .before .before .before .before .before .before .before .pre in
@@ -98,15 +89,12 @@ put-requires c κs =
       number = omega (arith, row-at .ensures .below, pre .sound .most);
     }
 
--- src/prune.rt:77:21
 one-requires : tie.Need-one-requires Inv-loop μ-loop
 one-requires c κs = search needs
 
--- src/prune.rt:77:16
 wide-requires : tie.Need-wide-requires Inv-loop μ-loop
 wide-requires c κs = search needs
 
--- src/prune.rt:77:9
 add-end : tie.Need-add-end Inv-loop μ-loop
 add-end c =
     let pre =
@@ -117,7 +105,6 @@ add-end c =
     let one = c .before .one in
     omega (arith, pruning-few (pre .pruned) (pre .account) (loop .inv .pruning) (pre .sound .most), wide .ensures, picked-most (one .ensures))
 
--- src/prune.rt:78:9
 add-p : tie.Need-add-p Inv-loop μ-loop
 add-p c =
     let pre =
@@ -126,13 +113,11 @@ add-p c =
     let loop = c .before .before .before .before .before .before .before .before .before .before .loop in
     omega (arith, pruning-few (pre .pruned) (pre .account) (loop .inv .pruning) (pre .sound .most))
 
--- src/prune.rt:72:5
 loop-less : tie.Need-loop-less Inv-loop μ-loop
 loop-less c =
     let loop-test = c .before .before .before .before .before .before .before .before .before .loop-test in
     omega (arith, loop-test .taken)
 
--- src/prune.rt:72:5
 loop-again : tie.Need-loop-again Inv-loop μ-loop
 loop-again c =
     let loop = c .before .before .before .before .before .before .before .before .before .before .loop in
@@ -154,7 +139,6 @@ loop-again c =
           (omega (arith, wide .ensures, picked-most (one .ensures)));
     }
 
--- src/prune.rt:80:5
 put-requires-2 : tie.Need-put-requires-2 Inv-loop μ-loop
 put-requires-2 c κs =
     let loop = c .before .before .loop in
@@ -164,7 +148,6 @@ put-requires-2 c κs =
       number = omega (arith, pruning-few (pre .pruned) (pre .account) (loop .inv .pruning) (pre .sound .most));
     }
 
--- src/prune.rt:57:1
 same-length : tie.Need-same-length Inv-loop μ-loop
 same-length c =
     let pre = c .before .before .before .before .before .before .before .before .before .before .before .before .before .before .before .pre in
@@ -173,7 +156,6 @@ same-length c =
     let put2 = c .before .before .put2 in
     pruning-end (pre .pruned) (pre .account) (loop .inv .pruning) (omega (arith, loop .inv .cursor, loop-test .left)) (put2 .ensures) .long
 
--- src/prune.rt:57:1
 returns : tie.Need-returns Inv-loop μ-loop
 returns c =
     let pre = c .before .before .before .before .before .before .before .before .before .before .before .before .before .before .before .pre in

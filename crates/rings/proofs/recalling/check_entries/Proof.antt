@@ -20,41 +20,33 @@ Inv-loop days rows starts ends lastrow₀ laststart₀ lastend₀ j₀ lastrow l
 abbrev μ-loop : tie.MeasureT-loop
 μ-loop days rows starts ends lastrow₀ laststart₀ lastend₀ j₀ lastrow laststart lastend j = length rows - j
 
--- src/recalling.rt:107:5
 loop-holds : tie.Need-loop-holds Inv-loop μ-loop
 loop-holds c = judge-start _ _ _ _
 
--- src/recalling.rt:108:13
 entry-requires : tie.Need-entry-requires Inv-loop μ-loop
 entry-requires c κs = omega (arith, c .loop-test .taken)
 
--- src/recalling.rt:109:13
 entry-requires-2 : tie.Need-entry-requires-2 Inv-loop μ-loop
 entry-requires-2 c κs =
     let loop-test = c .before .loop-test in
     let pre = c .before .before .before .before .before .before .before .pre in
     omega (arith, loop-test .taken, pre .starts)
 
--- src/recalling.rt:110:13
 entry-requires-3 : tie.Need-entry-requires-3 Inv-loop μ-loop
 entry-requires-3 c κs =
     let loop-test = c .before .before .loop-test in
     let pre = c .before .before .before .before .before .before .before .before .pre in
     omega (arith, loop-test .taken, pre .ends)
 
--- src/recalling.rt:111:13
 day-at-requires : tie.Need-day-at-requires Inv-loop μ-loop
 day-at-requires c κs = search needs
 
--- src/recalling.rt:112:13
 check-entry-requires : tie.Need-check-entry-requires Inv-loop μ-loop
 check-entry-requires c κs = search needs
 
--- src/recalling.rt:114:30
 enum-known-found : tie.Need-enum-known-found Inv-loop μ-loop
 enum-known-found c = search needs
 
--- src/recalling.rt:115:17
 returns : tie.Need-returns Inv-loop μ-loop
 returns c =
     let found = c .before .found in
@@ -68,23 +60,19 @@ returns c =
     judge-refused _ _ _ _ (loop .inv) (loop-test .taken) (entry .ensures) (entry2 .ensures) (entry3 .ensures)
     (day-at .ensures) (sym (found .given .1) ∙ check-entry .ensures)
 
--- src/recalling.rt:118:17
 enum-told : tie.Need-enum-told Inv-loop μ-loop
 enum-told c = search needs
 
--- src/recalling.rt:121:17
 add-j : tie.Need-add-j Inv-loop μ-loop
 add-j c =
     let loop-test = c .before .before .before .before .before .before .before .loop-test in
     omega (arith, loop-test .taken)
 
--- src/recalling.rt:107:5
 loop-less : tie.Need-loop-less Inv-loop μ-loop
 loop-less c =
     let loop-test = c .before .before .before .before .before .before .before .loop-test in
     omega (arith, loop-test .taken)
 
--- src/recalling.rt:107:5
 loop-again : tie.Need-loop-again Inv-loop μ-loop
 loop-again c =
     let check-entry = c .before .before .check-entry in
@@ -97,7 +85,6 @@ loop-again c =
     judge-next _ _ _ _ (loop .inv) (loop-test .taken) (entry .ensures) (entry2 .ensures) (entry3 .ensures)
     (day-at .ensures) (sym (c .enum-told .given .1) ∙ check-entry .ensures)
 
--- src/recalling.rt:99:1
 returns-2 : tie.Need-returns-2 Inv-loop μ-loop
 returns-2 c =
     let loop = c .before .loop in

@@ -8,19 +8,16 @@ use Rattle.rings.proofs.recalling.check_lengths.Tie as tie
 use Rattle.rings.proofs.recalling.check_lengths.Reads as reads
 use Rattle.rings.proofs.recalling.check_lengths.Lts as lts
 
--- src/recalling.rt:24:9
 returns : tie.Need-returns
 unfolding _when_ _and_ no
 returns c = simp (ne-eqb _ _ (c .if1 .taken))
 
--- src/recalling.rt:27:9
 returns-2 : tie.Need-returns-2
 unfolding _when_ _and_ no
 returns-2 c =
     let if1 = c .before .if1 in
     simp (eq-eqb _ _ (if1 .left), ne-eqb _ _ (c .if2 .taken))
 
--- src/recalling.rt:30:9
 returns-3 : tie.Need-returns-3
 unfolding _when_ _and_ no
 returns-3 c =
@@ -28,7 +25,6 @@ returns-3 c =
     let if1 = c .before .before .if1 in
     simp (eq-eqb _ _ (if1 .left), eq-eqb _ _ (if2 .left), ne-eqb _ _ (c .if3 .taken))
 
--- src/recalling.rt:20:1
 returns-4 : tie.Need-returns-4
 unfolding _when_ _and_ no
 returns-4 c =

@@ -12,15 +12,12 @@ use Rattle.rings.proofs.recalling.check_lengths.Reads as check-lengths-
 use Rattle.rings.proofs.recalling.check_window.Reads as check-window-reads
 use Rattle.rings.proofs.table.check_table.Reads as check-table-reads
 
--- src/recalling.rt:132:11
 check-table-requires : tie.Need-check-table-requires
 check-table-requires c κs = search needs
 
--- src/recalling.rt:133:26
 enum-known-r : tie.Need-enum-known-r
 enum-known-r c = search needs
 
--- src/recalling.rt:134:13
 returns : tie.Need-returns
 returns c =
     let r = c .before .r in
@@ -30,15 +27,12 @@ returns c =
 enum-told : tie.Need-enum-told
 enum-told c = search needs
 
--- src/recalling.rt:138:11
 check-lengths-requires : tie.Need-check-lengths-requires
 check-lengths-requires c κs = search needs
 
--- src/recalling.rt:139:26
 enum-known-r-2 : tie.Need-enum-known-r-2
 enum-known-r-2 c = search needs
 
--- src/recalling.rt:140:13
 returns-2 : tie.Need-returns-2
 returns-2 c =
     let r2 = c .before .r2 in
@@ -51,7 +45,6 @@ returns-2 c =
 enum-told-2 : tie.Need-enum-told-2
 enum-told-2 c = search needs
 
--- src/recalling.rt:144:11
 check-entries-requires : tie.Need-check-entries-requires
 check-entries-requires c κs =
     let check-lengths = c .before .before .check-lengths in
@@ -59,11 +52,9 @@ check-entries-requires c κs =
     let x = lengths-same (args .days .now) (args .rows .now) (args .starts .now) (args .ends .now) (args .places)
     (sym (c .enum-told2 .given .1) ∙ check-lengths .ensures) in record { starts = x .0; ends = x .1 }
 
--- src/recalling.rt:145:26
 enum-known-r-3 : tie.Need-enum-known-r-3
 enum-known-r-3 c = search needs
 
--- src/recalling.rt:146:13
 returns-3 : tie.Need-returns-3
 returns-3 c =
     let r3 = c .before .r3 in
@@ -78,11 +69,9 @@ returns-3 c =
 enum-told-3 : tie.Need-enum-told-3
 enum-told-3 c = search needs
 
--- src/recalling.rt:150:5
 check-window-requires : tie.Need-check-window-requires
 check-window-requires c κs = search needs
 
--- src/recalling.rt:129:1
 returns-4 : tie.Need-returns-4
 returns-4 c =
     let enum-told3 = c .before .enum-told3 in

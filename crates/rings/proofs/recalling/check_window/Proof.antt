@@ -8,19 +8,16 @@ use Rattle.rings.proofs.recalling.check_window.Tie as tie
 use Rattle.rings.proofs.recalling.check_window.Reads as reads
 use Rattle.rings.proofs.recalling.check_window.Lts as lts
 
--- src/recalling.rt:40:9
 returns : tie.Need-returns
 unfolding rangeCheck _when_ _and_ no
 returns c = simp (lt-leb _ _ (c .if1 .taken))
 
--- src/recalling.rt:43:9
 returns-2 : tie.Need-returns-2
 unfolding rangeCheck _when_ _and_ no
 returns-2 c =
     let if1 = c .before .if1 in
     simp (le-leb _ _ (if1 .left), lt-leb _ _ (c .if2 .taken))
 
--- src/recalling.rt:46:9
 returns-3 : tie.Need-returns-3
 unfolding rangeCheck _when_ _and_ no
 returns-3 c =
@@ -28,7 +25,6 @@ returns-3 c =
     let if1 = c .before .before .if1 in
     simp (le-leb _ _ (if1 .left), le-leb _ _ (if2 .left), lt-leb _ _ (c .if3 .taken))
 
--- src/recalling.rt:36:1
 returns-4 : tie.Need-returns-4
 unfolding rangeCheck _when_ _and_ no
 returns-4 c =

@@ -18,39 +18,32 @@ Inv-loop marks₀ i₀ marks i = Zeros i marks₀ marks
 abbrev μ-loop : tie.MeasureT-loop
 μ-loop marks₀ i₀ marks i = length marks₀ - i
 
--- src/recalling.rt:158:5
 loop-holds : tie.Need-loop-holds Inv-loop μ-loop
 loop-holds c = record { long = refl; within = omega arith; zero-at = λ k h. absurd (not-suc-le-zero h) }
 
--- src/recalling.rt:159:9
 slice-write-marks : tie.Need-slice-write-marks Inv-loop μ-loop
 slice-write-marks c = search needs
 
--- src/recalling.rt:160:9
 add-i : tie.Need-add-i Inv-loop μ-loop
 add-i c =
     let loop = c .before .loop in
     omega (arith, loop .inv .within)
 
--- src/recalling.rt:158:5
 loop-less : tie.Need-loop-less Inv-loop μ-loop
 loop-less c =
     let loop = c .before .loop in
     omega (arith, loop .inv .long)
 
--- src/recalling.rt:158:5
 loop-again : tie.Need-loop-again Inv-loop μ-loop
 loop-again c =
     let loop = c .before .loop in
     zeros-next (loop .inv) (c .loop-test .taken)
 
--- src/recalling.rt:154:1
 same-length : tie.Need-same-length Inv-loop μ-loop
 same-length c =
     let loop = c .before .loop in
     loop .inv .long
 
--- src/recalling.rt:154:1
 returns : tie.Need-returns Inv-loop μ-loop
 returns c =
     let loop = c .before .loop in

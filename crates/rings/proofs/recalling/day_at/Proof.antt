@@ -10,18 +10,15 @@ use Rattle.rings.proofs.recalling.day_at.Reads as reads
 use Rattle.rings.proofs.recalling.day_at.Lts as lts
 use Rattle.rings.proofs.slices.entry.Reads as entry-reads
 
--- src/recalling.rt:56:9
 returns : tie.Need-returns
 unfolding at
 returns c =
     let args = c .before .before .args in
     sym (List·getD-eq-default (args .days .now) 0 (c .if1 .taken))
 
--- src/recalling.rt:58:5
 entry-requires : tie.Need-entry-requires
 entry-requires c κs = search needs
 
--- src/recalling.rt:52:1
 returns-2 : tie.Need-returns-2
 unfolding at
 returns-2 c = c .entry .ensures

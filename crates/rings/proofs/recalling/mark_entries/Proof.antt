@@ -17,41 +17,34 @@ Inv-loop rows starts ends s e marks₀ next₀ marks next = Marking rows starts 
 abbrev μ-loop : tie.MeasureT-loop
 μ-loop rows starts ends s e marks₀ next₀ marks next = length rows - next
 
--- src/recalling.rt:172:5
 loop-holds : tie.Need-loop-holds Inv-loop μ-loop
 loop-holds c =
     let pre = c .before .before .before .before .pre in
     mark-start _ _ _ _ _ _ (pre .clear)
 
--- src/recalling.rt:174:16
 add-next : tie.Need-add-next Inv-loop μ-loop
 add-next c = search needs
 
--- src/recalling.rt:175:13
 entry-requires : tie.Need-entry-requires Inv-loop μ-loop
 entry-requires c κs = omega (arith, c .loop-test .taken)
 
--- src/recalling.rt:176:13
 entry-requires-2 : tie.Need-entry-requires-2 Inv-loop μ-loop
 entry-requires-2 c κs =
     let loop-test = c .before .loop-test in
     let pre = c .before .before .before .before .before .before .before .pre in
     omega (arith, loop-test .taken, pre .lists .starts)
 
--- src/recalling.rt:177:13
 entry-requires-3 : tie.Need-entry-requires-3 Inv-loop μ-loop
 entry-requires-3 c κs =
     let loop-test = c .before .before .loop-test in
     let pre = c .before .before .before .before .before .before .before .before .pre in
     omega (arith, loop-test .taken, pre .lists .ends)
 
--- src/recalling.rt:172:5
 loop-less : tie.Need-loop-less Inv-loop μ-loop
 loop-less c =
     let loop-test = c .before .before .before .before .loop-test in
     omega (arith, loop-test .taken)
 
--- src/recalling.rt:172:5
 loop-again : tie.Need-loop-again Inv-loop μ-loop
 loop-again c =
     let entry2 = c .before .before .entry2 in
@@ -59,13 +52,11 @@ loop-again c =
     let loop = c .before .before .before .before .before .loop in
     mark-early _ _ _ _ _ (loop .inv) (loop-test .taken) (entry2 .ensures) (c .if1 .taken)
 
--- src/recalling.rt:172:5
 loop-less-2 : tie.Need-loop-less-2 Inv-loop μ-loop
 loop-less-2 c =
     let loop-test = c .before .before .before .before .before .loop-test in
     omega (arith, loop-test .taken)
 
--- src/recalling.rt:172:5
 loop-again-2 : tie.Need-loop-again-2 Inv-loop μ-loop
 loop-again-2 c =
     let entry3 = c .before .before .entry3 in
@@ -73,7 +64,6 @@ loop-again-2 c =
     let loop = c .before .before .before .before .before .before .loop in
     mark-late _ _ _ _ _ (loop .inv) (loop-test .taken) (entry3 .ensures) (c .if2 .taken)
 
--- src/recalling.rt:184:9
 slice-write-marks : tie.Need-slice-write-marks Inv-loop μ-loop
 slice-write-marks c =
     let entry = c .before .before .before .before .entry in
@@ -82,13 +72,11 @@ slice-write-marks c =
     let pre = c .before .before .before .before .before .before .before .before .before .before .before .pre in
     omega (arith, entry .ensures, pre .rows .in-table _ (loop-test .taken), loop .inv .long)
 
--- src/recalling.rt:172:5
 loop-less-3 : tie.Need-loop-less-3 Inv-loop μ-loop
 loop-less-3 c =
     let loop-test = c .before .before .before .before .before .loop-test in
     omega (arith, loop-test .taken)
 
--- src/recalling.rt:172:5
 loop-again-3 : tie.Need-loop-again-3 Inv-loop μ-loop
 loop-again-3 c =
     let if1 = c .before .if1 in
@@ -101,13 +89,11 @@ loop-again-3 c =
     mark-hit _ _ _ _ _ (loop .inv) (pre .rows) (loop-test .taken) (entry .ensures) (entry2 .ensures) (entry3 .ensures)
     (if1 .left) (c .if2 .left)
 
--- src/recalling.rt:165:1
 same-length : tie.Need-same-length Inv-loop μ-loop
 same-length c =
     let loop = c .before .loop in
     loop .inv .long
 
--- src/recalling.rt:165:1
 returns : tie.Need-returns Inv-loop μ-loop
 returns c =
     let loop = c .before .loop in

@@ -12,15 +12,12 @@ use Rattle.rings.proofs.recalling.check_recall.Reads as check-recall-re
 use Rattle.rings.proofs.recalling.clear_marks.Reads as clear-marks-reads
 use Rattle.rings.proofs.recalling.mark_entries.Reads as mark-entries-reads
 
--- src/recalling.rt:192:9
 check-recall-requires : tie.Need-check-recall-requires
 check-recall-requires c κs = search needs
 
--- src/recalling.rt:194:26
 enum-known-found : tie.Need-enum-known-found
 enum-known-found c = search needs
 
--- src/recalling.rt:195:13
 returns : tie.Need-returns
 unfolding recallMarks
 returns c =
@@ -28,15 +25,12 @@ returns c =
     let check-recall = c .before .before .before .check-recall in
     (sym (found .given .1) ∙ check-recall .ensures, refl)
 
--- src/recalling.rt:198:25
 enum-told : tie.Need-enum-told
 enum-told c = search needs
 
--- src/recalling.rt:198:13
 clear-marks-requires : tie.Need-clear-marks-requires
 clear-marks-requires c κs = search needs
 
--- src/recalling.rt:199:13
 mark-entries-requires : tie.Need-mark-entries-requires
 mark-entries-requires c κs =
     let clear-marks = c .before .before .before .clear-marks in
@@ -47,11 +41,9 @@ mark-entries-requires c κs =
     (args .ends .now) (args .s) (args .e) (args .marks .now) (sym (enum-told .given .1) ∙ check-recall .ensures)
     (clear-marks .ensures)
 
--- src/recalling.rt:200:13
 same-length : tie.Need-same-length
 same-length c = search needs
 
--- src/recalling.rt:200:13
 returns-2 : tie.Need-returns-2
 unfolding recallMarks
 returns-2 c =

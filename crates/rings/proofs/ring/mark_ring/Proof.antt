@@ -16,19 +16,15 @@ use Rattle.rings.proofs.recalling.clear_marks.Reads as clear-marks-read
 use Rattle.rings.proofs.ring.mark_part.Reads as mark-part-reads
 use Rattle.rings.proofs.table.rows_before.Reads as rows-before-reads
 
--- src/ring.rt:154:9
 rows-before-requires : tie.Need-rows-before-requires
 rows-before-requires c κs = search needs
 
--- src/ring.rt:155:33
 add-rows-before : tie.Need-add-rows-before
 add-rows-before c = search needs
 
--- src/ring.rt:155:9
 rows-before-requires-2 : tie.Need-rows-before-requires-2
 rows-before-requires-2 c κs = search needs
 
--- src/ring.rt:156:28
 sub-room : tie.Need-sub-room
 sub-room c =
     let rows-before = c .before .rows-before in
@@ -36,23 +32,18 @@ sub-room c =
     let asked = pre .1 .0 in
     span-of (asked .ordered) (rows-before .ensures) (c .rows-before2 .ensures) .ordered
 
--- src/ring.rt:156:23
 mul-room : tie.Need-mul-room
 mul-room c = search needs
 
--- src/ring.rt:156:16
 add-room : tie.Need-add-room
 add-room c = search needs
 
--- src/ring.rt:157:5
 clear-marks-requires : tie.Need-clear-marks-requires
 clear-marks-requires c κs = search needs
 
--- src/ring.rt:159:9
 mul-mark-part : tie.Need-mul-mark-part
 mul-mark-part c = search needs
 
--- src/ring.rt:159:9
 sub-mark-part : tie.Need-sub-mark-part
 sub-mark-part c =
     let rows-before2 = c .before .before .before .before .rows-before2 in
@@ -61,7 +52,6 @@ sub-mark-part c =
     let asked = pre .1 .0 in
     span-of (asked .ordered) (rows-before .ensures) (rows-before2 .ensures) .ordered
 
--- src/ring.rt:159:9
 part-mark-part-start : tie.Need-part-mark-part-start
 part-mark-part-start c =
     let rows-before2 = c .before .before .before .before .rows-before2 in
@@ -70,15 +60,12 @@ part-mark-part-start c =
     let asked = pre .1 .0 in
     span-of (asked .ordered) (rows-before .ensures) (rows-before2 .ensures) .ordered
 
--- src/ring.rt:159:9
 part-mark-part-end : tie.Need-part-mark-part-end
 part-mark-part-end c = search needs
 
--- src/ring.rt:160:9
 mul-mark-part-2 : tie.Need-mul-mark-part-2
 mul-mark-part-2 c = search needs
 
--- src/ring.rt:160:9
 sub-mark-part-2 : tie.Need-sub-mark-part-2
 sub-mark-part-2 c =
     let rows-before2 = c .before .before .before .before .before .rows-before2 in
@@ -87,7 +74,6 @@ sub-mark-part-2 c =
     let asked = pre .1 .0 in
     span-of (asked .ordered) (rows-before .ensures) (rows-before2 .ensures) .ordered
 
--- src/ring.rt:160:9
 part-mark-part-start-2 : tie.Need-part-mark-part-start-2
 part-mark-part-start-2 c =
     let rows-before2 = c .before .before .before .before .before .rows-before2 in
@@ -96,15 +82,12 @@ part-mark-part-start-2 c =
     let asked = pre .1 .0 in
     span-of (asked .ordered) (rows-before .ensures) (rows-before2 .ensures) .ordered
 
--- src/ring.rt:160:9
 part-mark-part-end-2 : tie.Need-part-mark-part-end-2
 part-mark-part-end-2 c = search needs
 
--- src/ring.rt:161:9
 mul-mark-part-3 : tie.Need-mul-mark-part-3
 mul-mark-part-3 c = search needs
 
--- src/ring.rt:161:9
 sub-mark-part-3 : tie.Need-sub-mark-part-3
 sub-mark-part-3 c =
     let rows-before2 = c .before .before .before .before .before .before .rows-before2 in
@@ -115,7 +98,6 @@ sub-mark-part-3 c =
     let asked = pre .1 .0 in
     span-of (asked .ordered) (rows-before .ensures) (rows-before2 .ensures) .ordered
 
--- src/ring.rt:161:9
 part-mark-part-start-3 : tie.Need-part-mark-part-start-3
 part-mark-part-start-3 c =
     let rows-before2 = c .before .before .before .before .before .before .rows-before2 in
@@ -126,11 +108,9 @@ part-mark-part-start-3 c =
     let asked = pre .1 .0 in
     span-of (asked .ordered) (rows-before .ensures) (rows-before2 .ensures) .ordered
 
--- src/ring.rt:161:9
 part-mark-part-end-3 : tie.Need-part-mark-part-end-3
 part-mark-part-end-3 c = search needs
 
--- src/ring.rt:165:9
 sub-mark-part-4 : tie.Need-sub-mark-part-4
 sub-mark-part-4 c =
     let rows-before2 = c .before .before .before .before .before .before .before .rows-before2 in
@@ -141,7 +121,6 @@ sub-mark-part-4 c =
     let asked = pre .1 .0 in
     span-of (asked .ordered) (rows-before .ensures) (rows-before2 .ensures) .ordered
 
--- src/ring.rt:165:9
 part-mark-part-start-4 : tie.Need-part-mark-part-start-4
 part-mark-part-start-4 c =
     let rows-before2 = c .before .before .before .before .before .before .before .rows-before2 in
@@ -152,15 +131,12 @@ part-mark-part-start-4 c =
     let asked = pre .1 .0 in
     span-of (asked .ordered) (rows-before .ensures) (rows-before2 .ensures) .ordered
 
--- src/ring.rt:165:9
 part-mark-part-end-4 : tie.Need-part-mark-part-end-4
 part-mark-part-end-4 c = search needs
 
--- src/ring.rt:166:9
 slice-relend-prefix-mark-part : tie.Need-slice-relend-prefix-mark-part
 slice-relend-prefix-mark-part c = search needs
 
--- src/ring.rt:166:9
 slice-aggregate-mark-part : tie.Need-slice-aggregate-mark-part
 slice-aggregate-mark-part c =
     let rows-before2 = c .before .before .before .before .before .before .before .before .before .rows-before2 in
@@ -177,7 +153,6 @@ slice-aggregate-mark-part c =
     let o = span-of (asked .ordered) (rows-before .ensures) (rows-before2 .ensures) in room-long (a .days .now)
     (a .first .now) (a .second .now) _ _ (o .ordered) (o .within) (a .scratch .now) (buffers .scratch)
 
--- src/ring.rt:158:9
 mark-part-requires : tie.Need-mark-part-requires
 mark-part-requires c κs =
     let clear-marks = c .before .before .before .before .before .before .before .clear-marks in
@@ -213,19 +188,15 @@ mark-part-requires c κs =
       },
     )
 
--- src/ring.rt:168:5
 clear-requires : tie.Need-clear-requires
 clear-requires c κs = search needs
 
--- src/ring.rt:140:1
 same-length : tie.Need-same-length
 same-length c = search needs
 
--- src/ring.rt:140:1
 same-length-2 : tie.Need-same-length-2
 same-length-2 c = search needs
 
--- src/ring.rt:140:1
 returns : tie.Need-returns
 returns c =
     let clear = c .before .before .clear in

@@ -10,15 +10,12 @@ use Rattle.rings.proofs.ring.stays.Reads as reads
 use Rattle.rings.proofs.ring.stays.Lts as lts
 use Rattle.rings.proofs.slices.entry.Reads as entry-reads
 
--- src/ring.rt:31:9
 entry-requires : tie.Need-entry-requires
 entry-requires c κs = search needs
 
--- src/ring.rt:32:8
 entry-requires-2 : tie.Need-entry-requires-2
 entry-requires-2 c κs = search needs
 
--- src/ring.rt:33:9
 returns : tie.Need-returns
 unfolding _and_
 returns c =
@@ -28,15 +25,12 @@ returns c =
     let a = args in
     simp (not-zero (a .times .now) (getD (a .first .now) (a .j) 0) (entry .ensures) (entry2 .ensures) (c .if1 .taken))
 
--- src/ring.rt:35:9
 entry-requires-3 : tie.Need-entry-requires-3
 entry-requires-3 c κs = search needs
 
--- src/ring.rt:36:8
 entry-requires-4 : tie.Need-entry-requires-4
 entry-requires-4 c κs = search needs
 
--- src/ring.rt:37:9
 returns-2 : tie.Need-returns-2
 unfolding _and_
 returns-2 c =
@@ -52,7 +46,6 @@ returns-2 c =
       not-zero (a .times .now) (getD (a .second .now) (a .j) 0) (entry3 .ensures) (entry4 .ensures) (c .if2 .taken),
     )
 
--- src/ring.rt:27:1
 returns-3 : tie.Need-returns-3
 unfolding _and_
 returns-3 c =

@@ -11,23 +11,18 @@ use Rattle.rings.proofs.checks.check_call.Reads as check-call-reads
 use Rattle.rings.proofs.checks.is_window.Reads as is-window-reads
 use Rattle.rings.proofs.ring.mark_ring.Reads as mark-ring-reads
 
--- src/ring.rt:94:9
 is-window-requires : tie.Need-is-window-requires
 is-window-requires c κs = search needs
 
--- src/ring.rt:96:9
 check-call-requires : tie.Need-check-call-requires
 check-call-requires c κs = search needs
 
--- src/ring.rt:98:26
 enum-known-found : tie.Need-enum-known-found
 enum-known-found c = search needs
 
--- src/ring.rt:100:17
 enum-told : tie.Need-enum-told
 enum-told c = search needs
 
--- src/ring.rt:101:17
 mark-ring-requires : tie.Need-mark-ring-requires
 mark-ring-requires c κs =
     let enum-told = c .before .before .enum-told in
@@ -46,7 +41,6 @@ mark-ring-requires c κs =
       ),
     )
 
--- src/ring.rt:89:1
 returns : tie.Need-returns
 returns c =
     let found = c .before .found in
@@ -56,15 +50,12 @@ returns c =
     ring-refused _ _ _ _ (args .marks .now) (args .scratch .now) (is-window .ensures)
     (sym (check-call .ensures) ∙ found .given .1)
 
--- src/ring.rt:89:1
 same-length : tie.Need-same-length
 same-length c = search needs
 
--- src/ring.rt:89:1
 same-length-2 : tie.Need-same-length-2
 same-length-2 c = search needs
 
--- src/ring.rt:89:1
 returns-2 : tie.Need-returns-2
 returns-2 c =
     let mark-ring = c .before .before .before .before .mark-ring in

@@ -19,17 +19,14 @@ Inv-loop days first second scratch frame times scan walked₀ c₀ walked c = Sh
 abbrev μ-loop : tie.MeasureT-loop
 μ-loop days first second scratch frame times scan walked₀ c₀ walked c = 65535 - c
 
--- src/scan.rt:249:5
 loop-holds : tie.Need-loop-holds Inv-loop μ-loop
 loop-holds c =
     let pre = c .before .before .before .before .before .pre in
     (pre .short, omega arith)
 
--- src/scan.rt:251:13
 returns : tie.Need-returns Inv-loop μ-loop
 returns c = tt
 
--- src/scan.rt:257:13
 scan-on-day-requires : tie.Need-scan-on-day-requires Inv-loop μ-loop
 scan-on-day-requires c κs =
     let loop-test = c .before .before .loop-test in
@@ -47,7 +44,6 @@ scan-on-day-requires c κs =
       every = pre .every (λ e. omega (arith, e, loop .inv .0 .from, loop-test .taken));
     }
 
--- src/scan.rt:271:18
 add-walked : tie.Need-add-walked Inv-loop μ-loop
 add-walked c =
     let scan-on-day = c .before .scan-on-day in
@@ -55,19 +51,16 @@ add-walked c =
     let pre = c .before .before .before .before .before .before .before .before .before .before .before .pre in
     omega (arith, scan-on-day .ensures .short-walk, if1 .left, pre .bounded)
 
--- src/scan.rt:275:24
 add-t16 : tie.Need-add-t16 Inv-loop μ-loop
 add-t16 c =
     let scan-on-day = c .before .before .before .before .before .before .before .before .scan-on-day in
     omega (arith, scan-on-day .ensures .few)
 
--- src/scan.rt:275:24
 sub-t17 : tie.Need-sub-t17 Inv-loop μ-loop
 sub-t17 c =
     let if4 = c .before .if4 in
     omega (arith, if4 .taken)
 
--- src/scan.rt:273:13
 returns-2 : tie.Need-returns-2 Inv-loop μ-loop
 returns-2 c =
     let if2 = c .before .before .if2 in
@@ -82,7 +75,6 @@ returns-2 c =
       short-walk = omega (arith, scan-on-day .ensures .short-walk, if1 .left, pre .bounded);
     }
 
--- src/scan.rt:281:13
 returns-3 : tie.Need-returns-3 Inv-loop μ-loop
 returns-3 c =
     let if2 = c .before .if2 in
@@ -98,25 +90,21 @@ returns-3 c =
       short-walk = omega (arith, scan-on-day .ensures .short-walk, if1 .left, pre .bounded);
     }
 
--- src/scan.rt:287:20
 add-both : tie.Need-add-both Inv-loop μ-loop
 add-both c =
     let scan-on-day = c .before .before .before .before .before .before .scan-on-day in
     omega (arith, scan-on-day .ensures .few)
 
--- src/scan.rt:291:24
 add-t14 : tie.Need-add-t14 Inv-loop μ-loop
 add-t14 c =
     let scan-on-day = c .before .before .before .before .before .scan-on-day in
     omega (arith, scan-on-day .ensures .few)
 
--- src/scan.rt:291:24
 sub-t15 : tie.Need-sub-t15 Inv-loop μ-loop
 sub-t15 c =
     let if2 = c .before .before .if2 in
     omega (arith, if2 .taken)
 
--- src/scan.rt:289:13
 returns-4 : tie.Need-returns-4 Inv-loop μ-loop
 returns-4 c =
     let if3 = c .before .before .before .before .if3 in
@@ -131,7 +119,6 @@ returns-4 c =
       short-walk = omega (arith, scan-on-day .ensures .short-walk, if1 .left, pre .bounded);
     }
 
--- src/scan.rt:249:5
 loop-less : tie.Need-loop-less Inv-loop μ-loop
 loop-less c =
     let if2 = c .before .before .before .before .if2 in
@@ -145,7 +132,6 @@ loop-less c =
       loop-test .taken,
     )
 
--- src/scan.rt:249:5
 loop-again : tie.Need-loop-again Inv-loop μ-loop
 loop-again c =
     let if2 = c .before .before .before .before .if2 in
@@ -157,7 +143,6 @@ loop-again c =
       omega (arith, scan-on-day .ensures .short-walk, if1 .left),
     )
 
--- src/scan.rt:227:1
 returns-5 : tie.Need-returns-5 Inv-loop μ-loop
 returns-5 c =
     let loop = c .before .loop in

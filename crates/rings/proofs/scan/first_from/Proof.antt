@@ -15,46 +15,39 @@ Inv-loop days first second scratch u lo last p₀ p = (last ≡ getD scratch u 0
 abbrev μ-loop : tie.MeasureT-loop
 μ-loop days first second scratch u lo last p₀ p = last - p
 
--- src/scan.rt:308:9
 entry-requires : tie.Need-entry-requires Inv-loop μ-loop
 entry-requires c κs =
     let pre = c .before .before .before .before .pre in
     omega (arith, pre .1 .1, pre .1 .0 .long)
 
--- src/scan.rt:309:30
 add-entry : tie.Need-add-entry Inv-loop μ-loop
 add-entry c =
     let pre = c .before .before .before .before .before .pre in
     omega (arith, pre .1 .1)
 
--- src/scan.rt:309:9
 entry-requires-2 : tie.Need-entry-requires-2 Inv-loop μ-loop
 entry-requires-2 c κs =
     let pre = c .before .before .before .before .before .pre in
     omega (arith, pre .1 .1, pre .1 .0 .long)
 
--- src/scan.rt:310:5
 loop-holds : tie.Need-loop-holds Inv-loop μ-loop
 loop-holds c =
     let entry = c .before .entry in
     let pre = c .before .before .before .before .before .before .pre in
     (entry .ensures, seeking-start _ (pre .1 .0 .pruned-list _ (pre .1 .1)) (c .entry2 .ensures))
 
--- src/scan.rt:311:30
 add-entry-2 : tie.Need-add-entry-2 Inv-loop μ-loop
 add-entry-2 c =
     let loop = c .before .loop in
     let pre = c .before .before .before .before .before .before .before .before .pre in
     omega (arith, loop .inv .0, c .loop-test .taken, (pre .1 .0 .pruned-list _ (pre .1 .1)) .to, pre .0 .most)
 
--- src/scan.rt:311:13
 entry-requires-3 : tie.Need-entry-requires-3 Inv-loop μ-loop
 entry-requires-3 c κs =
     let loop = c .before .loop in
     let pre = c .before .before .before .before .before .before .before .before .pre in
     omega (arith, loop .inv .0, c .loop-test .taken, (pre .1 .0 .pruned-list _ (pre .1 .1)) .to, pre .1 .0 .long)
 
--- src/scan.rt:313:13
 returns : tie.Need-returns Inv-loop μ-loop
 returns c =
     let entry3 = c .before .entry3 in
@@ -64,7 +57,6 @@ returns c =
     seeking-found (pre .1 .0 .pruned-list _ (pre .1 .1)) (loop .inv .1) (omega (arith, loop .inv .0, loop-test .taken))
     (entry3 .ensures) (c .if1 .taken)
 
--- src/scan.rt:315:9
 add-p : tie.Need-add-p Inv-loop μ-loop
 add-p c =
     let loop-test = c .before .before .loop-test in
@@ -72,13 +64,11 @@ add-p c =
     let pre = c .before .before .before .before .before .before .before .before .before .before .pre in
     omega (arith, loop .inv .0, loop-test .taken, (pre .1 .0 .pruned-list _ (pre .1 .1)) .to, pre .0 .most)
 
--- src/scan.rt:310:5
 loop-less : tie.Need-loop-less Inv-loop μ-loop
 loop-less c =
     let loop-test = c .before .before .loop-test in
     omega (arith, loop-test .taken)
 
--- src/scan.rt:310:5
 loop-again : tie.Need-loop-again Inv-loop μ-loop
 loop-again c =
     let entry3 = c .before .entry3 in
@@ -88,7 +78,6 @@ loop-again c =
       seeking-next (loop .inv .1) (omega (arith, loop .inv .0, loop-test .taken)) (entry3 .ensures) (c .if1 .left),
     )
 
--- src/scan.rt:303:1
 returns-2 : tie.Need-returns-2 Inv-loop μ-loop
 returns-2 c =
     let loop = c .before .loop in

@@ -6,29 +6,24 @@ use Rattle.rings.proofs.scan.is_over.Tie as tie
 use Rattle.rings.proofs.scan.is_over.Reads as reads
 use Rattle.rings.proofs.scan.is_over.Lts as lts
 
--- src/scan.rt:50:9
 returns : tie.Need-returns
 returns c = record { yes = λ e. clash e refl; not = λ e. _⊎_.inl (c .if1 .taken) }
 
--- src/scan.rt:53:9
 returns-2 : tie.Need-returns-2
 returns-2 c =
     let if1 = c .before .if1 in
     record { yes = λ e. (if1 .left, _⊎_.inl (c .if2 .taken)); not = λ e. clash refl e }
 
--- src/scan.rt:56:9
 returns-3 : tie.Need-returns-3
 returns-3 c =
     let if1 = c .before .before .if1 in
     record { yes = λ e. (if1 .left, _⊎_.inr (_⊎_.inl (c .if3 .taken))); not = λ e. clash refl e }
 
--- src/scan.rt:59:9
 returns-4 : tie.Need-returns-4
 returns-4 c =
     let if1 = c .before .before .before .if1 in
     record { yes = λ e. (if1 .left, _⊎_.inr (_⊎_.inr (c .if4 .taken))); not = λ e. clash refl e }
 
--- src/scan.rt:46:1
 returns-5 : tie.Need-returns-5
 returns-5 c =
     let if3 = c .before .if3 in

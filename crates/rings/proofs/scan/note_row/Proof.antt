@@ -9,39 +9,31 @@ use Rattle.rings.proofs.scan.note_row.Lts as lts
 use Rattle.rings.proofs.choice.one.Reads as one-reads
 use Rattle.rings.proofs.choice.pick.Reads as pick-reads
 
--- src/scan.rt:69:24
 one-requires : tie.Need-one-requires
 one-requires c κs = search needs
 
--- src/scan.rt:69:16
 add-t13 : tie.Need-add-t13
 add-t13 c =
     let pre = c .before .pre in
     omega (arith, pre .0, picked-most (c .one .ensures))
 
--- src/scan.rt:70:16
 pick-requires : tie.Need-pick-requires
 pick-requires c κs = search needs
 
--- src/scan.rt:71:28
 one-requires-2 : tie.Need-one-requires-2
 one-requires-2 c κs = search needs
 
--- src/scan.rt:71:47
 one-requires-3 : tie.Need-one-requires-3
 one-requires-3 c κs = search needs
 
--- src/scan.rt:71:40
 add-pick : tie.Need-add-pick
 add-pick c =
     let pre = c .before .before .before .before .pre in
     omega (arith, pre .1, picked-most (c .one3 .ensures))
 
--- src/scan.rt:71:15
 pick-requires-2 : tie.Need-pick-requires-2
 pick-requires-2 c κs = search needs
 
--- src/scan.rt:61:1
 returns : tie.Need-returns
 returns c =
     let one3 = c .before .one3 in

@@ -6,27 +6,22 @@ use Rattle.rings.proofs.scan.slack_above.Tie as tie
 use Rattle.rings.proofs.scan.slack_above.Reads as reads
 use Rattle.rings.proofs.scan.slack_above.Lts as lts
 
--- src/scan.rt:218:9
 returns : tie.Need-returns
 returns c = none (c .if1 .taken) refl
 
--- src/scan.rt:221:9
 returns-2 : tie.Need-returns-2
 returns-2 c =
     let if1 = c .before .if1 in
     few (if1 .left) (c .if2 .taken) refl
 
--- src/scan.rt:223:5
 add-result : tie.Need-add-result
 add-result c =
     let pre = c .before .before .pre in
     omega (arith, pre)
 
--- src/scan.rt:223:5
 sub-result : tie.Need-sub-result
 sub-result c = omega (arith, c .if2 .left)
 
--- src/scan.rt:213:1
 returns-3 : tie.Need-returns-3
 returns-3 c =
     let if1 = c .before .if1 in

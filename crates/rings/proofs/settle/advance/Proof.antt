@@ -14,11 +14,9 @@ use Rattle.rings.proofs.settle.peel_start.Reads as peel-start-reads
 use Rattle.rings.proofs.settle.list_all.Reads as list-all-reads
 use Rattle.rings.proofs.settle.step.Reads as step-reads
 
--- src/settle.rt:543:9
 slice-aggregate-step : tie.Need-slice-aggregate-step
 slice-aggregate-step c = search needs
 
--- src/settle.rt:531:9
 step-requires : tie.Need-step-requires
 step-requires c κs =
     let pre = c .before .before .before .before .before .before .before .before .before .before .before .pre in
@@ -37,19 +35,15 @@ step-requires c κs =
       counted = λ y. clash y refl;
     }
 
--- src/settle.rt:546:24
 enum-known-found : tie.Need-enum-known-found
 enum-known-found c = search needs
 
--- src/settle.rt:548:17
 enum-told : tie.Need-enum-told
 enum-told c = search needs
 
--- src/settle.rt:548:17
 next-frame-requires : tie.Need-next-frame-requires
 next-frame-requires c κs = search needs
 
--- src/settle.rt:549:13
 peel-start-requires : tie.Need-peel-start-requires
 peel-start-requires c κs =
     let next = c .before .before .before .next-frame in
@@ -65,7 +59,6 @@ peel-start-requires c κs =
     }
     )
 
--- src/settle.rt:550:13
 list-all-requires : tie.Need-list-all-requires
 list-all-requires c κs =
     let peel-start = c .before .before .before .before .before .before .before .peel-start in
@@ -73,19 +66,15 @@ list-all-requires c κs =
     let pre = c .before .before .before .before .before .before .before .before .before .before .before .before .before .before .before .before .before .before .before .before .before .before .before .before .before .before .before .before .before .before .before .before .before .pre in
     peel-start .kept .1 .1 .1 .1 .1 .1 .1 .1 .0 ∙ (step .kept .1 .1 .1 .1 .1 .1 .1 .1 .1 .0 ∙ pre .queue-long)
 
--- src/settle.rt:513:1
 same-length : tie.Need-same-length
 same-length c = search needs
 
--- src/settle.rt:513:1
 same-length-2 : tie.Need-same-length-2
 same-length-2 c = search needs
 
--- src/settle.rt:513:1
 same-length-3 : tie.Need-same-length-3
 same-length-3 c = search needs
 
--- src/settle.rt:513:1
 returns : tie.Need-returns
 returns c =
     let found = c .before .found in
@@ -93,19 +82,15 @@ returns c =
     let done = rw (found .given .1) at (step .ensures) in
     record { times-are = done .times-are; slacks = done .slacks; listed = done .listed }
 
--- src/settle.rt:513:1
 same-length-4 : tie.Need-same-length-4
 same-length-4 c = search needs
 
--- src/settle.rt:513:1
 same-length-5 : tie.Need-same-length-5
 same-length-5 c = search needs
 
--- src/settle.rt:513:1
 same-length-6 : tie.Need-same-length-6
 same-length-6 c = search needs
 
--- src/settle.rt:513:1
 returns-2 : tie.Need-returns-2
 returns-2 c =
     let list-all = c .before .before .list-all in

@@ -12,68 +12,55 @@ use Rattle.rings.proofs.pairs.leads.Reads as leads-reads
 use Rattle.rings.proofs.supporters.loses_supporter.Reads as loses-supporter-reads
 use Rattle.rings.proofs.supporters.drop_supporter.Reads as drop-supporter-reads
 
--- src/settle.rt:473:9
 returns : tie.Need-returns
 returns c =
     record { queued = λ h. absurd (omega (arith, h)); leaving = λ h. absurd (omega (arith, h)) }
 
--- src/settle.rt:476:9
 leads-requires : tie.Need-leads-requires
 leads-requires c κs = search needs
 
--- src/settle.rt:477:9
 entry-requires : tie.Need-entry-requires
 entry-requires c κs = search needs
 
--- src/settle.rt:478:9
 entry-requires-2 : tie.Need-entry-requires-2
 entry-requires-2 c κs = search needs
 
--- src/settle.rt:479:13
 mul-x : tie.Need-mul-x
 mul-x c =
     let entry = c .before .entry in
     let pre = c .before .before .before .before .before .before .before .before .before .before .before .pre in
     omega (arith, first-small _ _ _ (pre .0 .placed .sound) (pre .1) (entry .ensures))
 
--- src/settle.rt:479:13
 shared-slice-read-x : tie.Need-shared-slice-read-x
 shared-slice-read-x c =
     let entry = c .before .before .entry in
     let pre = c .before .before .before .before .before .before .before .before .before .before .before .before .pre in
     omega (arith, first-small _ _ _ (pre .0 .placed .sound) (pre .1) (entry .ensures), pre .0 .times-long)
 
--- src/settle.rt:480:13
 mul-y : tie.Need-mul-y
 mul-y c =
     let entry2 = c .before .entry2 in
     let pre = c .before .before .before .before .before .before .before .before .before .before .before .before .pre in
     omega (arith, second-small _ _ _ (pre .0 .placed .sound) (pre .1) (entry2 .ensures))
 
--- src/settle.rt:480:13
 shared-slice-read-y : tie.Need-shared-slice-read-y
 shared-slice-read-y c =
     let entry2 = c .before .before .entry2 in
     let pre = c .before .before .before .before .before .before .before .before .before .before .before .before .before .pre in
     omega (arith, second-small _ _ _ (pre .0 .placed .sound) (pre .1) (entry2 .ensures), pre .0 .times-long)
 
--- src/settle.rt:481:15
 mul-day : tie.Need-mul-day
 mul-day c = search needs
 
--- src/settle.rt:481:15
 shared-slice-read-day : tie.Need-shared-slice-read-day
 shared-slice-read-day c = search needs
 
--- src/settle.rt:482:9
 loses-supporter-requires : tie.Need-loses-supporter-requires
 loses-supporter-requires c κs = search needs
 
--- src/settle.rt:483:9
 loses-supporter-requires-2 : tie.Need-loses-supporter-requires-2
 loses-supporter-requires-2 c κs = search needs
 
--- src/settle.rt:484:9
 drop-supporter-requires : tie.Need-drop-supporter-requires
 drop-supporter-requires c κs =
     let entry = c .before .before .before .before .before .before .before .before .entry in
@@ -86,7 +73,6 @@ drop-supporter-requires c κs =
       room = omega (arith, if1 .left);
     }
 
--- src/settle.rt:485:5
 drop-supporter-requires-2 : tie.Need-drop-supporter-requires-2
 drop-supporter-requires-2 c κs =
     let drop-supporter = c .before .before .before .before .before .before .drop-supporter in
@@ -102,15 +88,12 @@ drop-supporter-requires-2 c κs =
       room = omega (arith, if1 .left, dropped-supporter-on (drop-supporter .ensures));
     }
 
--- src/settle.rt:453:1
 same-length : tie.Need-same-length
 same-length c = search needs
 
--- src/settle.rt:453:1
 same-length-2 : tie.Need-same-length-2
 same-length-2 c = search needs
 
--- src/settle.rt:453:1
 returns-2 : tie.Need-returns-2
 returns-2 c =
     let drop-supporter2 = c .before .before .before .before .drop-supporter2 in

@@ -18,7 +18,6 @@ Inv-loop days first second scratch frame next times slack₀ queue₀ tail₀ j�
 abbrev μ-loop : tie.MeasureT-loop
 μ-loop days first second scratch frame next times slack₀ queue₀ tail₀ j₀ slack queue tail j = next - j
 
--- src/settle.rt:509:5
 loop-holds : tie.Need-loop-holds Inv-loop μ-loop
 loop-holds c =
     let pre = c .before .before .before .before .before .before .before .pre in (
@@ -31,7 +30,6 @@ loop-holds c =
       ),
     )
 
--- src/settle.rt:510:9
 drop-leaving-row-requires : tie.Need-drop-leaving-row-requires Inv-loop μ-loop
 drop-leaving-row-requires c κs =
     let loop-test = c .before .before .loop-test in
@@ -47,20 +45,17 @@ drop-leaving-row-requires c κs =
       omega (arith, loop-test .taken, pre .1 .within),
     )
 
--- src/settle.rt:525:9
 add-j : tie.Need-add-j Inv-loop μ-loop
 add-j c =
     let loop-test = c .before .before .before .before .before .before .before .loop-test in
     let pre = c .before .before .before .before .before .before .before .before .before .before .before .before .before .before .before .before .pre in
     omega (arith, loop-test .taken, pre .1 .within, pre .0 .placed .sound .most)
 
--- src/settle.rt:509:5
 loop-less : tie.Need-loop-less Inv-loop μ-loop
 loop-less c =
     let loop-test = c .before .before .before .before .before .before .before .loop-test in
     omega (arith, loop-test .taken)
 
--- src/settle.rt:509:5
 loop-again : tie.Need-loop-again Inv-loop μ-loop
 loop-again c =
     let drop-leaving-row = c .before .before .before .before .drop-leaving-row in
@@ -73,21 +68,18 @@ loop-again c =
           (queued-then (till .0) (drop-leaving-row .ensures .queued h), drop-leaving-row .ensures .leaving h _ (till .1)),
     )
 
--- src/settle.rt:489:1
 same-length : tie.Need-same-length Inv-loop μ-loop
 same-length c =
     let loop = c .before .loop in
     let pre = c .before .before .before .before .before .before .before .before .before .pre in
     loop .inv .1 ∙ sym (pre .0 .slack-long)
 
--- src/settle.rt:489:1
 same-length-2 : tie.Need-same-length-2 Inv-loop μ-loop
 same-length-2 c =
     let loop = c .before .loop in
     let pre = c .before .before .before .before .before .before .before .before .before .pre in
     loop .inv .2 ∙ sym (pre .0 .queue-long)
 
--- src/settle.rt:489:1
 returns : tie.Need-returns Inv-loop μ-loop
 returns c =
     let loop = c .before .loop in

@@ -8,29 +8,23 @@ use Rattle.rings.proofs.settle.peel_start.Lts as lts
 use Rattle.rings.proofs.peel.peel.Reads as peel-reads
 use Rattle.rings.proofs.settle.reset_slack.Reads as reset-slack-reads
 
--- src/settle.rt:408:5
 peel-requires : tie.Need-peel-requires
 peel-requires c κs =
     let pre = c .before .before .before .before .before .before .before .before .before .before .pre in
     (pre .ready, (pre .span, record { times = pre .times-long; left = pre .slack-long; queue = omega (arith, pre .queue-long) }))
 
--- src/settle.rt:422:5
 reset-slack-requires : tie.Need-reset-slack-requires
 reset-slack-requires c κs = search needs
 
--- src/settle.rt:389:1
 same-length : tie.Need-same-length
 same-length c = search needs
 
--- src/settle.rt:389:1
 same-length-2 : tie.Need-same-length-2
 same-length-2 c = search needs
 
--- src/settle.rt:389:1
 same-length-3 : tie.Need-same-length-3
 same-length-3 c = search needs
 
--- src/settle.rt:389:1
 returns : tie.Need-returns
 returns c =
     let reset-slack = c .before .before .reset-slack in

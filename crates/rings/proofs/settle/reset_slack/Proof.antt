@@ -14,13 +14,11 @@ Inv-loop slack₀ u₀ slack u = (u ≤ 4096) × Filled (λ (i : ℕ). 1) 4096 u
 abbrev μ-loop : tie.MeasureT-loop
 μ-loop slack₀ u₀ slack u = 4096 - u
 
--- src/settle.rt:370:5
 loop-holds : tie.Need-loop-holds Inv-loop μ-loop
 loop-holds c =
     let pre = c .before .pre in
     (omega arith, filled-start (λ (i : ℕ). 1) _ (pre))
 
--- src/settle.rt:371:9
 put-requires : tie.Need-put-requires Inv-loop μ-loop
 put-requires c κs =
     let loop-test = c .before .loop-test in
@@ -30,19 +28,16 @@ put-requires c κs =
       number = omega (arith, loop-test .taken);
     }
 
--- src/settle.rt:372:9
 add-u : tie.Need-add-u Inv-loop μ-loop
 add-u c =
     let loop-test = c .before .before .before .before .loop-test in
     omega (arith, loop-test .taken)
 
--- src/settle.rt:370:5
 loop-less : tie.Need-loop-less Inv-loop μ-loop
 loop-less c =
     let loop-test = c .before .before .before .before .loop-test in
     omega (arith, loop-test .taken)
 
--- src/settle.rt:370:5
 loop-again : tie.Need-loop-again Inv-loop μ-loop
 loop-again c =
     let put = c .before .before .put in
@@ -50,14 +45,12 @@ loop-again c =
     let loop = c .before .before .before .before .before .loop in
     (omega (arith, loop-test .taken), filled-next (loop .inv .1) (loop-test .taken) refl (put .ensures))
 
--- src/settle.rt:365:1
 same-length : tie.Need-same-length Inv-loop μ-loop
 same-length c =
     let loop = c .before .loop in
     let pre = c .before .before .before .pre in
     loop .inv .1 .long ∙ sym (pre)
 
--- src/settle.rt:365:1
 returns : tie.Need-returns Inv-loop μ-loop
 returns c =
     let loop = c .before .loop in

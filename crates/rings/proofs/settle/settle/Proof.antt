@@ -21,7 +21,6 @@ Inv-loop days first second scratch frame budget waiting times₀ slack₀ queue�
 abbrev μ-loop : tie.MeasureT-loop
 μ-loop days first second scratch frame budget waiting times₀ slack₀ queue₀ counting counts₀ list₀ times slack queue counts list = 4353 - list .head
 
--- src/settle.rt:317:5
 loop-holds : tie.Need-loop-holds Inv-loop μ-loop
 loop-holds c =
     let pre = c .before .before .before .before .before .before .before .before .pre in
@@ -34,40 +33,34 @@ loop-holds c =
       counted = record { counted = λ y. pre .counted y .counts-are; same = λ y. refl };
     }
 
--- src/settle.rt:319:13
 same-length : tie.Need-same-length Inv-loop μ-loop
 same-length c =
     let loop = c .before .before .before .before .loop in
     let pre = c .before .before .before .before .before .before .before .before .before .before .before .before .before .pre in
     loop .inv .rising .settling .long ∙ sym (pre .rising .settling .long)
 
--- src/settle.rt:319:13
 same-length-2 : tie.Need-same-length-2 Inv-loop μ-loop
 same-length-2 c =
     let loop = c .before .before .before .before .loop in
     let pre = c .before .before .before .before .before .before .before .before .before .before .before .before .before .pre in
     loop .inv .rising .settling .long-slack ∙ sym (pre .rising .settling .long-slack)
 
--- src/settle.rt:319:13
 same-length-3 : tie.Need-same-length-3 Inv-loop μ-loop
 same-length-3 c =
     let loop = c .before .before .before .before .loop in
     let pre = c .before .before .before .before .before .before .before .before .before .before .before .before .before .pre in
     loop .inv .rising .waiting .long ∙ sym (pre .rising .waiting .long)
 
--- src/settle.rt:319:13
 same-length-4 : tie.Need-same-length-4 Inv-loop μ-loop
 same-length-4 c =
     let loop = c .before .before .before .before .loop in
     loop .inv .long-counts
 
--- src/settle.rt:319:13
 returns : tie.Need-returns Inv-loop μ-loop
 returns c =
     let loop = c .before .before .before .before .loop in
     record { same = loop .inv .counted .same }
 
--- src/settle.rt:321:13
 settle-account-requires : tie.Need-settle-account-requires Inv-loop μ-loop
 settle-account-requires c κs =
     let if2 = c .before .before .before .before .if2 in
@@ -93,11 +86,9 @@ settle-account-requires c κs =
       bounded = pre .bounded;
     }
 
--- src/settle.rt:337:17
 enum-told : tie.Need-enum-told Inv-loop μ-loop
 enum-told c = search needs
 
--- src/settle.rt:337:17
 same-length-5 : tie.Need-same-length-5 Inv-loop μ-loop
 same-length-5 c =
     let settle-account = c .before .before .before .before .before .before .before .before .before .before .settle-account in
@@ -105,7 +96,6 @@ same-length-5 c =
     let pre = c .before .before .before .before .before .before .before .before .before .before .before .before .before .before .before .before .before .before .before .before .before .before .before .before .before .before .before .before .pre in
     settle-account .kept .1 .1 .1 .1 .1 .1 .1 .0 ∙ (loop .inv .rising .settling .long ∙ sym (pre .rising .settling .long))
 
--- src/settle.rt:337:17
 same-length-6 : tie.Need-same-length-6 Inv-loop μ-loop
 same-length-6 c =
     let settle-account = c .before .before .before .before .before .before .before .before .before .before .settle-account in
@@ -113,7 +103,6 @@ same-length-6 c =
     let pre = c .before .before .before .before .before .before .before .before .before .before .before .before .before .before .before .before .before .before .before .before .before .before .before .before .before .before .before .before .pre in
     settle-account .kept .1 .1 .1 .1 .1 .1 .1 .1 .0 ∙ (loop .inv .rising .settling .long-slack ∙ sym (pre .rising .settling .long-slack))
 
--- src/settle.rt:337:17
 same-length-7 : tie.Need-same-length-7 Inv-loop μ-loop
 same-length-7 c =
     let settle-account = c .before .before .before .before .before .before .before .before .before .before .settle-account in
@@ -121,14 +110,12 @@ same-length-7 c =
     let pre = c .before .before .before .before .before .before .before .before .before .before .before .before .before .before .before .before .before .before .before .before .before .before .before .before .before .before .before .before .pre in
     settle-account .kept .1 .1 .1 .1 .1 .1 .1 .1 .1 .0 ∙ (loop .inv .rising .waiting .long ∙ sym (pre .rising .waiting .long))
 
--- src/settle.rt:337:17
 same-length-8 : tie.Need-same-length-8 Inv-loop μ-loop
 same-length-8 c =
     let settle-account = c .before .before .before .before .before .before .before .before .before .before .settle-account in
     let loop = c .before .before .before .before .before .before .before .before .before .before .before .before .before .before .before .before .before .before .before .loop in
     settle-account .kept .1 .1 .1 .1 .1 .1 .1 .1 .1 .1 .1 .0 ∙ loop .inv .long-counts
 
--- src/settle.rt:337:17
 returns-2 : tie.Need-returns-2 Inv-loop μ-loop
 returns-2 c =
     let enum-told = c .enum-told in
@@ -137,11 +124,9 @@ returns-2 c =
     let stay = rw (enum-told .given .1) at (settle-account .ensures) in
     record { same = λ y. stay .same y ∙ loop .inv .counted .same y }
 
--- src/settle.rt:339:30
 enum-known-found : tie.Need-enum-known-found Inv-loop μ-loop
 enum-known-found c = search needs
 
--- src/settle.rt:317:5
 loop-less : tie.Need-loop-less Inv-loop μ-loop
 loop-less c =
     let found = c .before .found in
@@ -151,7 +136,6 @@ loop-less c =
     let loop = c .before .before .before .before .before .before .before .before .before .before .before .before .before .before .before .before .before .before .before .before .loop in
     omega (arith, moved .next, if1 .taken, loop .inv .within)
 
--- src/settle.rt:317:5
 loop-again : tie.Need-loop-again Inv-loop μ-loop
 loop-again c =
     let found = c .before .found in
@@ -168,34 +152,29 @@ loop-again c =
       counted = counted-then (loop .inv .counted) (moved .counted);
     }
 
--- src/settle.rt:289:1
 same-length-9 : tie.Need-same-length-9 Inv-loop μ-loop
 same-length-9 c =
     let loop = c .before .before .loop in
     let pre = c .before .before .before .before .before .before .before .before .before .before .before .pre in
     loop .inv .rising .settling .long ∙ sym (pre .rising .settling .long)
 
--- src/settle.rt:289:1
 same-length-10 : tie.Need-same-length-10 Inv-loop μ-loop
 same-length-10 c =
     let loop = c .before .before .loop in
     let pre = c .before .before .before .before .before .before .before .before .before .before .before .pre in
     loop .inv .rising .settling .long-slack ∙ sym (pre .rising .settling .long-slack)
 
--- src/settle.rt:289:1
 same-length-11 : tie.Need-same-length-11 Inv-loop μ-loop
 same-length-11 c =
     let loop = c .before .before .loop in
     let pre = c .before .before .before .before .before .before .before .before .before .before .before .pre in
     loop .inv .rising .waiting .long ∙ sym (pre .rising .waiting .long)
 
--- src/settle.rt:289:1
 same-length-12 : tie.Need-same-length-12 Inv-loop μ-loop
 same-length-12 c =
     let loop = c .before .before .loop in
     loop .inv .long-counts
 
--- src/settle.rt:289:1
 returns-3 : tie.Need-returns-3 Inv-loop μ-loop
 returns-3 c =
     let if1 = c .if1 in

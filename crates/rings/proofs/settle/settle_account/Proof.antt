@@ -12,32 +12,27 @@ use Rattle.rings.proofs.scan.first_from.Reads as first-from-reads
 use Rattle.rings.proofs.settle.settle_far.Reads as settle-far-reads
 use Rattle.rings.proofs.settle.settle_near.Reads as settle-near-reads
 
--- src/settle.rt:233:9
 entry-requires : tie.Need-entry-requires
 entry-requires c κs = search needs
 
--- src/settle.rt:234:9
 first-from-requires : tie.Need-first-from-requires
 first-from-requires c κs =
     let pre = c .before .before .before .before .before .before .before .before .before .before .pre in
     let w = pre .working in
     (w .opened .sound, (w .opened .pruned, omega (arith, c .entry .ensures, pre .small)))
 
--- src/settle.rt:238:14
 mul-t24 : tie.Need-mul-t24
 mul-t24 c =
     let entry = c .before .entry in
     let pre = c .before .before .before .before .before .before .before .before .before .before .before .pre in
     omega (arith, entry .ensures, pre .small)
 
--- src/settle.rt:238:14
 slice-read-t26 : tie.Need-slice-read-t26
 slice-read-t26 c =
     let entry = c .before .before .entry in
     let pre = c .before .before .before .before .before .before .before .before .before .before .before .before .pre in
     omega (arith, entry .ensures, pre .small, pre .working .times-long)
 
--- src/settle.rt:241:9
 settle-near-requires : tie.Need-settle-near-requires
 settle-near-requires c κs =
     let first-from = c .before .before .before .before .before .first-from in
@@ -53,15 +48,12 @@ settle-near-requires c κs =
       its-time = refl;
     }
 
--- src/settle.rt:256:23
 enum-known-near : tie.Need-enum-known-near
 enum-known-near c = search needs
 
--- src/settle.rt:257:22
 enum-known-near-2 : tie.Need-enum-known-near-2
 enum-known-near-2 c = search needs
 
--- src/settle.rt:270:13
 settle-far-requires : tie.Need-settle-far-requires
 settle-far-requires c κs =
     let near2 = c .before .before .before .before .before .near2 in
@@ -81,46 +73,36 @@ settle-far-requires c κs =
       short = same-short _ _ _ _ (unmoved .same-times) (unmoved .short);
     }
 
--- src/settle.rt:210:1
 same-length : tie.Need-same-length
 same-length c = search needs
 
--- src/settle.rt:210:1
 same-length-2 : tie.Need-same-length-2
 same-length-2 c = search needs
 
--- src/settle.rt:210:1
 same-length-3 : tie.Need-same-length-3
 same-length-3 c = search needs
 
--- src/settle.rt:210:1
 same-length-4 : tie.Need-same-length-4
 same-length-4 c = search needs
 
--- src/settle.rt:210:1
 returns : tie.Need-returns
 returns c =
     let near = c .before .near in
     let settle-near = c .before .before .before .before .before .before .before .before .before .before .before .settle-near in
     moved-more (omega arith) (rw (near .given .1) at (settle-near .ensures))
 
--- src/settle.rt:210:1
 same-length-5 : tie.Need-same-length-5
 same-length-5 c = search needs
 
--- src/settle.rt:210:1
 same-length-6 : tie.Need-same-length-6
 same-length-6 c = search needs
 
--- src/settle.rt:210:1
 same-length-7 : tie.Need-same-length-7
 same-length-7 c = search needs
 
--- src/settle.rt:210:1
 same-length-8 : tie.Need-same-length-8
 same-length-8 c = search needs
 
--- src/settle.rt:210:1
 returns-2 : tie.Need-returns-2
 returns-2 c =
     let settle-far = c .before .before .before .before .before .before .before .before .settle-far in

@@ -14,19 +14,16 @@ use Rattle.rings.proofs.slices.put.Reads as put-reads
 use Rattle.rings.proofs.scan.find_day.Reads as find-day-reads
 use Rattle.rings.proofs.supporters.drop_supported.Reads as drop-supported-reads
 
--- src/settle.rt:162:15
 mul-old : tie.Need-mul-old
 mul-old c =
     let pre = c .before .before .before .before .before .before .before .before .pre in
     omega (arith, pre .at-head .small)
 
--- src/settle.rt:162:15
 slice-read-old : tie.Need-slice-read-old
 slice-read-old c =
     let pre = c .before .before .before .before .before .before .before .before .before .pre in
     omega (arith, pre .at-head .small, pre .working .times-long)
 
--- src/settle.rt:163:9
 find-day-requires : tie.Need-find-day-requires
 find-day-requires c κs =
     let args = c .before .before .before .before .before .before .before .before .before .before .args in
@@ -46,35 +43,28 @@ find-day-requires c κs =
       short = pre .short;
     }
 
--- src/settle.rt:164:23
 enum-known-outcome : tie.Need-enum-known-outcome
 enum-known-outcome c = search needs
 
--- src/settle.rt:165:9
 enum-told : tie.Need-enum-told
 enum-told c = search needs
 
--- src/settle.rt:165:9
 same-length : tie.Need-same-length
 same-length c = search needs
 
--- src/settle.rt:165:9
 returns : tie.Need-returns
 returns c = record { same = λ y. refl }
 
--- src/settle.rt:167:5
 mul-slack : tie.Need-mul-slack
 mul-slack c =
     let pre = c .before .before .before .before .before .before .before .before .before .before .before .before .before .before .pre in
     omega (arith, pre .at-head .small)
 
--- src/settle.rt:167:5
 slice-write-slack : tie.Need-slice-write-slack
 slice-write-slack c =
     let pre = c .before .before .before .before .before .before .before .before .before .before .before .before .before .before .pre in
     omega (arith, pre .at-head .small, pre .working .slack-long)
 
--- src/settle.rt:170:19
 add-t28 : tie.Need-add-t28
 add-t28 c =
     let outcome = c .before .before .before .outcome in
@@ -85,7 +75,6 @@ add-t28 c =
     let h = pre .at-head in
     omega (arith, w .waits, w .within, w .behind, w .few, found-day .short-walk)
 
--- src/settle.rt:173:21
 add-t29 : tie.Need-add-t29
 add-t29 c =
     let outcome = c .before .before .before .before .outcome in
@@ -96,15 +85,12 @@ add-t29 c =
     let h = pre .at-head in
     omega (arith, w .waits, w .within, w .behind, w .few, found-day .short-walk)
 
--- src/settle.rt:169:9
 same-length-2 : tie.Need-same-length-2
 same-length-2 c = search needs
 
--- src/settle.rt:169:9
 same-length-3 : tie.Need-same-length-3
 same-length-3 c = search needs
 
--- src/settle.rt:169:9
 returns-2 : tie.Need-returns-2
 returns-2 c =
     let outcome = c .before .before .before .before .outcome in
@@ -123,19 +109,16 @@ returns-2 c =
       counted = record { counted = λ y. w .counted y .counts-are; same = λ y. refl };
     }
 
--- src/settle.rt:176:5
 mul-times : tie.Need-mul-times
 mul-times c =
     let pre = c .before .before .before .before .before .before .before .before .before .before .before .before .before .before .before .pre in
     omega (arith, pre .at-head .small)
 
--- src/settle.rt:176:5
 slice-write-times : tie.Need-slice-write-times
 slice-write-times c =
     let pre = c .before .before .before .before .before .before .before .before .before .before .before .before .before .before .before .pre in
     omega (arith, pre .at-head .small, pre .working .times-long)
 
--- src/settle.rt:177:5
 put-requires : tie.Need-put-requires
 put-requires c κs =
     let pre = c .before .before .before .before .before .before .before .before .before .before .before .before .before .before .before .before .pre in
@@ -146,7 +129,6 @@ put-requires c κs =
       number = omega (arith, h .small);
     }
 
--- src/settle.rt:184:9
 drop-supported-requires : tie.Need-drop-supported-requires
 drop-supported-requires c κs =
     let put = c .before .before .before .before .before .before .put in
@@ -173,31 +155,25 @@ drop-supported-requires c κs =
           (if1 .left) (w .counted y .in-days) (w .counted y .counts-are);
     }
 
--- src/settle.rt:199:9
 same-length-4 : tie.Need-same-length-4
 same-length-4 c = search needs
 
--- src/settle.rt:199:9
 same-length-5 : tie.Need-same-length-5
 same-length-5 c =
     let drop-supported = c .before .before .before .before .before .before .before .drop-supported in
     drop-supported .kept .1 .1 .1 .1 .1 .1 .1 .1 .0 ∙ simp length-set
 
--- src/settle.rt:199:9
 same-length-6 : tie.Need-same-length-6
 same-length-6 c = search needs
 
--- src/settle.rt:199:9
 same-length-7 : tie.Need-same-length-7
 same-length-7 c = search needs
 
--- src/settle.rt:199:9
 returns-3 : tie.Need-returns-3
 returns-3 c =
     let drop-supported = c .before .before .before .before .before .before .before .drop-supported in
     record { same = drop-supported .ensures .counted .same }
 
--- src/settle.rt:202:15
 add-t21 : tie.Need-add-t21
 add-t21 c =
     let outcome = c .before .before .before .before .before .before .before .before .before .before .before .before .before .before .before .before .before .before .before .outcome in
@@ -208,7 +184,6 @@ add-t21 c =
     let h = pre .at-head in
     omega (arith, w .waits, w .within, w .behind, w .few, found-day .short-walk)
 
--- src/settle.rt:204:16
 add-t43 : tie.Need-add-t43
 add-t43 c =
     let outcome = c .before .before .before .before .before .before .before .before .before .before .before .before .before .before .before .before .before .before .before .before .outcome in
@@ -219,7 +194,6 @@ add-t43 c =
     let h = pre .at-head in
     omega (arith, w .waits, w .within, w .behind, w .few, found-day .short-walk)
 
--- src/settle.rt:205:17
 add-t44 : tie.Need-add-t44
 add-t44 c =
     let outcome = c .before .before .before .before .before .before .before .before .before .before .before .before .before .before .before .before .before .before .before .before .before .outcome in
@@ -230,25 +204,20 @@ add-t44 c =
     let h = pre .at-head in
     omega (arith, w .waits, w .within, w .behind, w .few, found-day .short-walk)
 
--- src/settle.rt:138:1
 same-length-8 : tie.Need-same-length-8
 same-length-8 c = search needs
 
--- src/settle.rt:138:1
 same-length-9 : tie.Need-same-length-9
 same-length-9 c =
     let drop-supported = c .before .before .before .before .before .before .before .before .before .before .drop-supported in
     drop-supported .kept .1 .1 .1 .1 .1 .1 .1 .1 .0 ∙ simp length-set
 
--- src/settle.rt:138:1
 same-length-10 : tie.Need-same-length-10
 same-length-10 c = search needs
 
--- src/settle.rt:138:1
 same-length-11 : tie.Need-same-length-11
 same-length-11 c = search needs
 
--- src/settle.rt:138:1
 returns-4 : tie.Need-returns-4
 returns-4 c =
     let if2 = c .before .before .before .if2 in

@@ -15,7 +15,6 @@ use Rattle.rings.proofs.scan.scan_for_rise.Reads as scan-for-rise-reads
 use Rattle.rings.proofs.scan.slack_above.Reads as slack-above-reads
 use Rattle.rings.proofs.supporters.drop_listed_supporters.Reads as drop-listed-supporters-reads
 
--- src/settle.rt:84:9
 returns : tie.Need-returns
 returns c =
     let pre = c .before .before .before .before .before .before .before .before .before .before .pre in
@@ -28,13 +27,11 @@ returns c =
       few = omega arith;
     }
 
--- src/settle.rt:89:9
 entry-requires : tie.Need-entry-requires
 entry-requires c κs =
     let pre = c .before .before .before .before .before .before .before .before .before .before .pre in
     omega (arith, pre .working .opened .pruned .long, pre .at-head .small)
 
--- src/settle.rt:90:8
 add-if2 : tie.Need-add-if2
 add-if2 c =
     let pre = c .before .before .before .before .before .before .before .before .before .before .before .before .pre in
@@ -42,7 +39,6 @@ add-if2 c =
     let h = pre .at-head in
     omega (arith, h .reading .to, w .opened .pruned .pruned-list _ (h .small) .to, w .opened .sound .most)
 
--- src/settle.rt:90:27
 add-if2-2 : tie.Need-add-if2-2
 add-if2-2 c =
     let pre = c .before .before .before .before .before .before .before .before .before .before .before .before .before .pre in
@@ -50,7 +46,6 @@ add-if2-2 c =
     let h = pre .at-head in
     omega (arith, c .before .before .entry .ensures, w .within, w .opened .pruned .pruned-list _ (h .small) .to, w .opened .sound .most)
 
--- src/settle.rt:91:9
 returns-2 : tie.Need-returns-2
 returns-2 c =
     let pre = c .before .before .before .before .before .before .before .before .before .before .before .before .before .before .pre in
@@ -63,7 +58,6 @@ returns-2 c =
       few = omega arith;
     }
 
--- src/settle.rt:96:9
 scan-for-rise-requires : tie.Need-scan-for-rise-requires
 scan-for-rise-requires c κs =
     let if2 = c .before .before .if2 in
@@ -89,56 +83,46 @@ scan-for-rise-requires c κs =
       record { long = w .queue-long; room = omega (arith, entry .ensures, if2 .left) },
     )
 
--- src/settle.rt:108:20
 add-slack : tie.Need-add-slack
 add-slack c =
     let scan-for-rise = c .before .before .before .before .before .before .scan-for-rise in
     omega (arith, scan-for-rise .ensures .found .few)
 
--- src/settle.rt:108:20
 sub-slack : tie.Need-sub-slack
 sub-slack c =
     let if3 = c .before .before .if3 in
     omega (arith, if3 .taken)
 
--- src/settle.rt:108:9
 mul-slack : tie.Need-mul-slack
 mul-slack c =
     let pre = c .before .before .before .before .before .before .before .before .before .before .before .before .before .before .before .before .before .before .before .before .before .before .before .before .pre in
     omega (arith, pre .at-head .small)
 
--- src/settle.rt:108:9
 slice-write-slack : tie.Need-slice-write-slack
 slice-write-slack c =
     let pre = c .before .before .before .before .before .before .before .before .before .before .before .before .before .before .before .before .before .before .before .before .before .before .before .before .pre in
     omega (arith, pre .at-head .small, pre .working .slack-long)
 
--- src/settle.rt:110:19
 add-t28 : tie.Need-add-t28
 add-t28 c =
     let pre = c .before .before .before .before .before .before .before .before .before .before .before .before .before .before .before .before .before .before .before .before .before .before .before .before .before .pre in
     omega (arith, pre .working .waits, pre .working .within)
 
--- src/settle.rt:113:21
 add-t30 : tie.Need-add-t30
 add-t30 c =
     let pre = c .before .before .before .before .before .before .before .before .before .before .before .before .before .before .before .before .before .before .before .before .before .before .before .before .before .before .before .pre in
     let scan-for-rise = c .before .before .before .before .before .before .before .before .before .before .scan-for-rise in
     omega (arith, pre .working .few, scan-for-rise .ensures .found .short-walk)
 
--- src/settle.rt:109:9
 same-length : tie.Need-same-length
 same-length c = search needs
 
--- src/settle.rt:109:9
 same-length-2 : tie.Need-same-length-2
 same-length-2 c = search needs
 
--- src/settle.rt:109:9
 same-length-3 : tie.Need-same-length-3
 same-length-3 c = search needs
 
--- src/settle.rt:109:9
 returns-3 : tie.Need-returns-3
 returns-3 c =
     let if3 = c .before .before .before .before .before .if3 in
@@ -159,34 +143,28 @@ returns-3 c =
       counted = record { counted = λ y. w .counted y .counts-are; same = λ y. refl };
     }
 
--- src/settle.rt:117:33
 add-slack-above : tie.Need-add-slack-above
 add-slack-above c =
     let scan-for-rise = c .before .before .before .before .before .before .scan-for-rise in
     omega (arith, scan-for-rise .ensures .found .few)
 
--- src/settle.rt:117:9
 slack-above-requires : tie.Need-slack-above-requires
 slack-above-requires c κs =
     let scan-for-rise = c .before .before .before .before .before .before .scan-for-rise in
     scan-for-rise .ensures .found .few
 
--- src/settle.rt:120:21
 add-t33 : tie.Need-add-t33
 add-t33 c =
     let pre = c .before .before .before .before .before .before .before .before .before .before .before .before .before .before .before .before .before .before .before .before .before .before .before .before .before .before .before .pre in
     let scan-for-rise = c .before .before .before .before .before .before .before .before .before .before .scan-for-rise in
     omega (arith, pre .working .few, scan-for-rise .ensures .found .short-walk)
 
--- src/settle.rt:119:9
 same-length-4 : tie.Need-same-length-4
 same-length-4 c = search needs
 
--- src/settle.rt:119:9
 same-length-5 : tie.Need-same-length-5
 same-length-5 c = search needs
 
--- src/settle.rt:119:9
 returns-4 : tie.Need-returns-4
 returns-4 c =
     let if3 = c .before .before .before .before .before .if3 in
@@ -206,31 +184,26 @@ returns-4 c =
       few = omega (arith, scan-for-rise .ensures .found .short-walk);
     }
 
--- src/settle.rt:124:5
 mul-slack-2 : tie.Need-mul-slack-2
 mul-slack-2 c =
     let pre = c .before .before .before .before .before .before .before .before .before .before .before .before .before .before .before .before .before .before .before .before .before .before .before .before .before .pre in
     omega (arith, pre .at-head .small)
 
--- src/settle.rt:124:5
 slice-write-slack-2 : tie.Need-slice-write-slack-2
 slice-write-slack-2 c =
     let pre = c .before .before .before .before .before .before .before .before .before .before .before .before .before .before .before .before .before .before .before .before .before .before .before .before .before .pre in
     omega (arith, pre .at-head .small, pre .working .slack-long)
 
--- src/settle.rt:125:5
 mul-times : tie.Need-mul-times
 mul-times c =
     let pre = c .before .before .before .before .before .before .before .before .before .before .before .before .before .before .before .before .before .before .before .before .before .before .before .before .before .pre in
     omega (arith, pre .at-head .small)
 
--- src/settle.rt:125:5
 slice-write-times : tie.Need-slice-write-times
 slice-write-times c =
     let pre = c .before .before .before .before .before .before .before .before .before .before .before .before .before .before .before .before .before .before .before .before .before .before .before .before .before .pre in
     omega (arith, pre .at-head .small, pre .working .times-long)
 
--- src/settle.rt:126:5
 put-requires : tie.Need-put-requires
 put-requires c κs =
     let scan-for-rise = c .before .before .before .before .before .before .before .before .before .scan-for-rise in
@@ -241,7 +214,6 @@ put-requires c κs =
       number = omega (arith, pre .at-head .small);
     }
 
--- src/settle.rt:127:9
 drop-listed-supporters-requires : tie.Need-drop-listed-supporters-requires
 drop-listed-supporters-requires c κs =
     let put = c .before .before .before .before .put in
@@ -266,7 +238,6 @@ drop-listed-supporters-requires c κs =
           (omega (arith, w .waits, w .behind));
     }
 
--- src/settle.rt:128:5
 move-in-histogram-requires : tie.Need-move-in-histogram-requires
 move-in-histogram-requires c κs =
     let if4 = c .before .before .before .before .before .before .before .before .before .before .before .before .if4 in
@@ -284,30 +255,25 @@ move-in-histogram-requires c κs =
     (λ e. if1 .left (pre .its-time ∙ e)) outcome (if3 .left) refl (slack-above .ensures) (if4 .left) rise-scanned
     (w .opened .sound .most) (w .counted y .in-days) (w .counted y .counts-are))
 
--- src/settle.rt:130:15
 add-t20 : tie.Need-add-t20
 add-t20 c =
     let pre = c .before .before .before .before .before .before .before .before .before .before .before .before .before .before .before .before .before .before .before .before .before .before .before .before .before .before .before .before .before .before .before .before .before .before .before .before .before .before .before .before .before .pre in
     omega (arith, pre .working .waits, pre .working .within)
 
--- src/settle.rt:132:16
 add-t21 : tie.Need-add-t21
 add-t21 c =
     let pre = c .before .before .before .before .before .before .before .before .before .before .before .before .before .before .before .before .before .before .before .before .before .before .before .before .before .before .before .before .before .before .before .before .before .before .before .before .before .before .before .before .before .before .pre in
     omega (arith, pre .working .waits, pre .working .within, pre .working .behind)
 
--- src/settle.rt:133:17
 add-t45 : tie.Need-add-t45
 add-t45 c =
     let pre = c .before .before .before .before .before .before .before .before .before .before .before .before .before .before .before .before .before .before .before .before .before .before .before .before .before .before .before .before .before .before .before .before .before .before .before .before .before .before .before .before .before .before .before .before .pre in
     let scan-for-rise = c .before .before .before .before .before .before .before .before .before .before .before .before .before .before .before .before .before .before .before .before .before .before .before .before .before .before .before .scan-for-rise in
     omega (arith, pre .working .few, scan-for-rise .ensures .found .short-walk)
 
--- src/settle.rt:59:1
 same-length-6 : tie.Need-same-length-6
 same-length-6 c = search needs
 
--- src/settle.rt:59:1
 same-length-7 : tie.Need-same-length-7
 same-length-7 c =
     let drop-listed-supporters = c .before .before .before .before .before .before .before .before .before .before .before .before .drop-listed-supporters in
@@ -315,7 +281,6 @@ same-length-7 c =
     let args = c .before .before .before .before .before .before .before .before .before .before .before .before .before .before .before .before .before .before .before .before .before .before .before .before .before .before .before .before .before .before .before .before .before .before .before .before .before .before .before .before .before .before .before .before .args in
     drop-listed-supporters .kept .0 ∙ length-set (args .slack .now) (args .scan .account) (slack-above .result)
 
--- src/settle.rt:59:1
 same-length-8 : tie.Need-same-length-8
 same-length-8 c =
     let drop-listed-supporters = c .before .before .before .before .before .before .before .before .before .before .before .before .drop-listed-supporters in
@@ -324,11 +289,9 @@ same-length-8 c =
     let pre = c .before .before .before .before .before .before .before .before .before .before .before .before .before .before .before .before .before .before .before .before .before .before .before .before .before .before .before .before .before .before .before .before .before .before .before .before .before .before .before .before .before .before .before .before .pre in
     drop-listed-supporters .kept .1 .0 ∙ (put .kept .0 ∙ (scan-for-rise .ensures .behind .long ∙ sym (pre .working .queue-long)))
 
--- src/settle.rt:59:1
 same-length-9 : tie.Need-same-length-9
 same-length-9 c = search needs
 
--- src/settle.rt:59:1
 returns-5 : tie.Need-returns-5
 returns-5 c =
     let move-in-histogram = c .before .before .before .before .before .before .move-in-histogram in

@@ -10,7 +10,6 @@ use Rattle.rings.proofs.settle.step.Lts as lts
 use Rattle.rings.proofs.settle.drop_leaving_rows.Reads as drop-leaving-rows-reads
 use Rattle.rings.proofs.settle.settle.Reads as settle-reads
 
--- src/settle.rt:490:9
 drop-leaving-rows-requires : tie.Need-drop-leaving-rows-requires
 drop-leaving-rows-requires c κs =
     let pre = c .before .before .before .before .before .before .before .before .before .before .before .pre in
@@ -25,37 +24,29 @@ drop-leaving-rows-requires c κs =
       record { order = split-rises (pre .starts) (pre .follows); within = pre .follows .within },
     )
 
--- src/settle.rt:492:9
 same-length : tie.Need-same-length
 same-length c = search needs
 
--- src/settle.rt:492:9
 same-length-2 : tie.Need-same-length-2
 same-length-2 c = search needs
 
--- src/settle.rt:492:9
 same-length-3 : tie.Need-same-length-3
 same-length-3 c = search needs
 
--- src/settle.rt:492:9
 returns : tie.Need-returns
 returns c = record { same = λ y. refl }
 
--- src/settle.rt:494:23
 sub-budget : tie.Need-sub-budget
 sub-budget c =
     let pre = c .before .before .before .before .before .before .before .before .before .before .before .before .before .before .before .before .before .pre in
     (span-after (omega (arith, pre .ordered)) (pre .follows) (pre .ends)) .ordered
 
--- src/settle.rt:494:18
 mul-budget : tie.Need-mul-budget
 mul-budget c = search needs
 
--- src/settle.rt:495:9
 add-t25 : tie.Need-add-t25
 add-t25 c = let pre = c .before .before .before .before .before .before .before .before .before .before .before .before .before .before .before .before .before .before .before .pre in omega (arith, pre .ordered, pre .in-days)
 
--- src/settle.rt:496:5
 settle-requires : tie.Need-settle-requires
 settle-requires c κs =
     let if1 = c .before .before .before .before .before .before .if1 in
@@ -74,23 +65,18 @@ settle-requires c κs =
       counted = λ y. record { in-days = pre .in-days; counts-are = pre .counted y };
     }
 
--- src/settle.rt:468:1
 same-length-4 : tie.Need-same-length-4
 same-length-4 c = search needs
 
--- src/settle.rt:468:1
 same-length-5 : tie.Need-same-length-5
 same-length-5 c = search needs
 
--- src/settle.rt:468:1
 same-length-6 : tie.Need-same-length-6
 same-length-6 c = search needs
 
--- src/settle.rt:468:1
 same-length-7 : tie.Need-same-length-7
 same-length-7 c = search needs
 
--- src/settle.rt:468:1
 returns-2 : tie.Need-returns-2
 returns-2 c =
     let settle = c .before .before .before .before .before .before .before .before .settle in

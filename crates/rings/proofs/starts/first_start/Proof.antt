@@ -12,18 +12,15 @@ use Rattle.rings.proofs.heads.move_heads.Reads as move-heads-reads
 use Rattle.rings.proofs.settle.peel_start.Reads as peel-start-reads
 use Rattle.rings.proofs.prune.prune.Reads as prune-reads
 
--- src/starts.rt:70:5
 build-adjacency-requires : tie.Need-build-adjacency-requires
 build-adjacency-requires c κs = search needs
 
--- src/starts.rt:71:5
 move-heads-requires : tie.Need-move-heads-requires
 move-heads-requires c κs =
     let build-adjacency = c .before .before .before .build-adjacency in
     let pre = c .before .before .before .before .before .before .before .before .before .before .before .before .before .pre in
     heads-on (pre .0) (build-adjacency .ensures) (pre .1 .1 .0 .starts)
 
--- src/starts.rt:72:5
 peel-start-requires : tie.Need-peel-start-requires
 peel-start-requires c κs =
     let move-heads = c .before .before .before .before .before .before .move-heads in
@@ -36,7 +33,6 @@ peel-start-requires c κs =
       queue-long = pre .1 .1 .1 .queue-long;
     }
 
--- src/starts.rt:86:5
 count-times-requires : tie.Need-count-times-requires
 count-times-requires c κs =
     let peel-start = c .before .before .before .before .before .before .before .before .peel-start in
@@ -52,7 +48,6 @@ count-times-requires c κs =
       pre .1 .1 .1 .counts-long,
     )
 
--- src/starts.rt:87:5
 prune-requires : tie.Need-prune-requires
 prune-requires c κs =
     let peel-start = c .before .before .before .before .before .before .before .before .before .before .before .before .before .peel-start in
@@ -60,7 +55,6 @@ prune-requires c κs =
     let pre = c .before .before .before .before .before .before .before .before .before .before .before .before .before .before .before .before .before .before .before .before .before .before .before .before .before .before .before .before .before .before .before .before .before .before .pre in
     record { sound = pre .0; adjacency = move-heads .ensures .adjacency; times = peel-start .ensures .times-are .long }
 
--- src/starts.rt:49:1
 same-length : tie.Need-same-length
 same-length c =
     let prune = c .before .before .prune in
@@ -68,23 +62,18 @@ same-length c =
     let build-adjacency = c .before .before .before .before .before .before .before .before .before .before .before .before .before .before .before .before .before .before .before .before .before .before .before .before .before .before .before .build-adjacency in
     prune .kept .1 .1 .1 .0 ∙ (move-heads .kept .1 .1 .1 .0 ∙ build-adjacency .kept .1 .1 .1 .0)
 
--- src/starts.rt:49:1
 same-length-2 : tie.Need-same-length-2
 same-length-2 c = search needs
 
--- src/starts.rt:49:1
 same-length-3 : tie.Need-same-length-3
 same-length-3 c = search needs
 
--- src/starts.rt:49:1
 same-length-4 : tie.Need-same-length-4
 same-length-4 c = search needs
 
--- src/starts.rt:49:1
 same-length-5 : tie.Need-same-length-5
 same-length-5 c = search needs
 
--- src/starts.rt:49:1
 returns : tie.Need-returns
 returns c =
     let prune = c .before .before .prune in

@@ -20,13 +20,11 @@ Inv-loop days first second frame next end times least₀ j₀ least j = (frame .
 abbrev μ-loop : tie.MeasureT-loop
 μ-loop days first second frame next end times least₀ j₀ least j = next - j
 
--- src/starts.rt:62:5
 loop-holds : tie.Need-loop-holds Inv-loop μ-loop
 loop-holds c =
     let pre = c .before .before .before .before .pre in
     (omega arith, split-rises (pre .1 .starts) (pre .1 .follows), least-start _ _)
 
--- src/starts.rt:63:13
 row-time-requires : tie.Need-row-time-requires Inv-loop μ-loop
 row-time-requires c κs =
     let pre = c .before .before .before .before .before .before .pre in (
@@ -38,24 +36,20 @@ row-time-requires c κs =
       omega (arith, c .loop-test .taken, pre .1 .follows .within),
     )
 
--- src/starts.rt:64:9
 lesser-requires : tie.Need-lesser-requires Inv-loop μ-loop
 lesser-requires c κs = search needs
 
--- src/starts.rt:65:9
 add-j : tie.Need-add-j Inv-loop μ-loop
 add-j c =
     let loop-test = c .before .before .loop-test in
     let pre = c .before .before .before .before .before .before .before .before .pre in
     omega (arith, loop-test .taken, pre .1 .follows .within, pre .0 .inside .0 .sound .most)
 
--- src/starts.rt:62:5
 loop-less : tie.Need-loop-less Inv-loop μ-loop
 loop-less c =
     let loop-test = c .before .before .loop-test in
     omega (arith, loop-test .taken)
 
--- src/starts.rt:62:5
 loop-again : tie.Need-loop-again Inv-loop μ-loop
 loop-again c =
     let row-time = c .before .row-time in
@@ -66,7 +60,6 @@ loop-again c =
       least-next (loop .inv .0) (loop .inv .2) (row-time .ensures) (c .lesser .ensures),
     )
 
--- src/starts.rt:43:1
 returns : tie.Need-returns Inv-loop μ-loop
 returns c =
     let loop = c .before .loop in

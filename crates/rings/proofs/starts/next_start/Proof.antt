@@ -15,7 +15,6 @@ use Rattle.rings.proofs.settle.step.Reads as step-reads
 use Rattle.rings.proofs.heads.pass_heads.Reads as pass-heads-reads
 use Rattle.rings.proofs.starts.first_start.Reads as first-start-reads
 
--- src/starts.rt:95:5
 drop-rows-requires : tie.Need-drop-rows-requires
 drop-rows-requires c κs =
     let pre = c .before .before .before .before .before .before .before .before .before .before .pre in
@@ -31,7 +30,6 @@ drop-rows-requires c κs =
       record { follows = pre .1 .0 .follows; timed = here .timed },
     )
 
--- src/starts.rt:96:5
 pass-heads-requires : tie.Need-pass-heads-requires
 pass-heads-requires c κs =
     let pre = c .before .before .before .before .before .before .before .before .before .before .before .before .before .before .pre in
@@ -43,7 +41,6 @@ pass-heads-requires c κs =
       within = pre .1 .0 .follows .within;
     }
 
--- src/starts.rt:97:9
 step-requires : tie.Need-step-requires
 step-requires c κs =
     let pass-heads = c .before .before .before .before .before .before .before .pass-heads in
@@ -67,17 +64,14 @@ step-requires c κs =
 enum-told : tie.Need-enum-told
 enum-told c = search needs
 
--- src/starts.rt:114:17
 enum-told-2 : tie.Need-enum-told-2
 enum-told-2 c = search needs
 
--- src/starts.rt:114:17
 next-frame-requires : tie.Need-next-frame-requires
 next-frame-requires c κs =
     let pre = c .before .before .before .before .before .before .before .before .before .before .before .before .before .before .before .before .before .before .before .before .before .before .before .before .before .before .before .before .before .before .before .before .before .pre in
     omega (arith, pre .1 .0 .ordered, pre .1 .0 .in-days)
 
--- src/starts.rt:115:13
 first-start-requires : tie.Need-first-start-requires
 first-start-requires c κs =
     let next = c .before .before .before .before .before .next-frame in
@@ -108,27 +102,21 @@ first-start-requires c κs =
       ),
     )
 
--- src/starts.rt:75:1
 same-length : tie.Need-same-length
 same-length c = search needs
 
--- src/starts.rt:75:1
 same-length-2 : tie.Need-same-length-2
 same-length-2 c = search needs
 
--- src/starts.rt:75:1
 same-length-3 : tie.Need-same-length-3
 same-length-3 c = search needs
 
--- src/starts.rt:75:1
 same-length-4 : tie.Need-same-length-4
 same-length-4 c = search needs
 
--- src/starts.rt:75:1
 same-length-5 : tie.Need-same-length-5
 same-length-5 c = search needs
 
--- src/starts.rt:75:1
 returns : tie.Need-returns
 returns c =
     let enum-told = c .enum-told in
@@ -148,26 +136,21 @@ returns c =
       };
     }
 
--- src/starts.rt:75:1
 same-length-6 : tie.Need-same-length-6
 same-length-6 c =
     let first-start = c .before .before .before .before .before .before .before .before .before .before .first-start in
     let pass-heads = c .before .before .before .before .before .before .before .before .before .before .before .before .before .before .before .before .before .before .before .before .before .before .before .before .before .before .before .before .before .before .before .before .before .before .before .pass-heads in
     first-start .kept .1 .1 .1 .0 ∙ pass-heads .kept .1 .1 .1 .0
 
--- src/starts.rt:75:1
 same-length-7 : tie.Need-same-length-7
 same-length-7 c = search needs
 
--- src/starts.rt:75:1
 same-length-8 : tie.Need-same-length-8
 same-length-8 c = search needs
 
--- src/starts.rt:75:1
 same-length-9 : tie.Need-same-length-9
 same-length-9 c = search needs
 
--- src/starts.rt:75:1
 same-length-10 : tie.Need-same-length-10
 same-length-10 c =
     let first-start = c .before .before .before .before .before .before .before .before .before .before .first-start in
@@ -175,7 +158,6 @@ same-length-10 c =
     let drop-rows = c .before .before .before .before .before .before .before .before .before .before .before .before .before .before .before .before .before .before .before .before .before .before .before .before .before .before .before .before .before .before .before .before .before .before .before .before .before .before .before .drop-rows in
     first-start .kept .1 .1 .1 .1 .1 .1 .1 .1 .1 .0 ∙ (step .kept .1 .1 .1 .1 .1 .1 .1 .1 .1 .1 .1 .0 ∙ drop-rows .kept .1 .1 .1 .1 .1 .1 .1 .0)
 
--- src/starts.rt:75:1
 returns-2 : tie.Need-returns-2
 returns-2 c =
     let first-start = c .before .before .before .before .before .before .before .before .before .before .first-start in

@@ -5,15 +5,12 @@ use Rattle.rings.proofs.starts.prepare.Reads as reads
 use Rattle.rings.proofs.starts.prepare.Lts as lts
 use Rattle.rings.proofs.pairs.pair_rows.Reads as pair-rows-reads
 
--- src/starts.rt:30:5
 pair-rows-requires : tie.Need-pair-rows-requires
 pair-rows-requires c κs = search needs
 
--- src/starts.rt:25:1
 same-length : tie.Need-same-length
 same-length c = search needs
 
--- src/starts.rt:25:1
 returns : tie.Need-returns
 returns c = record { inside = search needs }
 

@@ -16,13 +16,11 @@ Inv-loop slack₀ queue₀ tail upto end₀ p₀ slack queue end p = (tail ≤ p
 abbrev μ-loop : tie.MeasureT-loop
 μ-loop slack₀ queue₀ tail upto end₀ p₀ slack queue end p = upto - p
 
--- src/supporters.rt:51:5
 loop-holds : tie.Need-loop-holds Inv-loop μ-loop
 loop-holds c =
     let pre = c .before .before .pre in
     (le-refl _, pre .order, dropping-listed-start _ _ _ (pre .slack-long) (pre .queue-long))
 
--- src/supporters.rt:52:13
 entry-requires : tie.Need-entry-requires Inv-loop μ-loop
 entry-requires c κs =
     let loop-test = c .before .loop-test in
@@ -30,7 +28,6 @@ entry-requires c κs =
     let pre = c .before .before .before .before .before .pre in
     omega (arith, loop-test .taken, pre .within, loop .inv .2 .queued .long)
 
--- src/supporters.rt:53:9
 drop-supporter-requires : tie.Need-drop-supporter-requires Inv-loop μ-loop
 drop-supporter-requires c κs =
     let entry = c .before .before .entry in
@@ -44,20 +41,17 @@ drop-supporter-requires c κs =
       room = omega (arith, loop .inv .2 .behind, loop-test .taken, pre .within);
     }
 
--- src/supporters.rt:54:9
 add-p : tie.Need-add-p Inv-loop μ-loop
 add-p c =
     let loop-test = c .before .before .before .before .before .before .before .before .before .loop-test in
     let pre = c .before .before .before .before .before .before .before .before .before .before .before .before .before .pre in
     omega (arith, loop-test .taken, pre .within)
 
--- src/supporters.rt:51:5
 loop-less : tie.Need-loop-less Inv-loop μ-loop
 loop-less c =
     let loop-test = c .before .before .before .before .before .before .before .before .before .loop-test in
     omega (arith, loop-test .taken)
 
--- src/supporters.rt:51:5
 loop-again : tie.Need-loop-again Inv-loop μ-loop
 loop-again c =
     let drop-supporter = c .before .before .before .before .drop-supporter in
@@ -72,21 +66,18 @@ loop-again c =
           (drop-supporter .ensures),
     )
 
--- src/supporters.rt:45:1
 same-length : tie.Need-same-length Inv-loop μ-loop
 same-length c =
     let loop = c .before .loop in
     let pre = c .before .before .before .before .pre in
     loop .inv .2 .fewer .long ∙ sym (pre .slack-long)
 
--- src/supporters.rt:45:1
 same-length-2 : tie.Need-same-length-2 Inv-loop μ-loop
 same-length-2 c =
     let loop = c .before .loop in
     let pre = c .before .before .before .before .pre in
     loop .inv .2 .queued .long ∙ sym (pre .queue-long)
 
--- src/supporters.rt:45:1
 returns : tie.Need-returns Inv-loop μ-loop
 returns c =
     let loop = c .before .loop in

@@ -15,43 +15,33 @@ Inv-loop days first second before₀ j₀ before j = Passed days first second be
 abbrev μ-loop : tie.MeasureT-loop
 μ-loop days first second before₀ j₀ before j = length days - j
 
--- src/table.rt:41:5
 loop-holds : tie.Need-loop-holds Inv-loop μ-loop
 loop-holds c = pass-start _ _ _
 
--- src/table.rt:42:19
 mul-day : tie.Need-mul-day Inv-loop μ-loop
 mul-day c = search needs
 
--- src/table.rt:42:19
 shared-slice-read-day : tie.Need-shared-slice-read-day Inv-loop μ-loop
 shared-slice-read-day c = search needs
 
--- src/table.rt:43:47
 mul-check-row : tie.Need-mul-check-row Inv-loop μ-loop
 mul-check-row c = search needs
 
--- src/table.rt:43:47
 shared-slice-read-check-row : tie.Need-shared-slice-read-check-row Inv-loop μ-loop
 shared-slice-read-check-row c = search needs
 
--- src/table.rt:43:57
 mul-check-row-2 : tie.Need-mul-check-row-2 Inv-loop μ-loop
 mul-check-row-2 c = search needs
 
--- src/table.rt:43:57
 shared-slice-read-check-row-2 : tie.Need-shared-slice-read-check-row-2 Inv-loop μ-loop
 shared-slice-read-check-row-2 c = search needs
 
--- src/table.rt:43:13
 check-row-requires : tie.Need-check-row-requires Inv-loop μ-loop
 check-row-requires c κs = search needs
 
--- src/table.rt:45:30
 enum-known-found : tie.Need-enum-known-found Inv-loop μ-loop
 enum-known-found c = search needs
 
--- src/table.rt:46:17
 returns : tie.Need-returns Inv-loop μ-loop
 returns c =
     let found = c .before .found in
@@ -60,19 +50,15 @@ returns c =
     let loop = c .before .before .before .before .before .before .before .before .loop in
     pass-refused _ _ _ _ _ _ (loop .inv) (loop-test .taken) (sym (found .given .1) ∙ check-row .ensures)
 
--- src/table.rt:49:17
 enum-told : tie.Need-enum-told Inv-loop μ-loop
 enum-told c = search needs
 
--- src/table.rt:50:17
 add-j : tie.Need-add-j Inv-loop μ-loop
 add-j c = search needs
 
--- src/table.rt:41:5
 loop-less : tie.Need-loop-less Inv-loop μ-loop
 loop-less c = search needs
 
--- src/table.rt:41:5
 loop-again : tie.Need-loop-again Inv-loop μ-loop
 loop-again c =
     let check-row = c .before .before .check-row in
@@ -80,7 +66,6 @@ loop-again c =
     let loop = c .before .before .before .before .before .before .before .loop in
     pass-next _ _ _ _ _ (loop .inv) (loop-test .taken) (sym (c .enum-told .given .1) ∙ check-row .ensures)
 
--- src/table.rt:35:1
 returns-2 : tie.Need-returns-2 Inv-loop μ-loop
 returns-2 c =
     let loop = c .before .loop in

@@ -9,19 +9,16 @@ use Rattle.rings.proofs.table.check_table.Reads as reads
 use Rattle.rings.proofs.table.check_table.Lts as lts
 use Rattle.rings.proofs.table.check_rows.Reads as check-rows-reads
 
--- src/table.rt:61:9
 returns : tie.Need-returns
 unfolding tableCheck _when_ _then_ _and_ no
 returns c = simp (ne-eqb _ _ (c .if1 .taken))
 
--- src/table.rt:64:9
 returns-2 : tie.Need-returns-2
 unfolding tableCheck _when_ _then_ _and_ no
 returns-2 c =
     let if1 = c .before .if1 in
     simp (eq-eqb _ _ (if1 .left), ne-eqb _ _ (c .if2 .taken))
 
--- src/table.rt:67:9
 returns-3 : tie.Need-returns-3
 unfolding tableCheck _when_ _then_ _and_ no
 returns-3 c =
@@ -29,11 +26,9 @@ returns-3 c =
     let if1 = c .before .before .if1 in
     simp (eq-eqb _ _ (if1 .left), eq-eqb _ _ (if2 .left), lt-ltb _ _ (c .if3 .taken))
 
--- src/table.rt:69:5
 check-rows-requires : tie.Need-check-rows-requires
 check-rows-requires c κs = search needs
 
--- src/table.rt:57:1
 returns-4 : tie.Need-returns-4
 unfolding tableCheck _when_ _then_ _and_ no
 returns-4 c =

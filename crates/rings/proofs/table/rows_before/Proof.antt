@@ -13,40 +13,32 @@ Inv-loop days day low₀ high₀ low high = BinarySearch days day low high
 abbrev μ-loop : tie.MeasureT-loop
 μ-loop days day low₀ high₀ low high = high - low
 
--- src/table.rt:80:5
 loop-holds : tie.Need-loop-holds Inv-loop μ-loop
 loop-holds c = binary-start _ _
 
--- src/table.rt:81:29
 sub-middle : tie.Need-sub-middle Inv-loop μ-loop
 sub-middle c = omega (arith, c .loop-test .taken)
 
--- src/table.rt:81:22
 add-middle : tie.Need-add-middle Inv-loop μ-loop
 add-middle c = search needs
 
--- src/table.rt:82:12
 mul-if1 : tie.Need-mul-if1 Inv-loop μ-loop
 mul-if1 c = search needs
 
--- src/table.rt:82:12
 shared-slice-read-if1 : tie.Need-shared-slice-read-if1 Inv-loop μ-loop
 shared-slice-read-if1 c =
     let loop-test = c .before .loop-test in
     let loop = c .before .before .loop in
     omega (arith, loop-test .taken, loop .inv .within)
 
--- src/table.rt:83:19
 add-low : tie.Need-add-low Inv-loop μ-loop
 add-low c = search needs
 
--- src/table.rt:80:5
 loop-less : tie.Need-loop-less Inv-loop μ-loop
 loop-less c =
     let loop-test = c .before .before .loop-test in
     omega (arith, loop-test .taken)
 
--- src/table.rt:80:5
 loop-again : tie.Need-loop-again Inv-loop μ-loop
 loop-again c =
     let loop-test = c .before .before .loop-test in
@@ -54,13 +46,11 @@ loop-again c =
     let pre = c .before .before .before .before .pre in
     binary-up (pre) (loop .inv) (omega (arith, loop-test .taken)) (omega (arith, loop-test .taken)) (c .if1 .taken)
 
--- src/table.rt:80:5
 loop-less-2 : tie.Need-loop-less-2 Inv-loop μ-loop
 loop-less-2 c =
     let loop-test = c .before .before .loop-test in
     omega (arith, loop-test .taken)
 
--- src/table.rt:80:5
 loop-again-2 : tie.Need-loop-again-2 Inv-loop μ-loop
 loop-again-2 c =
     let loop-test = c .before .before .loop-test in
@@ -68,7 +58,6 @@ loop-again-2 c =
     let pre = c .before .before .before .before .pre in
     binary-down (pre) (loop .inv) (omega (arith, loop-test .taken)) (omega (arith, loop-test .taken)) (c .if1 .left)
 
--- src/table.rt:74:1
 returns : tie.Need-returns Inv-loop μ-loop
 returns c =
     let loop = c .before .loop in

@@ -14,45 +14,37 @@ Inv-loop days s lo r₀ r = LinearSearch days (s + 1) r
 abbrev μ-loop : tie.MeasureT-loop
 μ-loop days s lo r₀ r = length days - r
 
--- src/table.rt:95:5
 loop-holds : tie.Need-loop-holds Inv-loop μ-loop
 loop-holds c = linear-on (c .pre .1)
 
--- src/table.rt:96:16
 mul-if1 : tie.Need-mul-if1 Inv-loop μ-loop
 mul-if1 c = search needs
 
--- src/table.rt:96:16
 shared-slice-read-if1 : tie.Need-shared-slice-read-if1 Inv-loop μ-loop
 shared-slice-read-if1 c =
     let loop-test = c .before .loop-test in
     loop-test .taken
 
--- src/table.rt:97:13
 returns : tie.Need-returns Inv-loop μ-loop
 returns c =
     let loop = c .before .before .before .loop in
     let pre = c .before .before .before .before .pre in
     linear-found (pre .0) (loop .inv) (omega (arith, c .if1 .taken))
 
--- src/table.rt:99:9
 add-r : tie.Need-add-r Inv-loop μ-loop
 add-r c = search needs
 
--- src/table.rt:95:5
 loop-less : tie.Need-loop-less Inv-loop μ-loop
 loop-less c =
     let loop-test = c .before .before .loop-test in
     omega (arith, loop-test .taken)
 
--- src/table.rt:95:5
 loop-again : tie.Need-loop-again Inv-loop μ-loop
 loop-again c =
     let loop-test = c .before .before .loop-test in
     let loop = c .before .before .before .loop in
     linear-next (loop .inv) (loop-test .taken) (omega (arith, c .if1 .left))
 
--- src/table.rt:89:1
 returns-2 : tie.Need-returns-2 Inv-loop μ-loop
 returns-2 c =
     let loop = c .before .loop in

@@ -12,27 +12,21 @@ use Rattle.rings.proofs.checks.check_call.Reads as check-call-reads
 use Rattle.rings.proofs.checks.is_start.Reads as is-start-reads
 use Rattle.rings.proofs.times.find_times.Reads as find-times-reads
 
--- src/times.rt:87:9
 is-start-requires : tie.Need-is-start-requires
 is-start-requires c κs = search needs
 
--- src/times.rt:88:9
 are-equal-requires : tie.Need-are-equal-requires
 are-equal-requires c κs = search needs
 
--- src/times.rt:89:9
 check-call-requires : tie.Need-check-call-requires
 check-call-requires c κs = search needs
 
--- src/times.rt:91:26
 enum-known-found : tie.Need-enum-known-found
 enum-known-found c = search needs
 
--- src/times.rt:93:17
 enum-told : tie.Need-enum-told
 enum-told c = search needs
 
--- src/times.rt:94:13
 find-times-requires : tie.Need-find-times-requires
 find-times-requires c κs =
     let enum-told = c .before .before .before .enum-told in
@@ -53,7 +47,6 @@ find-times-requires c κs =
       ),
     )
 
--- src/times.rt:81:1
 returns : tie.Need-returns
 returns c =
     let found = c .before .found in
@@ -65,19 +58,15 @@ returns c =
     times-refused _ _ _ _ _ (args .accounts .now) (args .rows .now) (args .scratch .now) (is-start .ensures)
     (are-equal .ensures) (sym (check-call .ensures) ∙ found .given .1)
 
--- src/times.rt:81:1
 same-length : tie.Need-same-length
 same-length c = search needs
 
--- src/times.rt:81:1
 same-length-2 : tie.Need-same-length-2
 same-length-2 c = search needs
 
--- src/times.rt:81:1
 same-length-3 : tie.Need-same-length-3
 same-length-3 c = search needs
 
--- src/times.rt:81:1
 returns-2 : tie.Need-returns-2
 returns-2 c =
     let find-times = c .before .before .before .before .before .before .find-times in

@@ -16,23 +16,18 @@ use Rattle.rings.proofs.peel.peel.Reads as peel-reads
 use Rattle.rings.proofs.table.rows_before.Reads as rows-before-reads
 use Rattle.rings.proofs.times.time_rows.Reads as time-rows-reads
 
--- src/times.rt:114:9
 rows-before-requires : tie.Need-rows-before-requires
 rows-before-requires c κs = search needs
 
--- src/times.rt:115:33
 add-rows-before : tie.Need-add-rows-before
 add-rows-before c = search needs
 
--- src/times.rt:115:9
 rows-before-requires-2 : tie.Need-rows-before-requires-2
 rows-before-requires-2 c κs = search needs
 
--- src/times.rt:118:5
 prepare-adjacency-requires : tie.Need-prepare-adjacency-requires
 prepare-adjacency-requires c κs = search needs
 
--- src/times.rt:119:5
 move-heads-requires : tie.Need-move-heads-requires
 move-heads-requires c κs =
     let prepare-adjacency = c .before .before .before .prepare-adjacency in
@@ -42,15 +37,12 @@ move-heads-requires c κs =
     .before .pre in
     heads-on (pre .0) (prepare-adjacency .ensures) (rows-before .ensures)
 
--- src/times.rt:131:9
 slice-aggregate-peel : tie.Need-slice-aggregate-peel
 slice-aggregate-peel c = search needs
 
--- src/times.rt:132:9
 slice-aggregate-peel-2 : tie.Need-slice-aggregate-peel-2
 slice-aggregate-peel-2 c = search needs
 
--- src/times.rt:120:5
 peel-requires : tie.Need-peel-requires
 peel-requires c κs =
     let move-heads = c .before .before .before .before .before .before .move-heads in
@@ -73,7 +65,6 @@ peel-requires c κs =
       ),
     )
 
--- src/times.rt:134:5
 time-rows-requires : tie.Need-time-rows-requires
 time-rows-requires c κs =
     let peel = c .before .before .before .before .before .before .peel in
@@ -98,23 +89,18 @@ time-rows-requires c κs =
       buffers .rows,
     )
 
--- src/times.rt:146:5
 clear-requires : tie.Need-clear-requires
 clear-requires c κs = search needs
 
--- src/times.rt:99:1
 same-length : tie.Need-same-length
 same-length c = search needs
 
--- src/times.rt:99:1
 same-length-2 : tie.Need-same-length-2
 same-length-2 c = search needs
 
--- src/times.rt:99:1
 same-length-3 : tie.Need-same-length-3
 same-length-3 c = search needs
 
--- src/times.rt:99:1
 returns : tie.Need-returns
 returns c =
     let clear = c .before .before .clear in

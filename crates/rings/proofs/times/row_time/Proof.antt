@@ -8,7 +8,6 @@ use Rattle.rings.proofs.times.row_time.Lts as lts
 use Rattle.rings.proofs.slices.entry.Reads as entry-reads
 use Rattle.rings.proofs.choice.greater.Reads as greater-reads
 
--- src/times.rt:51:9
 returns : tie.Need-returns
 returns c =
     let pre = c .before .before .before .before .before .before .pre in
@@ -16,7 +15,6 @@ returns c =
     let below = pre .1 in
     row-early _ _ _ _ known below (c .if1 .taken)
 
--- src/times.rt:54:9
 returns-2 : tie.Need-returns-2
 returns-2 c =
     let pre = c .before .before .before .before .before .before .before .pre in
@@ -24,15 +22,12 @@ returns-2 c =
     let below = pre .1 in
     row-late _ _ _ _ known below (c .if2 .taken)
 
--- src/times.rt:56:9
 entry-requires : tie.Need-entry-requires
 entry-requires c κs = search needs
 
--- src/times.rt:57:9
 entry-requires-2 : tie.Need-entry-requires-2
 entry-requires-2 c κs = search needs
 
--- src/times.rt:58:21
 mul-greater : tie.Need-mul-greater
 mul-greater c =
     let entry = c .before .entry in
@@ -44,7 +39,6 @@ mul-greater c =
       row-reads _ _ _ _ known below (entry .ensures) (c .entry2 .ensures),
     )
 
--- src/times.rt:58:21
 shared-slice-read-greater : tie.Need-shared-slice-read-greater
 shared-slice-read-greater c =
     let entry2 = c .before .entry2 in
@@ -54,7 +48,6 @@ shared-slice-read-greater c =
     let below = pre .1 in
     row-reads _ _ _ _ known below (entry .ensures) (entry2 .ensures) .2
 
--- src/times.rt:58:31
 mul-greater-2 : tie.Need-mul-greater-2
 mul-greater-2 c =
     let entry2 = c .before .entry2 in
@@ -65,7 +58,6 @@ mul-greater-2 c =
     omega
     (arith, row-reads _ _ _ _ known below (entry .ensures) (entry2 .ensures))
 
--- src/times.rt:58:31
 shared-slice-read-greater-2 : tie.Need-shared-slice-read-greater-2
 shared-slice-read-greater-2 c =
     let entry2 = c .before .before .entry2 in
@@ -75,23 +67,18 @@ shared-slice-read-greater-2 c =
     let below = pre .1 in
     row-reads _ _ _ _ known below (entry .ensures) (entry2 .ensures) .3
 
--- src/times.rt:58:13
 greater-requires : tie.Need-greater-requires
 greater-requires c κs = search needs
 
--- src/times.rt:58:42
 mul-greater-3 : tie.Need-mul-greater-3
 mul-greater-3 c = search needs
 
--- src/times.rt:58:42
 shared-slice-read-greater-3 : tie.Need-shared-slice-read-greater-3
 shared-slice-read-greater-3 c = search needs
 
--- src/times.rt:58:5
 greater-requires-2 : tie.Need-greater-requires-2
 greater-requires-2 c κs = search needs
 
--- src/times.rt:32:1
 returns-3 : tie.Need-returns-3
 returns-3 c =
     let greater = c .before .before .greater in

@@ -19,18 +19,15 @@ Inv-loop days first second frame end times rows₀ j₀ rows j =
 abbrev μ-loop : tie.MeasureT-loop
 μ-loop days first second frame end times rows₀ j₀ rows j = length days - j
 
--- src/times.rt:81:5
 loop-holds : tie.Need-loop-holds Inv-loop μ-loop
 loop-holds c = (omega arith, fill-start _ _)
 
--- src/times.rt:82:19
 row-time-requires : tie.Need-row-time-requires Inv-loop μ-loop
 row-time-requires c κs =
     let pre = c .before .before .before .before .before .before .before .pre in
     let known = pre .0 in
     (known, c .loop-test .taken)
 
--- src/times.rt:82:9
 mul-rows : tie.Need-mul-rows Inv-loop μ-loop
 mul-rows c =
     let loop-test = c .before .loop-test in
@@ -38,7 +35,6 @@ mul-rows c =
     let known = pre .0 in
     omega (arith, loop-test .taken, known .framed .sound .most)
 
--- src/times.rt:82:9
 slice-write-rows : tie.Need-slice-write-rows Inv-loop μ-loop
 slice-write-rows c =
     let loop-test = c .before .loop-test in
@@ -47,7 +43,6 @@ slice-write-rows c =
     let long = pre .1 in
     omega (arith, loop-test .taken, long, loop .inv .1 .long)
 
--- src/times.rt:94:9
 add-j : tie.Need-add-j Inv-loop μ-loop
 add-j c =
     let loop-test = c .before .loop-test in
@@ -55,13 +50,11 @@ add-j c =
     let known = pre .0 in
     omega (arith, loop-test .taken, known .framed .sound .most)
 
--- src/times.rt:81:5
 loop-less : tie.Need-loop-less Inv-loop μ-loop
 loop-less c =
     let loop-test = c .before .loop-test in
     omega (arith, loop-test .taken)
 
--- src/times.rt:81:5
 loop-again : tie.Need-loop-again Inv-loop μ-loop
 loop-again c =
     let loop-test = c .before .loop-test in
@@ -73,13 +66,11 @@ loop-again c =
           (c .row-time .ensures),
     )
 
--- src/times.rt:62:1
 same-length : tie.Need-same-length Inv-loop μ-loop
 same-length c =
     let loop = c .before .loop in
     loop .inv .1 .long
 
--- src/times.rt:62:1
 returns : tie.Need-returns Inv-loop μ-loop
 returns c =
     let loop = c .before .loop in

@@ -9,67 +9,53 @@ use Rattle.text.proofs.report.report_table.Reads as reads
 use Rattle.text.proofs.report.report_table.Lts as lts
 use Rattle.text.proofs.report.refused.Reads as refused-reads
 
--- src/report.rt:37:25
 enum-known-read : tie.Need-enum-known-read
 enum-known-read c = search needs
 
--- src/report.rt:42:31
 enum-known-read-2 : tie.Need-enum-known-read-2
 enum-known-read-2 c = search needs
 
--- src/report.rt:42:40
 refused-requires : tie.Need-refused-requires
 refused-requires c κs = search needs
 
--- src/report.rt:43:32
 enum-known-read-3 : tie.Need-enum-known-read-3
 enum-known-read-3 c = search needs
 
--- src/report.rt:43:41
 refused-requires-2 : tie.Need-refused-requires-2
 refused-requires-2 c κs = search needs
 
--- src/report.rt:44:32
 enum-known-read-4 : tie.Need-enum-known-read-4
 enum-known-read-4 c = search needs
 
--- src/report.rt:44:41
 refused-requires-3 : tie.Need-refused-requires-3
 refused-requires-3 c κs = search needs
 
--- src/report.rt:45:28
 enum-told : tie.Need-enum-told
 enum-told c = search needs
 
--- src/report.rt:45:28
 refused-requires-4 : tie.Need-refused-requires-4
 refused-requires-4 c κs = search needs
 
--- src/report.rt:33:1
 returns : tie.Need-returns
 returns c =
     let read = c .before .read in
     ap tableReport (sym ((read) .given .1))
 
--- src/report.rt:33:1
 returns-2 : tie.Need-returns-2
 returns-2 c =
     let read2 = c .before .before .read2 in
     (c .refused) .ensures ∙ ap tableReport (sym ((read2) .given .1))
 
--- src/report.rt:33:1
 returns-3 : tie.Need-returns-3
 returns-3 c =
     let read3 = c .before .before .read3 in
     (c .refused2) .ensures ∙ ap tableReport (sym ((read3) .given .1))
 
--- src/report.rt:33:1
 returns-4 : tie.Need-returns-4
 returns-4 c =
     let read4 = c .before .before .read4 in
     (c .refused3) .ensures ∙ ap tableReport (sym ((read4) .given .1))
 
--- src/report.rt:33:1
 returns-5 : tie.Need-returns-5
 returns-5 c =
     let enum-told = c .before .enum-told in
