@@ -16,7 +16,7 @@ use Rattle.rings.specs.Table.{Table, tableOf}
 use Rattle.rings.specs.CoreTimes.{never}
 use Rattle.rings.specs.Inner.Adjacency.{otherOf, Reading, Every}
 use Rattle.rings.specs.Inner.Incident.{RowRead}
-use Rattle.rings.specs.Ring.{touches, query}
+use Rattle.rings.specs.Ring.{touches}
 use Rattle.rings.specs.Inner.Peeling.{ReadyPruned, estimate}
 use Rattle.rings.specs.declared.frame.Frame.{Frame}
 use Rattle.rings.specs.declared.incident.Incident.{Incident}

@@ -23,7 +23,6 @@ use borrow.Author.Tests.{eq-eqb, ne-eqb, leb-true, leb-false}
 use Rattle.rings.specs.Words.{count}
 use Rattle.rings.specs.Table.{Table, tableOf, dayOf, firstOf, secondOf}
 use Rattle.rings.specs.CoreTimes.{never, accountTime, rowTime}
-use Rattle.rings.specs.Ring.{query}
 use Rattle.rings.specs.Inner.Adjacency.{openDay, opensBy}
 use Rattle.rings.specs.Inner.Peeling.{Setting, frameOf, estimate, CoreTimesAre}
 use Rattle.rings.specs.Inner.Counting.{timeBy, IsTime, Histogram, WhereCounted, pendingOn, PendingHistogram, Adding, Removing, Taking, Moving, RoomOn, HasOne, AddAsks, RemoveAsks, MoveAsks}
@@ -52,21 +51,21 @@ module _ (t : Table) (x : ℕ → ℕ) (s hi j : ℕ) where
       ⊎-elim (λ y. let w = opens-e t s hi j y in let a = w .from in let b = w .to in let c = open-own t s j in ⊎-elim (λ h. absurd (omega arith)) (λ h. absurd (omega arith)) o) by-shut (true-or-false (opensBy t s hi j))
 
 -- where the times of the accounts are core times, so are those of the rows
-pub by-core : (d f g : List ℕ) (k s te lo : ℕ) → Setting (tableOf d f g) (query k) s te lo → {xs : List ℕ} → CoreTimesAre d f g (frameOf k s te lo) xs → (j : ℕ) → j < length d → timeBy (tableOf d f g) (estimate xs) s te j ≡ rowTime (tableOf d f g) (query k) te s j
-by-core d f g k s te lo S {xs} C j l =
-    ⊎-elim (λ y. inside (opens-e t s te j y)) (λ y. by-shut t (estimate xs) s te j y ∙ sym (row-shut t (query k) te s j (opens-not t s te j y))) (true-or-false (opensBy t s te j))
+pub by-core : (d f g : List ℕ) (q : Query) (s te lo : ℕ) → Setting (tableOf d f g) q s te lo → {xs : List ℕ} → CoreTimesAre d f g (frameOf q s te lo) xs → (j : ℕ) → j < length d → timeBy (tableOf d f g) (estimate xs) s te j ≡ rowTime (tableOf d f g) q te s j
+by-core d f g q s te lo S {xs} C j l =
+    ⊎-elim (λ y. inside (opens-e t s te j y)) (λ y. by-shut t (estimate xs) s te j y ∙ sym (row-shut t q te s j (opens-not t s te j y))) (true-or-false (opensBy t s te j))
   where
     t : Table
     t = tableOf d f g
 
-    at : (u : ℕ) → u < 4096 → estimate xs u ≡ accountTime t (query k) te s u
+    at : (u : ℕ) → u < 4096 → estimate xs u ≡ accountTime t q te s u
     at u h = estimate-at xs u (C .long) h ∙ C .times u h
 
-    inside : Opens t s te j → timeBy t (estimate xs) s te j ≡ rowTime t (query k) te s j
+    inside : Opens t s te j → timeBy t (estimate xs) s te j ≡ rowTime t q te s j
     inside o =
         let x = S .accounts j l in let y = S .small j l in
         let m = at (firstOf t j) (omega arith) in let n = at (secondOf t j) y in
-        by-in t (estimate xs) s te j o ∙ ((let e : max (max (estimate xs (firstOf t j)) (estimate xs (secondOf t j))) (openDay t s j) ≡ max (max (accountTime t (query k) te s (firstOf t j)) (accountTime t (query k) te s (secondOf t j))) (openDay t s j) = omega arith in e) ∙ sym (row-opens t (query k) te s (S .fits) j l o))
+        by-in t (estimate xs) s te j o ∙ ((let e : max (max (estimate xs (firstOf t j)) (estimate xs (secondOf t j))) (openDay t s j) ≡ max (max (accountTime t q te s (firstOf t j)) (accountTime t q te s (secondOf t j))) (openDay t s j) = omega arith in e) ∙ sym (row-opens t q te s (S .fits) j l o))
 
 -- the day on which the window begins matters only to rows before it
 pub by-later : (t : Table) (x : ℕ → ℕ) (s hi j : ℕ) → s + 1 ≤ dayOf t j → timeBy t x (s + 1) hi j ≡ timeBy t x s hi j

@@ -20,9 +20,9 @@ use Rattle.rings.specs.Words.{at}
 use Rattle.rings.specs.Table.{Table, tableOf, dayOf, firstOf, secondOf, Split}
 use Rattle.rings.specs.Sound.{NeverFall, Sound}
 use Rattle.rings.specs.Inner.Adjacency.{Adjacency, Paired, PrunedAdjacency, HeadsAt}
-use Rattle.rings.specs.Ring.{query}
 use Rattle.rings.specs.Inner.Peeling.{Setting, Ready, Framed, ReadyPairs, ReadyPruned, frameOf, Span}
 use Rattle.rings.specs.declared.frame.Frame.{Frame}
+use Rattle.rings.specs.declared.Query.{Query}
 use Rattle.rings.proofs.WordLaws.{true-or-false}
 
 pub record LinearSearch (d : List ℕ) (day r : ℕ) : Type 0 where
@@ -87,7 +87,7 @@ heads-on {d} S L N = record { sound = S; adjacency = L; ordered = omega arith; f
 pub span-of : {d : List ℕ} {s e lo end : ℕ} → s ≤ e → Split d s lo → Split d (e + 1) end → Span d e lo end
 span-of h a b = span-after (omega arith) a b
 
-pub setting-of : {d f s : List ℕ} {k start stop lo : ℕ} → Sound d f s → 1 ≤ k → stop ≤ 1024 → Split d start lo → Setting (tableOf d f s) (query k) start stop lo
+pub setting-of : {d f s : List ℕ} {q : Query} {start stop lo : ℕ} → Sound d f s → 1 ≤ q .k → stop ≤ 1024 → Split d start lo → Setting (tableOf d f s) q start stop lo
 unfolding dayOf firstOf secondOf at
 setting-of {d} S one top a =
     record {
@@ -100,16 +100,16 @@ setting-of {d} S one top a =
       small = λ j l. let x = S .rows j l .account-to in omega arith;
     }
 
-pub ready-of : {d f s scratch : List ℕ} {k start stop lo : ℕ} → Sound d f s → Adjacency (tableOf d f s) start scratch → 1 ≤ k → stop ≤ 1024 → Split d start lo → Ready d f s scratch (frameOf k start stop lo)
+pub ready-of : {d f s scratch : List ℕ} {q : Query} {start stop lo : ℕ} → Sound d f s → Adjacency (tableOf d f s) start scratch → 1 ≤ q .k → stop ≤ 1024 → Split d start lo → Ready d f s scratch (frameOf q start stop lo)
 ready-of S L one top a = record { sound = S; adjacency = L; setting = setting-of S one top a }
 
-pub framed-of : {d f s : List ℕ} {k start stop lo : ℕ} → Sound d f s → 1 ≤ k → stop ≤ 1024 → Split d start lo → Framed d f s (frameOf k start stop lo)
+pub framed-of : {d f s : List ℕ} {q : Query} {start stop lo : ℕ} → Sound d f s → 1 ≤ q .k → stop ≤ 1024 → Split d start lo → Framed d f s (frameOf q start stop lo)
 framed-of S one top a = record { sound = S; setting = setting-of S one top a }
 
-pub ready-pairs-of : {d f s scratch : List ℕ} {k start stop lo : ℕ} → Sound d f s → Paired (tableOf d f s) scratch → 1 ≤ k → stop ≤ 1024 → Split d start lo → ReadyPairs d f s scratch (frameOf k start stop lo)
+pub ready-pairs-of : {d f s scratch : List ℕ} {q : Query} {start stop lo : ℕ} → Sound d f s → Paired (tableOf d f s) scratch → 1 ≤ q .k → stop ≤ 1024 → Split d start lo → ReadyPairs d f s scratch (frameOf q start stop lo)
 ready-pairs-of S P one top a = record { sound = S; paired = P; setting = setting-of S one top a }
 
-pub ready-pruned-of : {d f s scratch : List ℕ} {k start stop lo : ℕ} → Sound d f s → PrunedAdjacency (tableOf d f s) scratch → 1 ≤ k → stop ≤ 1024 → Split d start lo → ReadyPruned d f s scratch (frameOf k start stop lo)
+pub ready-pruned-of : {d f s scratch : List ℕ} {q : Query} {start stop lo : ℕ} → Sound d f s → PrunedAdjacency (tableOf d f s) scratch → 1 ≤ q .k → stop ≤ 1024 → Split d start lo → ReadyPruned d f s scratch (frameOf q start stop lo)
 ready-pruned-of S L one top a = record { sound = S; pruned = L; within = a .within; setting = setting-of S one top a }
 
 -- what is left of it without the adjacency

@@ -15,7 +15,7 @@ use lib.Dec.{leb, ltb, eqb}
 use borrow.Author.Tests.{leb-true, ltb-true, ltb-false, eqb-true, le-leb}
 use Rattle.rings.specs.Words.{sucIf}
 use Rattle.rings.specs.Table.{Table, tableOf, dayOf}
-use Rattle.rings.specs.Ring.{touches, query}
+use Rattle.rings.specs.Ring.{touches}
 use Rattle.rings.specs.CoreTimes.{never}
 use Rattle.rings.specs.Inner.Choice.{Picked}
 use Rattle.rings.specs.Inner.Adjacency.{otherOf, leads, Reading, Every}

@@ -18,7 +18,7 @@ use lib.Dec.{eqb}
 use borrow.Author.Tests.{eqb-true, eq-eqb, ne-eqb}
 use Rattle.rings.specs.Words.{_and_, at, marked, count}
 use Rattle.rings.specs.Table.{Table, tableOf, size, dayOf, firstOf, secondOf}
-use Rattle.rings.specs.Ring.{ring, members, query}
+use Rattle.rings.specs.Ring.{ring, members}
 use Rattle.rings.specs.CoreTimes.{never}
 use Rattle.rings.specs.Buffers.{mark, marks}
 use Rattle.rings.specs.Inner.Peeling.{PeelState, nothing, allRows, QueueEmpty, Ready, Span}

@@ -20,7 +20,7 @@ use lib.Dec.{eqb}
 use borrow.Author.Tests.{eq-eqb, ne-eqb}
 use Rattle.rings.specs.Words.{_and_, no, at, count}
 use Rattle.rings.specs.Table.{Table, tableOf, dayOf, firstOf, secondOf}
-use Rattle.rings.specs.Ring.{touches, query}
+use Rattle.rings.specs.Ring.{touches}
 use Rattle.rings.specs.CoreTimes.{never}
 use Rattle.rings.specs.Inner.Adjacency.{leads}
 use Rattle.rings.specs.Inner.Peeling.{EarlierStands, leadsBy, Droppable, DroppedNeighbour, removedCount, PeelState, nothing, Ready, NeighbourCounts, CoreTimesAre, PeelStateOf, Continues, HeadWalked, QueueEmpty, RowRemoval, RowsRemovedTo, RowRemovable}

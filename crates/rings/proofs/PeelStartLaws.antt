@@ -15,7 +15,7 @@ use lib.Dec.{ltb}
 use borrow.Author.Tests.{lt-ltb}
 use Rattle.rings.specs.Words.{_and_, at, count}
 use Rattle.rings.specs.Table.{Table, tableOf, dayOf}
-use Rattle.rings.specs.Ring.{touches, query}
+use Rattle.rings.specs.Ring.{touches}
 use Rattle.rings.specs.CoreTimes.{never}
 use Rattle.rings.specs.Inner.Adjacency.{leads}
 use Rattle.rings.specs.Inner.Peeling.{PeelBuffers, removedCount, PeelState, nothing, Ready, NeighbourCounts, Span, allRows, PeelStateOf, Continues, QueueEmpty, RowRemoval}

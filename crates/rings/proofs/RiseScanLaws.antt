@@ -20,7 +20,7 @@ use lib.Dec.{leb, eqb}
 use borrow.Author.Tests.{leb-true, leb-false, eq-eqb, le-leb}
 use Rattle.rings.specs.Words.{_and_, count}
 use Rattle.rings.specs.Table.{Table, tableOf, size, dayOf}
-use Rattle.rings.specs.Ring.{touches, query}
+use Rattle.rings.specs.Ring.{touches}
 use Rattle.rings.specs.CoreTimes.{never}
 use Rattle.rings.specs.Inner.Choice.{Picked}
 use Rattle.rings.specs.Inner.Adjacency.{otherOf, pairCounts, leads, Reading, Every}

@@ -12,7 +12,6 @@ use mathlib.Core.List.{List}
 use lib.ListN.{length, getD, set}
 use lib.Seq.{getD-set-same, getD-set-other}
 use Rattle.rings.specs.Table.{Table, tableOf, size}
-use Rattle.rings.specs.Ring.{query}
 use Rattle.rings.specs.CoreTimes.{never}
 use Rattle.rings.specs.Inner.Adjacency.{Every, Covered}
 use Rattle.rings.specs.Inner.Peeling.{Setting, estimate, Place}
@@ -102,7 +101,7 @@ module _ (xs : List ℕ) {t : Table} {k s hi u y m : ℕ} (fits : hi < never) (l
 
 -- ---- the common way: one walk is enough
 
-module _ (d f g : List ℕ) (k s te lo : ℕ) (S : Setting (tableOf d f g) (query k) s te lo) (xs : List ℕ) (len : length xs ≡ 4096) (D : Days te xs) {u : ℕ} (small : u < 4096) (timed : getD xs u 0 ≡ never → ⊥) where
+module _ (d f g : List ℕ) (q : Query) (s te lo : ℕ) (S : Setting (tableOf d f g) q s te lo) (xs : List ℕ) (len : length xs ≡ 4096) (D : Days te xs) {u : ℕ} (small : u < 4096) (timed : getD xs u 0 ≡ never → ⊥) where
   abbrev tn : Table
   tn = tableOf d f g
 
@@ -115,36 +114,36 @@ module _ (d f g : List ℕ) (k s te lo : ℕ) (S : Setting (tableOf d f g) (quer
   pub near-every : {sc : List ℕ} → Covered tn (estimate xs) lo sc → Every tn (estimate xs) lo u sc
   near-every C = C .rows u small (λ e. timed (sym (estimate-at xs u len small) ∙ e))
 
-  near-here : Short tn (estimate xs) s k te old u old
-  near-here = short-start tn (query k) s te lo S (estimate xs) old u (D u small)
+  near-here : Short tn (estimate xs) s (q .k) te old u old
+  near-here = short-start tn q s te lo S (estimate xs) old u (D u small)
 
   front-stays : {ws₀ ws : List ℕ} {head tail : ℕ} → Behind tail ws₀ ws → getD ws₀ head 0 ≡ u → head < tail → getD ws head 0 ≡ u
   front-stays {head = head} B e h = B .front head h ∙ e
 
-  module _ {n above more : ℕ} (A : DayScanned tn (estimate xs) lo te old u (length d) k n above more) where
+  module _ {n above more : ℕ} (A : DayScanned tn (estimate xs) lo te old u (length d) (q .k) n above more) where
     -- u has enough still
-    pub near-same : {xs₀ sp ws₀ ws : List ℕ} {head tail r : ℕ} → k ≤ n → Behind tail ws₀ ws → Rising tn (query k) te s xs₀ xs sp ws₀ head tail r → getD ws₀ head 0 ≡ u → head < tail → tail ≤ 4352 → Rising tn (query k) te s xs₀ xs (set sp u (n + 1 - k)) ws (head + 1) tail r
+    pub near-same : {xs₀ sp ws₀ ws : List ℕ} {head tail r : ℕ} → q .k ≤ n → Behind tail ws₀ ws → Rising tn q te s xs₀ xs sp ws₀ head tail r → getD ws₀ head 0 ≡ u → head < tail → tail ≤ 4352 → Rising tn q te s xs₀ xs (set sp u (n + 1 - q .k)) ws (head + 1) tail r
     near-same {ws₀ = ws₀} {ws = ws} {head = head} h B Z front here room =
         let Y = behind-rising B Z in
-        account-same tn (query k) s te lo S (Y .settling) small (find-day-found tn (query k) s te lo S (estimate xs) (few-start tn (query k) s te lo S (estimate xs) old u) (le-refl old) A h near-day refl) (Y .waiting) (front-stays B front here) (Y .behind) (Y .raised) here room refl
+        account-same tn q s te lo S (Y .settling) small (find-day-found tn q s te lo S (estimate xs) (few-start tn q s te lo S (estimate xs) old u) (le-refl old) A h near-day refl) (Y .waiting) (front-stays B front here) (Y .behind) (Y .raised) here room refl
 
     -- it has too few on the days before the day above
-    pub near-short : n < k → Short tn (estimate xs) s k te old u above
-    near-short few = short-next tn (query k) s te lo S (estimate xs) near-here A few
+    pub near-short : n < q .k → Short tn (estimate xs) s (q .k) te old u above
+    near-short few = short-next tn q s te lo S (estimate xs) near-here A few
 
     -- or it has enough there
-    module _ {both m moved tail end : ℕ} {ws : List ℕ} (few : n < k) (eb : both ≡ n + more) (P : SlackAbove above both k m) (some : m ≡ 0 → ⊥) (G : RiseScanned tn (estimate xs) lo te old u (length d) above moved tail end ws) where
-      near-day-found : DayFound tn (estimate xs) s k te old u above m
-      near-day-found = find-day-near tn (query k) s te lo S (estimate xs) A few eb P some
+    module _ {both m moved tail end : ℕ} {ws : List ℕ} (few : n < q .k) (eb : both ≡ n + more) (P : SlackAbove above both (q .k) m) (some : m ≡ 0 → ⊥) (G : RiseScanned tn (estimate xs) lo te old u (length d) above moved tail end ws) where
+      near-day-found : DayFound tn (estimate xs) s (q .k) te old u above m
+      near-day-found = find-day-near tn q s te lo S (estimate xs) A few eb P some
 
       near-step : (old < above) × ((above ≤ te) ⊎ (above ≡ never))
-      near-step = let L = find-day-next tn (query k) s te lo S (estimate xs) (few-start tn (query k) s te lo S (estimate xs) old u) A few in (L .1, L .2)
+      near-step = let L = find-day-next tn q s te lo S (estimate xs) (few-start tn q s te lo S (estimate xs) old u) A few in (L .1, L .2)
 
       pub near-never : (v : ℕ) → estimate xs v ≡ never → estimate (set xs u above) v ≡ never
       near-never = account-never xs (S .fits) len small D near-day-found
 
       near-moves : Moves (timeBy tn (estimate xs) s te) (timeBy tn (estimate (set xs u above)) s te) (moving tn (estimate xs) lo old u) old above (length d)
-      near-moves = rise-moves tn (query k) s te lo S u old above (set xs u above) small xs len refl refl (near-step .0) near-day G
+      near-moves = rise-moves tn q s te lo S u old above (set xs u above) small xs len refl refl (near-step .0) near-day G
 
       pub near-asks : {counts : List ℕ} → length d ≤ 16384 → te ≤ 1024 → Histogram (timeBy tn (estimate xs) s te) (length d) counts → MoveAsks moved old above counts
       near-asks most top T = moving-asks (moving tn (estimate xs) lo old u) (timeBy tn (estimate xs) s te) (timeBy tn (estimate (set xs u above)) s te) old above near-moves T (G .moves) most (let h = near-day in omega arith) (⊎-elim (λ y. _⊎_.inl (omega arith)) _⊎_.inr (near-step .1))
@@ -159,8 +158,8 @@ module _ (d f g : List ℕ) (k s te lo : ℕ) (S : Setting (tableOf d f g) (quer
       pub near-small : {ws₁ : List ℕ} {r : ℕ} → ws₁ ≡ set ws r u → r < tail → (i : ℕ) → tail ≤ i → i < end → getD ws₁ i 0 < 4096
       near-small e h i a b = subst (λ (c : ℕ). c < 4096) (sym (near-list e h i a)) (G .small i a b)
 
-      pub near-rise : {xs₀ sp sp″ ws₀ ws₁ ws″ : List ℕ} {head r e : ℕ} → Behind tail ws₀ ws → Rising tn (query k) te s xs₀ xs sp ws₀ head tail r → getD ws₀ head 0 ≡ u → head < tail → tail ≤ 4352 → ws₁ ≡ set ws r u → Queued tail (set sp u m) ws₁ e sp″ ws″ → DroppedListed tail end ws₁ (set sp u m) sp″ → e ≤ 4352 → Rising tn (query k) te s xs₀ (set xs u above) sp″ ws″ (head + 1) e (r + 1)
+      pub near-rise : {xs₀ sp sp″ ws₀ ws₁ ws″ : List ℕ} {head r e : ℕ} → Behind tail ws₀ ws → Rising tn q te s xs₀ xs sp ws₀ head tail r → getD ws₀ head 0 ≡ u → head < tail → tail ≤ 4352 → ws₁ ≡ set ws r u → Queued tail (set sp u m) ws₁ e sp″ ws″ → DroppedListed tail end ws₁ (set sp u m) sp″ → e ≤ 4352 → Rising tn q te s xs₀ (set xs u above) sp″ ws″ (head + 1) e (r + 1)
       near-rise B Z front here room ew Q F top =
           let Y = behind-rising B Z in
-          account-rise tn (query k) s te lo S (Y .settling) small near-day-found (Y .waiting) (front-stays B front here) (Y .behind) (Y .raised) here room ew
-          (rise-scanned-dropped-supported tn (query k) s te lo S xs len D (let h = S .fits in ⊎-elim (λ y. omega arith) (λ y. omega arith) (near-step .1)) G (near-list ew (let h = Y .behind in omega arith)) F) Q top
+          account-rise tn q s te lo S (Y .settling) small near-day-found (Y .waiting) (front-stays B front here) (Y .behind) (Y .raised) here room ew
+          (rise-scanned-dropped-supported tn q s te lo S xs len D (let h = S .fits in ⊎-elim (λ y. omega arith) (λ y. omega arith) (near-step .1)) G (near-list ew (let h = Y .behind in omega arith)) F) Q top

@@ -18,7 +18,7 @@ use lib.Dec.{ltb}
 use borrow.Author.Tests.{ltb-true, ltb-false, lt-ltb, le-ltb}
 use Rattle.rings.specs.Words.{at}
 use Rattle.rings.specs.Table.{Table, tableOf, size, dayOf, firstOf, secondOf, Split}
-use Rattle.rings.specs.Ring.{touches, query}
+use Rattle.rings.specs.Ring.{touches}
 use Rattle.rings.specs.CoreTimes.{never, rowTime}
 use Rattle.rings.specs.Inner.Adjacency.{otherOf, pairCounts, openDay, opensBy}
 use Rattle.rings.specs.Inner.Peeling.{Setting, frameOf, estimate, CoreTimesAre}
@@ -250,12 +250,12 @@ module _ (t : Table) (q : Query) (s hi lo : ℕ) (S : Setting t q s hi lo) (u ol
 
 -- ---- the rows dated s leave
 
-module _ (d f g : List ℕ) (k s te lo : ℕ) (S : Setting (tableOf d f g) (query k) s te lo) {xs : List ℕ} (C : CoreTimesAre d f g (frameOf k s te lo) xs) {next : ℕ} (N : Split d (s + 1) next) where
+module _ (d f g : List ℕ) (q : Query) (s te lo : ℕ) (S : Setting (tableOf d f g) q s te lo) {xs : List ℕ} (C : CoreTimesAre d f g (frameOf q s te lo) xs) {next : ℕ} (N : Split d (s + 1) next) where
   abbrev ts : Table
   ts = tableOf d f g
 
   abbrev at-s : ℕ → ℕ
-  at-s = rowTime ts (query k) te s
+  at-s = rowTime ts q te s
 
   abbrev later : ℕ → ℕ
   later = timeBy ts (estimate xs) (s + 1) te
@@ -274,7 +274,7 @@ module _ (d f g : List ℕ) (k s te lo : ℕ) (S : Setting (tableOf d f g) (quer
   Dropping j counts = Histogram (mixed at-s later j) (length d) counts
 
   pub drop-start : lo ≤ next → {counts : List ℕ} → Histogram at-s (length d) counts → Dropping lo counts
-  drop-start up = hist-same (λ i l. ⊎-elim (λ y. let h = ltb-true i lo y in mixed-below at-s later lo i h ∙ (gone i (omega arith) ∙ sym (row-before ts (query k) te s i (S .before-lo i h)))) (λ y. mixed-from at-s later lo i (ltb-false i lo y)) (true-or-false (ltb i lo)))
+  drop-start up = hist-same (λ i l. ⊎-elim (λ y. let h = ltb-true i lo y in mixed-below at-s later lo i h ∙ (gone i (omega arith) ∙ sym (row-before ts q te s i (S .before-lo i h)))) (λ y. mixed-from at-s later lo i (ltb-false i lo y)) (true-or-false (ltb i lo)))
 
   module _ {j : ℕ} (h : j < next) (top : te ≤ 1024) {v : ℕ} (e : v ≡ at-s j) {counts : List ℕ} (D : Dropping j counts) where
     here : j < length d
@@ -284,14 +284,14 @@ module _ (d f g : List ℕ) (k s te lo : ℕ) (S : Setting (tableOf d f g) (quer
     is = e ∙ sym (mixed-from at-s later j j (le-refl j))
 
     pub drop-asks : RemoveAsks v counts
-    drop-asks = hist-has D here is (is-time ts (query k) te s j top e)
+    drop-asks = hist-has D here is (is-time ts q te s j top e)
 
     pub drop-next : {counts′ : List ℕ} → Removing v counts counts′ → Dropping (j + 1) counts′
     drop-next =
-        hist-drop D here is (is-time ts (query k) te s j top e) (mixed-below at-s later (j + 1) j (omega arith) ∙ gone j h)
+        hist-drop D here is (is-time ts q te s j top e) (mixed-below at-s later (j + 1) j (omega arith) ∙ gone j h)
         (λ a n. ⊎-elim (λ y. let l = ltb-true a j y in mixed-below at-s later (j + 1) a (omega arith) ∙ sym (mixed-below at-s later j a l))
         (λ y. let l = ltb-false a j y in mixed-from at-s later (j + 1) a (⊎-elim (λ o. absurd (n (sym o))) (λ o. omega arith) (eq-or-lt-of-le l)) ∙ sym (mixed-from at-s later j a l)) (true-or-false (ltb a j)))
 
   pub drop-end : {j : ℕ} → next ≤ j → {counts : List ℕ} → Dropping j counts → Histogram later (length d) counts
   unfolding dayOf at
-  drop-end {j} h = hist-same (λ i l. ⊎-elim (λ y. sym (mixed-below at-s later j i (ltb-true i j y))) (λ y. let o = ltb-false i j y in by-later ts (estimate xs) s te i (N .after i (omega arith) l) ∙ (by-core d f g k s te lo S C i l ∙ sym (mixed-from at-s later j i o))) (true-or-false (ltb i j)))
+  drop-end {j} h = hist-same (λ i l. ⊎-elim (λ y. sym (mixed-below at-s later j i (ltb-true i j y))) (λ y. let o = ltb-false i j y in by-later ts (estimate xs) s te i (N .after i (omega arith) l) ∙ (by-core d f g q s te lo S C i l ∙ sym (mixed-from at-s later j i o))) (true-or-false (ltb i j)))

@@ -1,6 +1,7 @@
 -- The starts of a range (specs/Starts.antt): what a part above knows of a state that stays shut, and the loop of `first_time`.
 --     start-sound, start-prepared, start-times, start-counts    what a start has: an accepted table, a scratch that is ready, the accounts' times, the rows' day counts
 --     times-long, slack-long                        how long its arrays are
+--     first-framed                                  what a start from nothing works on
 --     Least, least-start, least-next, least-end     the least core time of the rows dated s
 -- Assumes nothing.
 use Prim.Native.Nat.{ℕ, min, _+_, _≤_, _<_}
@@ -15,16 +16,15 @@ use lib.Dec.{leb, ltb}
 use borrow.Author.Tests.{ltb-true, ltb-false, leb-true, leb-false}
 use Rattle.rings.specs.Words.{at}
 use Rattle.rings.specs.Table.{Table, tableOf, dayOf, Split}
-use Rattle.rings.specs.Ring.{query}
 use Rattle.rings.specs.Sound.{Sound}
 use Rattle.rings.specs.CoreTimes.{never, rowTime}
 use Rattle.rings.specs.Inner.Peeling.{Framed}
 use Rattle.rings.specs.declared.frame.Frame.{Frame}
-use Rattle.rings.specs.Starts.{CountsAt, DatedTime, Earliest, Prepared, TimesAt, AtStart}
+use Rattle.rings.specs.Starts.{CountsAt, DatedTime, Earliest, FirstAsks, Prepared, TimesAt, AtStart}
 use Rattle.rings.specs.declared.Query.{Query}
 use Rattle.rings.proofs.WordLaws.{true-or-false}
 use Rattle.rings.proofs.CoreTimeLaws.{row-past}
-use Rattle.rings.proofs.DayLaws.{ready-pruned-framed, pruned-paired}
+use Rattle.rings.proofs.DayLaws.{framed-of, ready-pruned-framed, pruned-paired}
 
 -- ---- the state at a start
 
@@ -46,6 +46,9 @@ module _ {t : Table} {q : Query} {hi s lo : ℕ} {sc times slack counts : List �
 
   pub slack-long : length slack ≡ 4096
   slack-long = A .inside .slacks .long
+
+pub first-framed : {d f g : List ℕ} {p : Frame} {end : ℕ} → Sound d f g → FirstAsks d p end → Framed d f g p
+first-framed S A = framed-of S (A .some-k) (A .in-days) (A .starts)
 
 -- ---- the least core time of the rows dated s
 

@@ -21,7 +21,7 @@ use lib.Dec.{leb, ltb, eqb}
 use borrow.Author.Tests.{leb-true, leb-false, ltb-true, ltb-false, eqb-false, le-leb, lt-ltb}
 use Rattle.rings.specs.Words.{_and_, at}
 use Rattle.rings.specs.Table.{Table, tableOf, size, dayOf, firstOf, secondOf}
-use Rattle.rings.specs.Ring.{touches, query}
+use Rattle.rings.specs.Ring.{touches}
 use Rattle.rings.specs.CoreTimes.{never}
 use Rattle.rings.specs.Sound.{Sound}
 use Rattle.rings.specs.Inner.Choice.{Picked}

@@ -15,7 +15,6 @@ use lib.Seq.{ext-getD, getD-set-same, getD-set-other}
 use Rattle.rings.specs.Words.{at, tabulate}
 use Rattle.rings.specs.Table.{tableOf, dayOf, firstOf, secondOf}
 use Rattle.rings.specs.CoreTimes.{never, accountTime, rowTime}
-use Rattle.rings.specs.Ring.{query}
 use Rattle.rings.specs.Inner.Adjacency.{openDay}
 use Rattle.rings.specs.Inner.Peeling.{Framed, Span, CoreTimesAre, TimesKnown}
 use Rattle.rings.specs.declared.frame.Frame.{Frame}

@@ -4,6 +4,7 @@
 --     moved-more         a wider bound on the rows that scans passed
 --     Settles            the loop over those who wait
 --     walkedTo     the worklist with another number of rows passed
+--     step-placed  what a step works on, at the start that it leaves
 use Prim.Native.Nat.{ℕ, _+_, _≤_}
 use native.Mathlib.Omega.{arith}
 use mathlib.Core.Path.{_≡_, sym, _∙_, ap, subst}
@@ -12,15 +13,16 @@ use mathlib.Core.List.{List}
 use lib.ListN.{length}
 use Rattle.rings.specs.Table.{Table, tableOf}
 use Rattle.rings.specs.Inner.Adjacency.{Covered}
-use Rattle.rings.specs.Inner.Peeling.{estimate}
+use Rattle.rings.specs.Inner.Peeling.{ReadyPairs, estimate}
 use Rattle.rings.specs.Inner.Settling.{Days, Rising}
 use Rattle.rings.specs.Inner.Counting.{CountsBy, WhereCounted}
-use Rattle.rings.specs.Inner.Worklist.{Arrays, Working, Moved, Unmoved, AttemptIs}
+use Rattle.rings.specs.Inner.Worklist.{Arrays, Working, Moved, Unmoved, AttemptIs, StepAsks}
 use Rattle.rings.specs.declared.frame.Frame.{Frame}
 use Rattle.rings.specs.declared.scan.Scan.{Scan}
 use Rattle.rings.specs.declared.settle.Worklist.{Worklist}
 use Rattle.rings.specs.declared.settle.Attempt.{Attempt}
 use Rattle.rings.proofs.SettleNearLaws.{same-rising, same-covered, same-counted}
+use Rattle.rings.proofs.DayLaws.{ready-pairs-of, pruned-paired}
 
 -- the worklist with another number of rows passed
 abbrev pub walkedTo : Worklist → ℕ → Worklist
@@ -81,3 +83,9 @@ pub record Settles (d f g scratch : List ℕ) (p : Frame) (counting : Bool) (bud
   pub rising : Rising (tableOf d f g) (p .query) (p .stop) (p .start) (a₀ .times) (a .times) (a .slack) (a .queue) (list .head) (list .tail) (list .raised)
   pub long-counts : length (a .counts) ≡ length (a₀ .counts)
   pub counted : WhereCounted counting (CountsBy d f g (p .start) (p .stop) (a .times) (a .counts)) (a₀ .counts) (a .counts)
+
+-- a step is asked at the start after: its table, scratch and query are those of the start that it leaves
+pub step-placed : {d f g scratch : List ℕ} {p : Frame} {counting : Bool} {next end : ℕ} {a : Arrays}
+    → StepAsks d f g scratch p counting next end a → ReadyPairs d f g scratch p
+step-placed A =
+    let o = A .opened in ready-pairs-of (o .sound) (pruned-paired (o .pruned)) (o .setting .some-k) (A .in-days) (A .starts)

@@ -4,7 +4,6 @@ ghost use mathlib.Core.Path.{_≡_};
 ghost use Prim.Native.Nat.{_+_, _*_, _≤_};
 ghost use lib.ListN.{length};
 ghost use Rattle.rings.specs.Table.{tableOf};
-ghost use Rattle.rings.specs.Ring.{query};
 ghost use Rattle.rings.specs.Sound.{Sound};
 ghost use Rattle.rings.specs.Starts.{FirstAsks, StartAsks, ArrayLengths, Earliest, Prepared, TimesAt, AtStart};
 use crate::adjacency::build_adjacency;

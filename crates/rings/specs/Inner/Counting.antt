@@ -25,7 +25,6 @@ use lib.Dec.{eqb}
 use Rattle.rings.specs.Words.{count}
 use Rattle.rings.specs.Table.{Table, tableOf, size, firstOf, secondOf, Split}
 use Rattle.rings.specs.CoreTimes.{never, rowTime}
-use Rattle.rings.specs.Ring.{query}
 use Rattle.rings.specs.Inner.Peeling.{estimate, ReadyPruned, CoreTimesAre, TimesKnown}
 use Rattle.rings.specs.declared.frame.Frame.{Frame}
 use Rattle.rings.specs.Inner.Adjacency.{openDay, opensBy, Covered}

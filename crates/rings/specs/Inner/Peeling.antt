@@ -13,7 +13,7 @@
 --     Times                        x is a lower bound of the core times, closed at the removed accounts; no core time that is still open passes e
 --     PeelState                    all of it: b is the first account that has not been looked at, e the day of the fallen, r the end of the rows, head and tail the queue's
 --     AccountRemoval               the same while the rows of the account at the head of the queue are walked
---     frameOf, nextFrame           the frame of a start by its numbers, and that of the start after it
+--     frameOf, nextFrame           the frame of a start by its query and its numbers, and that of the start after it
 --     allRows                      the removal before any row has left
 --     PeelStateOf                  Fall with the numbers of a removal, for the table of three columns
 --     HeadWaits, HeadWalked, Continues, QueueEmpty, RowRemovable  what the functions of src/peel.rt ask and promise beside the buffers
@@ -35,7 +35,7 @@ use lib.ListN.{length, getD, set}
 use lib.Dec.{leb, ltb, eqb}
 use Rattle.rings.specs.Words.{_and_, no, count}
 use Rattle.rings.specs.Table.{Table, tableOf, size, dayOf, firstOf, secondOf}
-use Rattle.rings.specs.Ring.{joins, touches, met, query, ring}
+use Rattle.rings.specs.Ring.{joins, touches, met, ring}
 use Rattle.rings.specs.CoreTimes.{never, accountTime}
 use Rattle.rings.specs.Sound.{Sound}
 use Rattle.rings.specs.Inner.Adjacency.{otherOf, leads, Adjacency, Paired, PrunedAdjacency}
@@ -164,9 +164,9 @@ pub record AccountRemoval (t : Table) (p : Frame) (b e r head tail u : ℕ) (x d
   pub front : head < tail
   pub at-front : getD w head 0 ≡ u
 
--- the frame of a start, by its numbers
-abbrev pub frameOf : ℕ → ℕ → ℕ → ℕ → Frame
-frameOf k s e lo = record { query = query k; start = s; stop = e; lo = lo }
+-- the frame of a start, by its query and its numbers
+abbrev pub frameOf : Query → ℕ → ℕ → ℕ → Frame
+frameOf q s e lo = record { query = q; start = s; stop = e; lo = lo }
 
 -- the frame of the start after it, whose first row is lo
 abbrev pub nextFrame : Frame → ℕ → Frame

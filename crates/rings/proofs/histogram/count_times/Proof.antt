@@ -4,7 +4,6 @@ use Prim.Native.Nat.{_-_, _≤_}
 use mathlib.Core.Path.{sym, _∙_}
 use Rattle.rings.specs.Table.{tableOf}
 use Rattle.rings.specs.CoreTimes.{rowTime}
-use Rattle.rings.specs.Ring.{query}
 use Rattle.rings.specs.Inner.Counting.{Histogram}
 use Rattle.rings.proofs.CountingLaws.{is-time, hist-start, hist-few, hist-next, hist-past}
 use Rattle.rings.proofs.CoreTimeLaws.{row-before}

@@ -4,7 +4,6 @@ use mathlib.Core.Path.{sym, _∙_}
 use lib.ListN.{length}
 use Rattle.rings.specs.Table.{tableOf}
 use Rattle.rings.specs.CoreTimes.{rowTime}
-use Rattle.rings.specs.Ring.{query}
 use Rattle.rings.specs.Inner.Peeling.{estimate}
 use Rattle.rings.specs.Inner.Counting.{timeBy, Histogram}
 use Rattle.rings.proofs.ShiftLaws.{mixed, drop-from, drop-start, drop-asks, drop-next, drop-end}

@@ -1,7 +1,8 @@
 use mathlib.Core.Path.{refl}
 use native.Mathlib.Omega.{arith}
 use Rattle.rings.proofs.SettleStartLaws.{core-days, split-rises, settle-start}
-use Rattle.rings.proofs.DayLaws.{ready-pairs-of, pruned-paired, span-after}
+use Rattle.rings.proofs.DayLaws.{span-after}
+use Rattle.rings.proofs.WorklistLaws.{step-placed}
 use borrow.Author.Needs.{needs}
 use Rattle.rings.proofs.settle.step.Statement.{statement}
 use Rattle.rings.proofs.settle.step.Tie as tie
@@ -13,7 +14,7 @@ use Rattle.rings.proofs.settle.settle.Reads as settle-reads
 drop-leaving-rows-requires : tie.Need-drop-leaving-rows-requires
 drop-leaving-rows-requires c κs =
     let pre = c .before .before .before .before .before .before .before .before .before .before .before .pre in
-    let placed = ready-pairs-of (pre .opened .sound) (pruned-paired (pre .opened .pruned)) (pre .opened .setting .some-k) (pre .in-days) (pre .starts) in (
+    let placed = step-placed pre in (
       record {
         placed = placed;
         times-long = pre .times-are .long;
@@ -52,8 +53,7 @@ settle-requires c κs =
     let if1 = c .before .before .before .before .before .before .if1 in
     let drop-leaving-rows = c .before .before .before .before .before .before .before .before .before .before .before .drop-leaving-rows in
     let pre = c .before .before .before .before .before .before .before .before .before .before .before .before .before .before .before .before .before .before .before .before .before .before .before .pre in
-    let placed = ready-pairs-of (pre .opened .sound) (pruned-paired (pre .opened .pruned)) (pre .opened .setting .some-k) (pre .in-days)
-    (pre .starts) in
+    let placed = step-placed pre in
     record {
       opened = pre .opened;
       covered = pre .covered;

@@ -1,5 +1,6 @@
 use Rattle.rings.proofs.PrunedLaws.{adjacency-covered}
-use Rattle.rings.proofs.DayLaws.{ready-of, framed-of, ready-pruned-of, heads-on, span-after}
+use Rattle.rings.proofs.DayLaws.{ready-of, ready-pruned-of, heads-on, span-after}
+use Rattle.rings.proofs.StartsLaws.{first-framed}
 use mathlib.Core.Path.{_∙_}
 use borrow.Author.Needs.{needs}
 use Rattle.rings.proofs.starts.first_start.Statement.{statement}
@@ -39,7 +40,7 @@ count-times-requires c κs =
     let pre = c .before .before .before .before .before .before .before .before .before .before .before .before .before .before .before .before .before .before .before .before .before .before .before .before .before .before .before .before .before .pre in (
       record {
         known = record {
-          framed = framed-of (pre .0) (pre .1 .1 .0 .some-k) (pre .1 .1 .0 .in-days) (pre .1 .1 .0 .starts);
+          framed = first-framed (pre .0) (pre .1 .1 .0);
           span = span-after (pre .1 .1 .0 .ordered) (pre .1 .1 .0 .starts) (pre .1 .1 .0 .ends);
           times-are = peel-start .ensures .times-are;
         };
@@ -85,7 +86,7 @@ returns c =
       inside = record {
         opened = ready-pruned-of (pre .0) (prune .ensures .pruned) (pre .1 .1 .0 .some-k) (pre .1 .1 .0 .in-days) (pre .1 .1 .0 .starts);
         covered = prune .ensures .covered _
-            (adjacency-covered (move-heads .ensures .adjacency) _ ((framed-of (pre .0) (pre .1 .1 .0 .some-k) (pre .1 .1 .0 .in-days) (pre .1 .1 .0 .starts)) .setting .from-lo));
+            (adjacency-covered (move-heads .ensures .adjacency) _ (first-framed (pre .0) (pre .1 .1 .0) .setting .from-lo));
         times-are = peel-start .ensures .times-are;
         slacks = peel-start .ensures .slacks;
         timed = count-times .ensures;

@@ -2,7 +2,6 @@ use native.Mathlib.Omega.{arith}
 use Prim.Native.Nat.{_-_, _≤_}
 use Rattle.rings.specs.Table.{tableOf}
 use Rattle.rings.specs.CoreTimes.{rowTime}
-use Rattle.rings.specs.Ring.{query}
 use Rattle.rings.proofs.DayLaws.{span-of}
 use Rattle.rings.proofs.SettleStartLaws.{split-rises}
 use Rattle.rings.proofs.StartsLaws.{Least, least-start, least-next, least-end}

@@ -3,7 +3,6 @@ use Prim.Native.Nat.{_-_, _≤_}
 use lib.ListN.{length}
 use Rattle.rings.specs.Table.{tableOf}
 use Rattle.rings.specs.CoreTimes.{rowTime}
-use Rattle.rings.specs.Ring.{query}
 use Rattle.rings.proofs.TimeLaws.{Filled, fill-start, fill-next, fill-end}
 use Rattle.rings.proofs.times.time_rows.Statement.{statement}
 use Rattle.rings.proofs.times.time_rows.Tie as tie
