@@ -26,6 +26,11 @@ Inv-loop days first second scratch₀ lo next row₀ scratch row = Held days fir
 abbrev μ-loop : tie.MeasureT-loop
 μ-loop days first second scratch₀ lo next row₀ scratch row = next - row
 
+-- ---- the ways back, from a place of the code to an earlier one
+
+abbrev entry-to-start : tie.After-entry Inv-loop μ-loop → tie.Start Inv-loop μ-loop
+entry-to-start c = c .before .before .before .before .before .before .before
+
 loop-holds : tie.Need-loop-holds Inv-loop μ-loop
 loop-holds c =
     let pre = c .before .before .before .before .pre in
@@ -43,7 +48,7 @@ entry-requires c κs =
 entry-requires-2 : tie.Need-entry-requires-2 Inv-loop μ-loop
 entry-requires-2 c κs =
     let loop-test = c .before .loop-test in
-    let pre = c .before .before .before .before .before .before .before .pre in
+    let pre = entry-to-start c .pre in
     omega (arith, loop-test .taken, pre .within, pre .sound .seconds)
 
 pass-head-requires : tie.Need-pass-head-requires Inv-loop μ-loop
@@ -51,7 +56,7 @@ pass-head-requires c κs =
     let entry = c .before .before .entry in
     let loop-test = c .before .before .before .loop-test in
     let loop = c .before .before .before .before .loop in
-    let pre = c .before .before .before .before .before .before .before .before .before .pre in
+    let pre = entry-to-start (c .before .before) .pre in
     heads-asks (pre .sound .most) (loop .inv .passed .pruned)
     (first-small (pre .sound) (omega (arith, loop-test .taken, pre .within)) (entry .ensures))
 
@@ -62,7 +67,7 @@ pass-head-requires-2 c κs =
     let entry = c .before .before .before .before .before .before .entry in
     let loop-test = c .before .before .before .before .before .before .before .loop-test in
     let loop = c .before .before .before .before .before .before .before .before .loop in
-    let pre = c .before .before .before .before .before .before .before .before .before .before .before .before .before .pre in
+    let pre = entry-to-start (c .before .before .before .before .before .before) .pre in
     heads-asks (pre .sound .most)
     (
     heads-mid (loop .inv .passed)
@@ -73,7 +78,7 @@ pass-head-requires-2 c κs =
 add-row : tie.Need-add-row Inv-loop μ-loop
 add-row c =
     let loop-test = c .before .before .before .before .before .before .before .before .before .before .loop-test in
-    let pre = c .before .before .before .before .before .before .before .before .before .before .before .before .before .before .before .before .pre in
+    let pre = entry-to-start (c .before .before .before .before .before .before .before .before .before) .pre in
     omega (arith, loop-test .taken, pre .within, pre .sound .most)
 
 loop-less : tie.Need-loop-less Inv-loop μ-loop
@@ -89,7 +94,7 @@ loop-again c =
     let entry = c .before .before .before .before .before .before .before .before .before .entry in
     let loop-test = c .before .before .before .before .before .before .before .before .before .before .loop-test in
     let loop = c .before .before .before .before .before .before .before .before .before .before .before .loop in
-    let pre = c .before .before .before .before .before .before .before .before .before .before .before .before .before .before .before .before .pre in
+    let pre = entry-to-start (c .before .before .before .before .before .before .before .before .before) .pre in
     record {
       long = passing-long (pass-head2 .ensures) ∙ (passing-long (pass-head .ensures) ∙ loop .inv .long);
       passed = heads-next (loop .inv .passed)

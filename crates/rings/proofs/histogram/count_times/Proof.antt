@@ -22,6 +22,11 @@ Inv-loop days first second frame end times counts₀ j₀ counts j = (frame .lo 
 abbrev μ-loop : tie.MeasureT-loop
 μ-loop days first second frame end times counts₀ j₀ counts j = end - j
 
+-- ---- the ways back, from a place of the code to an earlier one
+
+abbrev loop-to-start : tie.At-loop Inv-loop μ-loop → tie.Start Inv-loop μ-loop
+loop-to-start c = c .before .before .before .before .before .before .before .before .before .before
+
 clear-requires : tie.Need-clear-requires Inv-loop μ-loop
 clear-requires c κs = search needs
 
@@ -36,7 +41,7 @@ loop-holds c =
 
 row-time-requires : tie.Need-row-time-requires Inv-loop μ-loop
 row-time-requires c κs =
-    let pre = c .before .before .before .before .before .before .before .before .before .before .before .pre in
+    let pre = loop-to-start (c .before) .pre in
     (pre .0 .known, omega (arith, c .loop-test .taken, pre .0 .known .span .within))
 
 add-count-requires : tie.Need-add-count-requires Inv-loop μ-loop
@@ -44,14 +49,14 @@ add-count-requires c κs =
     let row-time = c .before .row-time in
     let loop-test = c .before .before .loop-test in
     let loop = c .before .before .before .loop in
-    let pre = c .before .before .before .before .before .before .before .before .before .before .before .before .before .pre in
+    let pre = loop-to-start (c .before .before .before) .pre in
     hist-few _ (loop .inv .2) (omega (arith, loop-test .taken, pre .0 .known .span .within, pre .0 .known .framed .sound .most))
     (is-time _ _ _ _ _ (pre .0 .in-days) (row-time .ensures))
 
 add-j : tie.Need-add-j Inv-loop μ-loop
 add-j c =
     let loop-test = c .before .before .before .before .before .loop-test in
-    let pre = c .before .before .before .before .before .before .before .before .before .before .before .before .before .before .before .before .pre in
+    let pre = loop-to-start (c .before .before .before .before .before .before) .pre in
     omega (arith, loop-test .taken, pre .0 .known .span .within, pre .0 .known .framed .sound .most)
 
 loop-less : tie.Need-loop-less Inv-loop μ-loop
@@ -73,13 +78,13 @@ loop-again c =
 same-length : tie.Need-same-length Inv-loop μ-loop
 same-length c =
     let loop = c .before .loop in
-    let pre = c .before .before .before .before .before .before .before .before .before .before .before .pre in
+    let pre = loop-to-start (c .before) .pre in
     loop .inv .2 .long ∙ sym (pre .1)
 
 returns : tie.Need-returns Inv-loop μ-loop
 returns c =
     let loop = c .before .loop in
-    let pre = c .before .before .before .before .before .before .before .before .before .before .before .pre in
+    let pre = loop-to-start (c .before) .pre in
     hist-past _ (loop .inv .2) (omega (arith, loop .inv .1, pre .0 .known .span .within))
     (λ j a b. sym (row-late _ _ _ _ (pre .0 .known) b (omega (arith, a, c .loop-test .left))))
 

@@ -11,6 +11,27 @@ use Rattle.rings.proofs.peel.count_neighbours.Reads as count-neighbours
 use Rattle.rings.proofs.peel.remove_queued.Reads as remove-queued-reads
 use Rattle.rings.proofs.peel.queue_low_degree.Reads as queue-low-degree-reads
 
+-- ---- the ways back, from a place of the code to an earlier one
+
+abbrev clear2-to-start : tie.After-clear2 → tie.Start
+clear2-to-start c =
+    c .before .before .before .before .before .before .before .before .before .before .before .before .before
+
+abbrev times2-to-start : tie.After-times2 → tie.Start
+times2-to-start c =
+    clear2-to-start (c .before .before .before .before .before .before .before .before .before .before .before)
+
+abbrev queue-to-count-neighbours : tie.After-queue → tie.After-count-neighbours
+queue-to-count-neighbours c = c .before .before .before .before .before .before .before .before .before .before .before
+
+abbrev times3-to-clear2 : tie.After-times3 → tie.After-clear2
+times3-to-clear2 c =
+    c .before .before .before .before .before .before .before .before .before .before .before .before .before
+    .before .before .before .before .before .before .before .before
+
+abbrev times3-to-queue-low-degree : tie.After-times3 → tie.After-queue-low-degree
+times3-to-queue-low-degree c = c .before .before .before .before .before .before .before .before .before .before .before
+
 clear-requires : tie.Need-clear-requires
 clear-requires c κs = search needs
 
@@ -21,11 +42,9 @@ count-neighbours-requires : tie.Need-count-neighbours-requires
 count-neighbours-requires c κs =
     let clear2 = c .before .before .before .clear2 in
     let args =
-    c .before .before .before .before .before .before .before .before .before .before .before .before .before
-    .before .before .before .args in
+    clear2-to-start (c .before .before .before) .args in
     let pre =
-    c .before .before .before .before .before .before .before .before .before .before .before .before .before
-    .before .before .before .pre in
+    clear2-to-start (c .before .before .before) .pre in
     let ready = pre .0 in
     let span = pre .1 .0 in
     let buffers = pre .1 .1 in
@@ -38,8 +57,7 @@ queue-low-degree-requires c κs =
     c .before .before .before .before .before .before .before .before .before .before .before .before
     .before .clear in
     let pre =
-    c .before .before .before .before .before .before .before .before .before .before .before .before .before
-    .before .before .before .before .before .before .before .before .before .pre in
+    clear2-to-start (c .before .before .before .before .before .before .before .before .before) .pre in
     let ready = pre .0 in
     let span = pre .1 .0 in
     let buffers = pre .1 .1 in
@@ -49,9 +67,7 @@ remove-queued-requires : tie.Need-remove-queued-requires
 remove-queued-requires c κs =
     let queue-low-degree = c .before .before .before .before .before .before .before .before .before .queue-low-degree in
     let pre =
-    c .before .before .before .before .before .before .before .before .before .before .before .before .before
-    .before .before .before .before .before .before .before .before .before .before .before .before .before .before
-    .before .before .before .before .before .pre in
+    times2-to-start (c .before .before .before .before .before .before .before .before) .pre in
     let ready = pre .0 in
     (ready, queue-low-degree .ensures .state)
 
@@ -59,27 +75,20 @@ same-length : tie.Need-same-length
 same-length c =
     let remove-queued = c .before .before .before .before .before .before .remove-queued in
     let queue-low-degree =
-    c .before .before .before .before .before .before .before .before .before .before .before .before .before
-    .before .before .before .queue-low-degree in
+    times3-to-queue-low-degree (c .before .before .before .before .before) .queue-low-degree in
     let clear =
-    c .before .before .before .before .before .before .before .before .before .before .before .before .before
-    .before .before .before .before .before .before .before .before .before .before .before .before .before .before
-    .before .before .before .clear in
+    times3-to-clear2 (c .before .before .before .before .before) .before .before .before .before .clear in
     remove-queued .kept .1 .1 .1 .1 .1 .1 .0 ∙ (queue-low-degree .kept .1 .1 .1 .1 .1 .1 .0 ∙ clear .kept .0)
 
 same-length-2 : tie.Need-same-length-2
 same-length-2 c =
     let remove-queued = c .before .before .before .before .before .before .remove-queued in
     let queue-low-degree =
-    c .before .before .before .before .before .before .before .before .before .before .before .before .before
-    .before .before .before .queue-low-degree in
+    times3-to-queue-low-degree (c .before .before .before .before .before) .queue-low-degree in
     let count-neighbours =
-    c .before .before .before .before .before .before .before .before .before .before .before .before .before
-    .before .before .before .before .before .before .before .before .before .count-neighbours in
+    queue-to-count-neighbours (c .before .before .before .before .before .before .before .before .before .before .before) .count-neighbours in
     let clear2 =
-    c .before .before .before .before .before .before .before .before .before .before .before .before .before
-    .before .before .before .before .before .before .before .before .before .before .before .before
-    .before .clear2 in
+    times3-to-clear2 (c .before .before .before .before .before) .clear2 in
     remove-queued .kept .1 .1 .1 .1 .1 .1 .1 .0 ∙
     (queue-low-degree .kept .1 .1 .1 .1 .1 .1 .1 .0 ∙ (count-neighbours .kept .1 .1 .1 .1 .1 .1 .0 ∙ clear2 .kept .0))
 
@@ -90,8 +99,7 @@ returns : tie.Need-returns
 returns c =
     let remove-queued = c .before .before .before .before .before .before .remove-queued in
     let queue-low-degree =
-    c .before .before .before .before .before .before .before .before .before .before .before .before .before
-    .before .before .before .queue-low-degree in
+    times3-to-queue-low-degree (c .before .before .before .before .before) .queue-low-degree in
     let empty = remove-queued .ensures in
     record {
       goes-on = record {

@@ -20,6 +20,20 @@ Inv-loop days first second scratch frame end left₀ n j₀ left j =
 abbrev μ-loop : tie.MeasureT-loop
 μ-loop days first second scratch frame end left₀ n j₀ left j = end - j
 
+-- ---- the ways back, from a place of the code to an earlier one
+
+abbrev leads-to-start : tie.After-leads Inv-loop μ-loop → tie.Start Inv-loop μ-loop
+leads-to-start c = c .before .before .before .before .before .before .before .before
+
+abbrev entry3-to-start : tie.After-entry3 Inv-loop μ-loop → tie.Start Inv-loop μ-loop
+entry3-to-start c = leads-to-start (c .before .before .before .before .before)
+
+abbrev entry4-to-start : tie.After-entry4 Inv-loop μ-loop → tie.Start Inv-loop μ-loop
+entry4-to-start c = entry3-to-start (c .before .before .before .before .before .before)
+
+abbrev entry4-to-entry : tie.After-entry4 Inv-loop μ-loop → tie.After-entry Inv-loop μ-loop
+entry4-to-entry c = c .before .before .before .before .before .before .before .before .before
+
 loop-holds : tie.Need-loop-holds Inv-loop μ-loop
 loop-holds c =
     let pre = c .before .before .before .before .before .pre in
@@ -40,7 +54,7 @@ entry-requires : tie.Need-entry-requires Inv-loop μ-loop
 entry-requires c κs =
     let loop-test = c .before .before .loop-test in
     let loop = c .before .before .before .loop in
-    let pre = c .before .before .before .before .before .before .before .before .before .pre in
+    let pre = leads-to-start (c .before) .pre in
     let ready = pre .0 in
     let span = pre .1 .0 in
     omega (arith, count-below _ _ _ _ _ ready (loop .inv) (loop-test .taken) span, ready .sound .firsts)
@@ -49,7 +63,7 @@ entry-requires-2 : tie.Need-entry-requires-2 Inv-loop μ-loop
 entry-requires-2 c κs =
     let loop-test = c .before .before .before .loop-test in
     let loop = c .before .before .before .before .loop in
-    let pre = c .before .before .before .before .before .before .before .before .before .before .pre in
+    let pre = leads-to-start (c .before .before) .pre in
     let ready = pre .0 in
     let span = pre .1 .0 in
     omega (arith, count-below _ _ _ _ _ ready (loop .inv) (loop-test .taken) span, ready .sound .seconds)
@@ -59,7 +73,7 @@ entry-requires-3 c κs =
     let entry = c .before .before .entry in
     let loop-test = c .before .before .before .before .before .loop-test in
     let loop = c .before .before .before .before .before .before .loop in
-    let pre = c .before .before .before .before .before .before .before .before .before .before .before .before .pre in
+    let pre = leads-to-start (c .before .before .before .before) .pre in
     let ready = pre .0 in
     let span = pre .1 .0 in
     count-first _ _ _ _ _ ready (loop .inv) (loop-test .taken) span (entry .ensures) refl .0
@@ -71,8 +85,7 @@ add-put c =
     let loop-test = c .before .before .before .before .before .before .before .loop-test in
     let loop = c .before .before .before .before .before .before .before .before .loop in
     let pre =
-    c .before .before .before .before .before .before .before .before .before .before .before .before .before
-    .before .pre in
+    entry3-to-start (c .before) .pre in
     let ready = pre .0 in
     let span = pre .1 .0 in
     omega (
@@ -87,8 +100,7 @@ put-requires c κs =
     let loop-test = c .before .before .before .before .before .before .before .loop-test in
     let loop = c .before .before .before .before .before .before .before .before .loop in
     let pre =
-    c .before .before .before .before .before .before .before .before .before .before .before .before .before
-    .before .pre in
+    entry3-to-start (c .before) .pre in
     let ready = pre .0 in
     let span = pre .1 .0 in
     let first = count-first _ _ _ _ _ ready (loop .inv) (loop-test .taken) span (entry .ensures)
@@ -106,8 +118,7 @@ entry-requires-4 c κs =
     let loop =
     c .before .before .before .before .before .before .before .before .before .before .before .before .loop in
     let pre =
-    c .before .before .before .before .before .before .before .before .before .before .before .before .before
-    .before .before .before .before .before .pre in
+    entry3-to-start (c .before .before .before .before .before) .pre in
     let ready = pre .0 in
     let span = pre .1 .0 in
     count-second _ _ _ _ _ ready (loop .inv) (loop-test .taken) span (entry .ensures) (entry2 .ensures)
@@ -119,16 +130,13 @@ add-put-2 c =
     let put = c .before .before .before .before .before .put in
     let entry3 = c .before .before .before .before .before .before .before .entry3 in
     let entry2 = c .before .before .before .before .before .before .before .before .before .entry2 in
-    let entry = c .before .before .before .before .before .before .before .before .before .before .entry in
+    let entry = entry4-to-entry (c .before) .entry in
     let loop-test =
-    c .before .before .before .before .before .before .before .before .before .before .before .before
-    .before .loop-test in
+    entry4-to-entry (c .before) .before .before .before .loop-test in
     let loop =
-    c .before .before .before .before .before .before .before .before .before .before .before .before .before
-    .before .loop in
+    entry4-to-entry (c .before) .before .before .before .before .loop in
     let pre =
-    c .before .before .before .before .before .before .before .before .before .before .before .before .before
-    .before .before .before .before .before .before .before .pre in
+    entry4-to-start (c .before) .pre in
     let ready = pre .0 in
     let span = pre .1 .0 in
     omega (
@@ -143,16 +151,13 @@ put-requires-2 c κs =
     let put = c .before .before .before .before .before .put in
     let entry3 = c .before .before .before .before .before .before .before .entry3 in
     let entry2 = c .before .before .before .before .before .before .before .before .before .entry2 in
-    let entry = c .before .before .before .before .before .before .before .before .before .before .entry in
+    let entry = entry4-to-entry (c .before) .entry in
     let loop-test =
-    c .before .before .before .before .before .before .before .before .before .before .before .before
-    .before .loop-test in
+    entry4-to-entry (c .before) .before .before .before .loop-test in
     let loop =
-    c .before .before .before .before .before .before .before .before .before .before .before .before .before
-    .before .loop in
+    entry4-to-entry (c .before) .before .before .before .before .loop in
     let pre =
-    c .before .before .before .before .before .before .before .before .before .before .before .before .before
-    .before .before .before .before .before .before .before .pre in
+    entry4-to-start (c .before) .pre in
     let ready = pre .0 in
     let span = pre .1 .0 in
     let second = count-second _ _ _ _ _ ready (loop .inv) (loop-test .taken) span (entry .ensures)
@@ -162,14 +167,11 @@ put-requires-2 c κs =
 add-j : tie.Need-add-j Inv-loop μ-loop
 add-j c =
     let loop-test =
-    c .before .before .before .before .before .before .before .before .before .before .before .before .before
-    .before .before .before .loop-test in
+    entry4-to-entry (c .before .before .before .before) .before .before .before .loop-test in
     let loop =
-    c .before .before .before .before .before .before .before .before .before .before .before .before .before
-    .before .before .before .before .loop in
+    entry4-to-entry (c .before .before .before .before) .before .before .before .before .loop in
     let pre =
-    c .before .before .before .before .before .before .before .before .before .before .before .before .before
-    .before .before .before .before .before .before .before .before .before .before .pre in
+    entry4-to-start (c .before .before .before .before) .pre in
     let ready = pre .0 in
     let span = pre .1 .0 in
     omega (arith, count-below _ _ _ _ _ ready (loop .inv) (loop-test .taken) span, ready .sound .most)
@@ -177,8 +179,7 @@ add-j c =
 loop-less : tie.Need-loop-less Inv-loop μ-loop
 loop-less c =
     let loop-test =
-    c .before .before .before .before .before .before .before .before .before .before .before .before .before
-    .before .before .before .loop-test in
+    entry4-to-entry (c .before .before .before .before) .before .before .before .loop-test in
     omega (arith, loop-test .taken)
 
 loop-again : tie.Need-loop-again Inv-loop μ-loop
@@ -190,23 +191,17 @@ loop-again c =
     let entry2 =
     c .before .before .before .before .before .before .before .before .before .before .before .before .entry2 in
     let entry =
-    c .before .before .before .before .before .before .before .before .before .before .before .before
-    .before .entry in
+    entry4-to-entry (c .before .before .before .before) .entry in
     let if1 =
-    c .before .before .before .before .before .before .before .before .before .before .before .before .before
-    .before .if1 in
+    entry4-to-entry (c .before .before .before .before) .before .if1 in
     let leads =
-    c .before .before .before .before .before .before .before .before .before .before .before .before .before
-    .before .before .leads in
+    entry4-to-entry (c .before .before .before .before) .before .before .leads in
     let loop-test =
-    c .before .before .before .before .before .before .before .before .before .before .before .before .before
-    .before .before .before .loop-test in
+    entry4-to-entry (c .before .before .before .before) .before .before .before .loop-test in
     let loop =
-    c .before .before .before .before .before .before .before .before .before .before .before .before .before
-    .before .before .before .before .loop in
+    entry4-to-entry (c .before .before .before .before) .before .before .before .before .loop in
     let pre =
-    c .before .before .before .before .before .before .before .before .before .before .before .before .before
-    .before .before .before .before .before .before .before .before .before .before .pre in
+    entry4-to-start (c .before .before .before .before) .pre in
     let ready = pre .0 in
     let span = pre .1 .0 in
     count-row _ _ _ _ _ ready (loop .inv) (loop-test .taken) span (leads .ensures) (if1 .taken)
@@ -216,7 +211,7 @@ add-j-2 : tie.Need-add-j-2 Inv-loop μ-loop
 add-j-2 c =
     let loop-test = c .before .before .loop-test in
     let loop = c .before .before .before .loop in
-    let pre = c .before .before .before .before .before .before .before .before .before .pre in
+    let pre = leads-to-start (c .before) .pre in
     let ready = pre .0 in
     let span = pre .1 .0 in
     omega (arith, count-below _ _ _ _ _ ready (loop .inv) (loop-test .taken) span, ready .sound .most)
@@ -231,7 +226,7 @@ loop-again-2 c =
     let leads = c .before .leads in
     let loop-test = c .before .before .loop-test in
     let loop = c .before .before .before .loop in
-    let pre = c .before .before .before .before .before .before .before .before .before .pre in
+    let pre = leads-to-start (c .before) .pre in
     let ready = pre .0 in
     let span = pre .1 .0 in
     let if1 = c .if1 in

@@ -19,6 +19,14 @@ abbrev μ-loop : tie.MeasureT-loop
 μ-loop days first second scratch frame end times₀ left queue₀ u₀ tail₀ times queue u tail =
     4096 - u
 
+-- ---- the ways back, from a place of the code to an earlier one
+
+abbrev then1-to-start : tie.Then1 Inv-loop μ-loop → tie.Start Inv-loop μ-loop
+then1-to-start c = c .before .before .before .before .before .before .before .before .before .before .before .before
+
+abbrev queue-to-in-loop : tie.After-queue Inv-loop μ-loop → tie.In-loop Inv-loop μ-loop
+queue-to-in-loop c = c .before .before .before .before .before .before .before .before .before .before
+
 loop-holds : tie.Need-loop-holds Inv-loop μ-loop
 loop-holds c =
     let pre = c .before .before .before .before .before .before .before .pre in
@@ -44,8 +52,7 @@ put-requires c κs =
     let loop-test = c .before .before .before .before .loop-test in
     let loop = c .before .before .before .before .before .loop in
     let pre =
-    c .before .before .before .before .before .before .before .before .before .before .before .before
-    .before .pre in
+    then1-to-start (c .before) .pre in
     record { place = low-degree-room _ _ _ _ _ (pre .0) (loop .inv) (loop-test .taken) .1; number = omega arith }
 
 put-requires-2 : tie.Need-put-requires-2 Inv-loop μ-loop
@@ -53,31 +60,29 @@ put-requires-2 c κs =
     let loop-test = c .before .before .before .before .before .before .before .before .loop-test in
     let loop = c .before .before .before .before .before .before .before .before .before .loop in
     let pre =
-    c .before .before .before .before .before .before .before .before .before .before .before .before .before
-    .before .before .before .before .pre in
+    then1-to-start (c .before .before .before .before .before) .pre in
     record { place = low-degree-room _ _ _ _ _ (pre .0) (loop .inv) (loop-test .taken) .0; number = omega (arith, loop-test .taken) }
 
 add-tail : tie.Need-add-tail Inv-loop μ-loop
 add-tail c =
     let loop-test =
-    c .before .before .before .before .before .before .before .before .before .before .before .loop-test in
+    queue-to-in-loop (c .before) .loop-test in
     let loop =
-    c .before .before .before .before .before .before .before .before .before .before .before .before .loop in
+    queue-to-in-loop (c .before) .before .loop in
     let pre =
-    c .before .before .before .before .before .before .before .before .before .before .before .before .before
-    .before .before .before .before .before .before .before .pre in
+    then1-to-start (c .before .before .before .before .before .before .before .before) .pre in
     let small = low-degree-small _ _ _ _ _ (pre .0) (loop .inv) (loop-test .taken) in omega (arith, small)
 
 add-u : tie.Need-add-u Inv-loop μ-loop
 add-u c =
     let loop-test =
-    c .before .before .before .before .before .before .before .before .before .before .before .loop-test in
+    queue-to-in-loop (c .before) .loop-test in
     omega (arith, loop-test .taken)
 
 loop-less : tie.Need-loop-less Inv-loop μ-loop
 loop-less c =
     let loop-test =
-    c .before .before .before .before .before .before .before .before .before .before .before .loop-test in
+    queue-to-in-loop (c .before) .loop-test in
     omega (arith, loop-test .taken)
 
 loop-again : tie.Need-loop-again Inv-loop μ-loop
@@ -86,12 +91,11 @@ loop-again c =
     let put = c .before .before .before .before .before .before .put in
     let if1 = c .before .before .before .before .before .before .before .before .if1 in
     let loop-test =
-    c .before .before .before .before .before .before .before .before .before .before .before .loop-test in
+    queue-to-in-loop (c .before) .loop-test in
     let loop =
-    c .before .before .before .before .before .before .before .before .before .before .before .before .loop in
+    queue-to-in-loop (c .before) .before .loop in
     let pre =
-    c .before .before .before .before .before .before .before .before .before .before .before .before .before
-    .before .before .before .before .before .before .before .pre in
+    then1-to-start (c .before .before .before .before .before .before .before .before) .pre in
     low-degree-removal _ _ _ _ _ (pre .0) (loop .inv) (loop-test .taken) (if1 .taken) (put .ensures) (put2 .ensures)
 
 add-u-2 : tie.Need-add-u-2 Inv-loop μ-loop

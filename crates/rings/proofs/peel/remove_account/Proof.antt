@@ -19,6 +19,17 @@ abbrev μ-loop : tie.MeasureT-loop
 μ-loop days first second scratch frame removal times₀ left₀ queue₀ u end p₀ tail₀ times left queue p tail =
     end - p
 
+-- ---- the ways back, from a place of the code to an earlier one
+
+abbrev entry2-to-start : tie.After-entry2 Inv-loop μ-loop → tie.Start Inv-loop μ-loop
+entry2-to-start c = c .before .before .before .before .before .before .before .before .before .before
+
+abbrev then2-to-start : tie.Then2 Inv-loop μ-loop → tie.Start Inv-loop μ-loop
+then2-to-start c = entry2-to-start (c .before .before .before .before .before .before .before .before .before)
+
+abbrev queue-to-else1 : tie.After-queue Inv-loop μ-loop → tie.Else1 Inv-loop μ-loop
+queue-to-else1 c = c .before .before .before .before .before .before .before .before .before .before .before .before
+
 entry-requires : tie.Need-entry-requires Inv-loop μ-loop
 entry-requires c κs =
     let pre = c .before .before .before .before .before .before .before .before .pre in
@@ -32,19 +43,19 @@ entry-requires-2 c κs =
 
 add-entry : tie.Need-add-entry Inv-loop μ-loop
 add-entry c =
-    let pre = c .before .before .before .before .before .before .before .before .before .before .pre in
+    let pre = entry2-to-start c .pre in
     let entry = c .before .entry in
     omega (arith, removing-small _ _ _ _ _ (pre .0) (pre .1) (entry .ensures))
 
 entry-requires-3 : tie.Need-entry-requires-3 Inv-loop μ-loop
 entry-requires-3 c κs =
-    let pre = c .before .before .before .before .before .before .before .before .before .before .pre in
+    let pre = entry2-to-start c .pre in
     let entry = c .before .entry in
     omega (arith, removing-small _ _ _ _ _ (pre .0) (pre .1) (entry .ensures), pre .0 .adjacency .long)
 
 loop-holds : tie.Need-loop-holds Inv-loop μ-loop
 loop-holds c =
-    let pre = c .before .before .before .before .before .before .before .before .before .before .before .pre in
+    let pre = entry2-to-start (c .before) .pre in
     let entry = c .before .before .entry in
     let entry2 = c .before .entry2 in
     let entry3 = c .entry3 in
@@ -53,8 +64,7 @@ loop-holds c =
 row-at-requires : tie.Need-row-at-requires Inv-loop μ-loop
 row-at-requires c κs =
     let pre =
-    c .before .before .before .before .before .before .before .before .before .before .before .before
-    .before .pre in
+    entry2-to-start (c .before .before .before) .pre in
     let loop = c .before .loop in
     let loop-test = c .loop-test in
     removing-stands _ _ _ _ _ (pre .0) (loop .inv) (loop-test .taken)
@@ -62,8 +72,7 @@ row-at-requires c κs =
 add-t21 : tie.Need-add-t21 Inv-loop μ-loop
 add-t21 c =
     let pre =
-    c .before .before .before .before .before .before .before .before .before .before .before .before .before
-    .before .before .before .before .pre in
+    entry2-to-start (c .before .before .before .before .before .before .before) .pre in
     omega (arith, head-small _ _ _ _ _ (pre .0) (pre .1))
 
 same-length : tie.Need-same-length Inv-loop μ-loop
@@ -84,8 +93,7 @@ same-length-3 c =
 returns : tie.Need-returns Inv-loop μ-loop
 returns c =
     let pre =
-    c .before .before .before .before .before .before .before .before .before .before .before .before .before
-    .before .before .before .before .pre in
+    entry2-to-start (c .before .before .before .before .before .before .before) .pre in
     let loop = c .before .before .before .before .before .loop in
     let loop-test = c .before .before .before .before .loop-test in
     let row-at = c .before .before .before .row-at in
@@ -95,8 +103,7 @@ returns c =
 add-p : tie.Need-add-p Inv-loop μ-loop
 add-p c =
     let pre =
-    c .before .before .before .before .before .before .before .before .before .before .before .before .before
-    .before .before .before .pre in
+    entry2-to-start (c .before .before .before .before .before .before) .pre in
     let loop = c .before .before .before .before .loop in
     let loop-test = c .before .before .before .loop-test in
     omega (arith, removing-few _ _ _ _ _ (pre .0) (loop .inv) (loop-test .taken))
@@ -104,8 +111,7 @@ add-p c =
 drop-neighbour-requires : tie.Need-drop-neighbour-requires Inv-loop μ-loop
 drop-neighbour-requires c κs =
     let pre =
-    c .before .before .before .before .before .before .before .before .before .before .before .before .before
-    .before .before .before .before .before .before .before .before .before .pre in
+    then2-to-start (c .before .before .before) .pre in
     let loop = c .before .before .before .before .before .before .before .before .before .before .loop in
     let loop-test = c .before .before .before .before .before .before .before .before .before .loop-test in
     let row-at = c .before .before .before .before .before .before .before .before .row-at in
@@ -116,28 +122,21 @@ drop-neighbour-requires c κs =
 loop-less : tie.Need-loop-less Inv-loop μ-loop
 loop-less c =
     let loop-test =
-    c .before .before .before .before .before .before .before .before .before .before .before .before .before
-    .before .before .before .loop-test in
+    queue-to-else1 (c .before) .before .before .before .loop-test in
     omega (arith, loop-test .taken)
 
 loop-again : tie.Need-loop-again Inv-loop μ-loop
 loop-again c =
     let pre =
-    c .before .before .before .before .before .before .before .before .before .before .before .before .before
-    .before .before .before .before .before .before .before .before .before .before .before .before .before .before
-    .before .before .pre in
+    then2-to-start (c .before .before .before .before .before .before .before .before .before .before) .pre in
     let loop =
-    c .before .before .before .before .before .before .before .before .before .before .before .before .before
-    .before .before .before .before .loop in
+    queue-to-else1 (c .before) .before .before .before .before .loop in
     let loop-test =
-    c .before .before .before .before .before .before .before .before .before .before .before .before .before
-    .before .before .before .loop-test in
+    queue-to-else1 (c .before) .before .before .before .loop-test in
     let row-at =
-    c .before .before .before .before .before .before .before .before .before .before .before .before .before
-    .before .before .row-at in
+    queue-to-else1 (c .before) .before .before .row-at in
     let if1 =
-    c .before .before .before .before .before .before .before .before .before .before .before .before
-    .before .if1 in
+    queue-to-else1 (c .before) .if1 in
     let if2 = c .before .before .before .before .before .before .before .before .before .before .if2 in
     let drop-neighbour = c .before .before .before .before .before .before .drop-neighbour in
     removing-drop _ _ _ _ _ (pre .0) (loop .inv) (loop-test .taken) (row-at .ensures) (if1 .left) (if2 .taken)
@@ -151,8 +150,7 @@ loop-less-2 c =
 loop-again-2 : tie.Need-loop-again-2 Inv-loop μ-loop
 loop-again-2 c =
     let pre =
-    c .before .before .before .before .before .before .before .before .before .before .before .before .before
-    .before .before .before .before .before .before .pre in
+    entry2-to-start (c .before .before .before .before .before .before .before .before .before) .pre in
     let loop = c .before .before .before .before .before .before .before .loop in
     let loop-test = c .before .before .before .before .before .before .loop-test in
     let row-at = c .before .before .before .before .before .row-at in
@@ -162,8 +160,7 @@ loop-again-2 c =
 add-t19 : tie.Need-add-t19 Inv-loop μ-loop
 add-t19 c =
     let pre =
-    c .before .before .before .before .before .before .before .before .before .before .before .before .before
-    .before .pre in
+    entry2-to-start (c .before .before .before .before) .pre in
     omega (arith, head-small _ _ _ _ _ (pre .0) (pre .1))
 
 same-length-4 : tie.Need-same-length-4 Inv-loop μ-loop
@@ -184,8 +181,7 @@ same-length-6 c =
 returns-2 : tie.Need-returns-2 Inv-loop μ-loop
 returns-2 c =
     let pre =
-    c .before .before .before .before .before .before .before .before .before .before .before .before .before
-    .before .pre in
+    entry2-to-start (c .before .before .before .before) .pre in
     let loop = c .before .before .loop in
     let loop-test = c .before .loop-test in
     removing-out _ _ _ _ _ (pre .0) (loop .inv) (loop-test .left)

@@ -14,6 +14,38 @@ use Rattle.rings.proofs.peel.remove_queued.Reads as remove-queued-reads
 use Rattle.rings.proofs.pairs.leads.Reads as leads-reads
 use Rattle.rings.proofs.peel.drop_neighbour.Reads as drop-neighbour-reads
 
+-- ---- the ways back, from a place of the code to an earlier one
+
+abbrev entry-to-start : tie.After-entry → tie.Start
+entry-to-start c = c .before .before .before .before .before .before .before .before .before .before .before
+
+abbrev times-to-start : tie.After-times → tie.Start
+times-to-start c =
+    entry-to-start (c .before .before .before .before .before .before .before .before .before .before .before
+    .before)
+
+abbrev queue-to-else3 : tie.After-queue → tie.Else3
+queue-to-else3 c = c .before .before .before .before .before .before .before .before .before
+
+abbrev drop-neighbour-arg6-to-entry2 : tie.After-drop-neighbour-arg6 → tie.After-entry2
+drop-neighbour-arg6-to-entry2 c =
+    c .before .before .before .before .before .before .before .before .before .before .before .before .before
+    .before .before .before .before .before .before
+
+abbrev times2-to-drop-neighbour : tie.After-times2 → tie.After-drop-neighbour
+times2-to-drop-neighbour c = c .before .before .before .before .before .before .before .before .before .before .before
+
+abbrev left2-to-else3 : tie.After-left2 → tie.Else3
+left2-to-else3 c = queue-to-else3 (c .before .before .before .before .before .before .before .before)
+
+abbrev queue2-to-start : tie.After-queue2 → tie.Start
+queue2-to-start c =
+    times-to-start (c .before .before .before .before .before .before .before .before .before .before .before
+    .before .before .before)
+
+abbrev queue2-to-entry2 : tie.After-queue2 → tie.After-entry2
+queue2-to-entry2 c = drop-neighbour-arg6-to-entry2 (c .before .before .before .before .before .before)
+
 sub-j : tie.Need-sub-j
 sub-j c =
     let pre = c .before .before .before .before .before .before .before .pre in
@@ -41,7 +73,7 @@ entry-requires c κs =
 
 entry-requires-2 : tie.Need-entry-requires-2
 entry-requires-2 c κs =
-    let pre = c .before .before .before .before .before .before .before .before .before .before .before .pre in
+    let pre = entry-to-start c .pre in
     omega (arith, remove-row-below _ _ _ _ _ (pre .0) (pre .1), pre .0 .sound .seconds)
 
 entry-requires-3 : tie.Need-entry-requires-3
@@ -49,7 +81,7 @@ entry-requires-3 c κs =
     let entry2 = c .before .entry2 in
     let entry = c .before .before .entry in
     let pre =
-    c .before .before .before .before .before .before .before .before .before .before .before .before .before .pre in
+    entry-to-start (c .before .before) .pre in
     remove-row-accounts _ _ _ _ _ (pre .0) (pre .1) refl (entry .ensures) (entry2 .ensures) .0
 
 same-length : tie.Need-same-length
@@ -60,7 +92,7 @@ returns c =
     let entry3 = c .before .entry3 in
     let entry = c .before .before .before .before .entry in
     let pre =
-    c .before .before .before .before .before .before .before .before .before .before .before .before .before .before .before .pre in
+    entry-to-start (c .before .before .before .before) .pre in
     let if2 = c .if2 in remove-row-a-removed _ _ _ _ _ (pre .0) (pre .1) refl (entry .ensures) (entry3 .ensures) (if2 .taken)
 
 entry-requires-4 : tie.Need-entry-requires-4
@@ -68,7 +100,7 @@ entry-requires-4 c κs =
     let entry2 = c .before .before .before .before .entry2 in
     let entry = c .before .before .before .before .before .entry in
     let pre =
-    c .before .before .before .before .before .before .before .before .before .before .before .before .before .before .before .before .pre in
+    entry-to-start (c .before .before .before .before .before) .pre in
     remove-row-accounts _ _ _ _ _ (pre .0) (pre .1) refl (entry .ensures) (entry2 .ensures) .1
 
 same-length-2 : tie.Need-same-length-2
@@ -79,7 +111,7 @@ returns-2 c =
     let entry4 = c .before .entry4 in
     let entry2 = c .before .before .before .before .before .before .entry2 in
     let pre =
-    c .before .before .before .before .before .before .before .before .before .before .before .before .before .before .before .before .before .before .pre in
+    entry-to-start (c .before .before .before .before .before .before .before) .pre in
     let if3 = c .if3 in remove-row-b-removed _ _ _ _ _ (pre .0) (pre .1) refl (entry2 .ensures) (entry4 .ensures) (if3 .taken)
 
 drop-neighbour-requires : tie.Need-drop-neighbour-requires
@@ -94,7 +126,7 @@ drop-neighbour-requires c κs =
     let leads =
     c .before .before .before .before .before .before .before .before .before .before .before .before .leads in
     let pre =
-    c .before .before .before .before .before .before .before .before .before .before .before .before .before .before .before .before .before .before .before .before .before .pre in
+    entry-to-start (c .before .before .before .before .before .before .before .before .before .before) .pre in
     remove-row-room-a _ _ _ _ _ (pre .0) (pre .1) refl (leads .ensures) (if1 .taken) (entry .ensures) (entry2 .ensures)
     (entry3 .ensures) (entry4 .ensures) (if2 .left) (if3 .left)
 
@@ -102,23 +134,23 @@ drop-neighbour-requires-2 : tie.Need-drop-neighbour-requires-2
 drop-neighbour-requires-2 c κs =
     let drop-neighbour = c .before .before .before .before .before .before .before .before .before .drop-neighbour in
     let if3 =
-    c .before .before .before .before .before .before .before .before .before .before .before .before .before .if3 in
+    queue-to-else3 (c .before .before .before .before) .if3 in
     let entry4 =
-    c .before .before .before .before .before .before .before .before .before .before .before .before .before .before .entry4 in
+    queue-to-else3 (c .before .before .before .before) .before .entry4 in
     let if2 =
-    c .before .before .before .before .before .before .before .before .before .before .before .before .before .before .before .before .if2 in
+    queue-to-else3 (c .before .before .before .before) .before .before .before .if2 in
     let entry3 =
-    c .before .before .before .before .before .before .before .before .before .before .before .before .before .before .before .before .before .entry3 in
+    queue-to-else3 (c .before .before .before .before) .before .before .before .before .entry3 in
     let entry2 =
-    c .before .before .before .before .before .before .before .before .before .before .before .before .before .before .before .before .before .before .before .entry2 in
+    drop-neighbour-arg6-to-entry2 c .entry2 in
     let entry =
-    c .before .before .before .before .before .before .before .before .before .before .before .before .before .before .before .before .before .before .before .before .entry in
+    drop-neighbour-arg6-to-entry2 c .before .entry in
     let if1 =
-    c .before .before .before .before .before .before .before .before .before .before .before .before .before .before .before .before .before .before .before .before .before .if1 in
+    drop-neighbour-arg6-to-entry2 c .before .before .if1 in
     let leads =
-    c .before .before .before .before .before .before .before .before .before .before .before .before .before .before .before .before .before .before .before .before .before .before .leads in
+    drop-neighbour-arg6-to-entry2 c .before .before .before .leads in
     let pre =
-    c .before .before .before .before .before .before .before .before .before .before .before .before .before .before .before .before .before .before .before .before .before .before .before .before .before .before .before .before .before .before .before .pre in
+    times-to-start (c .before .before .before .before .before .before .before .before) .pre in
     remove-row-room-b _ _ _ _ _ (pre .0) (pre .1) refl (leads .ensures) (if1 .taken) (entry .ensures) (entry2 .ensures)
     (entry3 .ensures) (entry4 .ensures) (if2 .left) (if3 .left) (drop-neighbour .ensures)
 
@@ -126,25 +158,25 @@ remove-queued-requires : tie.Need-remove-queued-requires
 remove-queued-requires c κs =
     let drop-neighbour2 = c .before .before .before .before .before .before .before .before .before .drop-neighbour2 in
     let drop-neighbour =
-    c .before .before .before .before .before .before .before .before .before .before .before .before .before .before .before .before .before .before .before .drop-neighbour in
+    times2-to-drop-neighbour (c .before .before .before .before .before .before .before .before) .drop-neighbour in
     let if3 =
-    c .before .before .before .before .before .before .before .before .before .before .before .before .before .before .before .before .before .before .before .before .before .before .before .if3 in
+    left2-to-else3 (c .before .before .before .before .before .before) .if3 in
     let entry4 =
-    c .before .before .before .before .before .before .before .before .before .before .before .before .before .before .before .before .before .before .before .before .before .before .before .before .entry4 in
+    left2-to-else3 (c .before .before .before .before .before .before) .before .entry4 in
     let if2 =
-    c .before .before .before .before .before .before .before .before .before .before .before .before .before .before .before .before .before .before .before .before .before .before .before .before .before .before .if2 in
+    left2-to-else3 (c .before .before .before .before .before .before) .before .before .before .if2 in
     let entry3 =
-    c .before .before .before .before .before .before .before .before .before .before .before .before .before .before .before .before .before .before .before .before .before .before .before .before .before .before .before .entry3 in
+    left2-to-else3 (c .before .before .before .before .before .before) .before .before .before .before .entry3 in
     let entry2 =
-    c .before .before .before .before .before .before .before .before .before .before .before .before .before .before .before .before .before .before .before .before .before .before .before .before .before .before .before .before .before .entry2 in
+    queue2-to-entry2 (c .before .before .before .before) .entry2 in
     let entry =
-    c .before .before .before .before .before .before .before .before .before .before .before .before .before .before .before .before .before .before .before .before .before .before .before .before .before .before .before .before .before .before .entry in
+    queue2-to-entry2 (c .before .before .before .before) .before .entry in
     let if1 =
-    c .before .before .before .before .before .before .before .before .before .before .before .before .before .before .before .before .before .before .before .before .before .before .before .before .before .before .before .before .before .before .before .if1 in
+    queue2-to-entry2 (c .before .before .before .before) .before .before .if1 in
     let leads =
-    c .before .before .before .before .before .before .before .before .before .before .before .before .before .before .before .before .before .before .before .before .before .before .before .before .before .before .before .before .before .before .before .before .leads in
+    queue2-to-entry2 (c .before .before .before .before) .before .before .before .leads in
     let pre =
-    c .before .before .before .before .before .before .before .before .before .before .before .before .before .before .before .before .before .before .before .before .before .before .before .before .before .before .before .before .before .before .before .before .before .before .before .before .before .before .before .before .before .pre in (
+    queue2-to-start (c .before .before .before .before) .pre in (
       pre .0,
       remove-row-now _ _ _ _ _ (pre .0) (pre .1) refl (leads .ensures) (if1 .taken) (entry .ensures) (entry2 .ensures)
           (entry3 .ensures) (entry4 .ensures) (if2 .left) (if3 .left) (drop-neighbour .ensures) (drop-neighbour2 .ensures),
@@ -162,7 +194,7 @@ same-length-5 c = search needs
 returns-3 : tie.Need-returns-3
 returns-3 c =
     let remove-queued = c .before .before .before .before .before .before .remove-queued in
-    let pre = c .before .before .before .before .before .before .before .before .before .before .before .before .before .before .before .before .before .before .before .before .before .before .before .before .before .before .before .before .before .before .before .before .before .before .before .before .before .before .before .before .before .before .before .before .before .before .before .before .pre in
+    let pre = queue2-to-start (c .before .before .before .before .before .before .before .before .before .before .before) .pre in
     remove-row-left _ _ _ _ _ (pre .0) (pre .1) refl refl refl (remove-queued .ensures)
 
 returns-4 : tie.Need-returns-4

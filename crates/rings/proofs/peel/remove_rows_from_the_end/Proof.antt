@@ -16,6 +16,11 @@ Inv-loop days first second scratch frame times₀ left₀ queue₀ end₀ tail�
 abbrev μ-loop : tie.MeasureT-loop
 μ-loop days first second scratch frame times₀ left₀ queue₀ end₀ tail₀ times left queue end tail = end
 
+-- ---- the ways back, from a place of the code to an earlier one
+
+abbrev then1-to-start : tie.Then1 Inv-loop μ-loop → tie.Start Inv-loop μ-loop
+then1-to-start c = c .before .before .before .before .before .before .before .before .before .before
+
 loop-holds : tie.Need-loop-holds Inv-loop μ-loop
 loop-holds c =
     let pre = c .before .before .before .before .before .before .before .pre in
@@ -25,7 +30,7 @@ remove-row-requires : tie.Need-remove-row-requires Inv-loop μ-loop
 remove-row-requires c κs =
     let if1 = c .before .before .before .if1 in
     let loop = c .before .before .before .before .before .loop in
-    let pre = c .before .before .before .before .before .before .before .before .before .before .before .before .before .pre in
+    let pre = then1-to-start (c .before .before .before) .pre in
     (pre .0, record { rows-removed = loop .inv .rows-removed; some = if1 .taken })
 
 loop-less : tie.Need-loop-less Inv-loop μ-loop
@@ -37,7 +42,7 @@ loop-again : tie.Need-loop-again Inv-loop μ-loop
 loop-again c =
     let remove-row = c .before .before .before .before .before .before .remove-row in
     let loop = c .before .before .before .before .before .before .before .before .before .before .before .before .loop in
-    let pre = c .before .before .before .before .before .before .before .before .before .before .before .before .before .before .before .before .before .before .before .before .pre in
+    let pre = then1-to-start (c .before .before .before .before .before .before .before .before .before .before) .pre in
     removing-rows-next _ _ _ _ _ (pre .0) (loop .inv) (remove-row .kept .1 .1 .1 .1 .1 .1 .1 .0) (remove-row .kept .1 .1 .1 .1 .1 .1 .1 .1 .0)
     (remove-row .kept .1 .1 .1 .1 .1 .1 .1 .1 .1 .0) (remove-row .ensures)
 

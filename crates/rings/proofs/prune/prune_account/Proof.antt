@@ -29,6 +29,17 @@ Inv-loop days first second scratch₀ times u last p₀ end₀ scratch p end = H
 abbrev μ-loop : tie.MeasureT-loop
 μ-loop days first second scratch₀ times u last p₀ end₀ scratch p end = last - p
 
+-- ---- the ways back, from a place of the code to an earlier one
+
+abbrev loop-to-start : tie.At-loop Inv-loop μ-loop → tie.Start Inv-loop μ-loop
+loop-to-start c = c .before .before .before .before .before .before .before .before .before .before
+
+abbrev wide-to-start : tie.After-wide Inv-loop μ-loop → tie.Start Inv-loop μ-loop
+wide-to-start c = loop-to-start (c .before .before .before .before .before .before .before .before .before .before)
+
+abbrev wide-to-in-loop : tie.After-wide Inv-loop μ-loop → tie.In-loop Inv-loop μ-loop
+wide-to-in-loop c = c .before .before .before .before .before .before .before .before .before
+
 entry-requires : tie.Need-entry-requires Inv-loop μ-loop
 entry-requires c κs =
     let pre = c .before .before .before .before .before .before .pre in
@@ -55,7 +66,7 @@ loop-holds c =
 
 row-at-requires : tie.Need-row-at-requires Inv-loop μ-loop
 row-at-requires c κs =
-    let pre = c .before .before .before .before .before .before .before .before .before .before .before .before .pre in
+    let pre = loop-to-start (c .before .before) .pre in
     let loop = c .before .before .loop in
     let loop-test = c .before .loop-test in
     pruning-stands (pre .sound) (pre .pruned) (pre .account) (loop .inv .pruning) (omega (arith, loop .inv .cursor, loop-test .taken))
@@ -68,18 +79,18 @@ mul-timed c =
 shared-slice-read-timed : tie.Need-shared-slice-read-timed Inv-loop μ-loop
 shared-slice-read-timed c =
     let row-at = c .before .row-at in
-    let pre = c .before .before .before .before .before .before .before .before .before .before .before .before .before .before .pre in
+    let pre = loop-to-start (c .before .before .before .before) .pre in
     omega (arith, row-at .ensures .small, pre .times)
 
 add-put : tie.Need-add-put Inv-loop μ-loop
 add-put c =
-    let pre = c .before .before .before .before .before .before .before .before .before .before .before .before .before .before .before .pre in
+    let pre = loop-to-start (c .before .before .before .before .before) .pre in
     let loop = c .before .before .before .before .before .loop in
     omega (arith, pruning-few (pre .pruned) (pre .account) (loop .inv .pruning) (pre .sound .most))
 
 put-requires : tie.Need-put-requires Inv-loop μ-loop
 put-requires c κs =
-    let pre = c .before .before .before .before .before .before .before .before .before .before .before .before .before .before .before .pre in
+    let pre = loop-to-start (c .before .before .before .before .before) .pre in
     let loop = c .before .before .before .before .before .loop in
     let loop-test = c .before .before .before .before .loop-test in
     let row-at = c .before .before .row-at in
@@ -98,9 +109,8 @@ wide-requires c κs = search needs
 add-end : tie.Need-add-end Inv-loop μ-loop
 add-end c =
     let pre =
-    c .before .before .before .before .before .before .before .before .before .before .before .before .before .before
-    .before .before .before .before .before .before .pre in
-    let loop = c .before .before .before .before .before .before .before .before .before .before .loop in
+    wide-to-start c .pre in
+    let loop = wide-to-in-loop c .before .loop in
     let wide = c .wide in
     let one = c .before .one in
     omega (arith, pruning-few (pre .pruned) (pre .account) (loop .inv .pruning) (pre .sound .most), wide .ensures, picked-most (one .ensures))
@@ -108,30 +118,27 @@ add-end c =
 add-p : tie.Need-add-p Inv-loop μ-loop
 add-p c =
     let pre =
-    c .before .before .before .before .before .before .before .before .before .before .before .before .before .before
-    .before .before .before .before .before .before .pre in
-    let loop = c .before .before .before .before .before .before .before .before .before .before .loop in
+    wide-to-start c .pre in
+    let loop = wide-to-in-loop c .before .loop in
     omega (arith, pruning-few (pre .pruned) (pre .account) (loop .inv .pruning) (pre .sound .most))
 
 loop-less : tie.Need-loop-less Inv-loop μ-loop
 loop-less c =
-    let loop-test = c .before .before .before .before .before .before .before .before .before .loop-test in
+    let loop-test = wide-to-in-loop c .loop-test in
     omega (arith, loop-test .taken)
 
 loop-again : tie.Need-loop-again Inv-loop μ-loop
 loop-again c =
-    let loop = c .before .before .before .before .before .before .before .before .before .before .loop in
+    let loop = wide-to-in-loop c .before .loop in
     let pre =
-    c .before .before .before .before .before .before .before .before .before .before .before .before .before .before
-    .before .before .before .before .before .before .pre in
-    let loop-test = c .before .before .before .before .before .before .before .before .before .loop-test in
+    wide-to-start c .pre in
+    let loop-test = wide-to-in-loop c .loop-test in
     let row-at = c .before .before .before .before .before .before .before .row-at in
     let put = c .before .before .before .before .put in
     let wide = c .wide in
     let one = c .before .one in
     let args =
-    c .before .before .before .before .before .before .before .before .before .before .before .before .before .before
-    .before .before .before .before .before .before .args in
+    wide-to-start c .args in
     record {
       cursor = loop .inv .cursor;
       pruning = pruning-next (pre .pruned) (pre .account) (loop .inv .pruning) (omega (arith, loop .inv .cursor, loop-test .taken)) (row-at .ensures .row) (put .ensures)
@@ -142,7 +149,7 @@ loop-again c =
 put-requires-2 : tie.Need-put-requires-2 Inv-loop μ-loop
 put-requires-2 c κs =
     let loop = c .before .before .loop in
-    let pre = c .before .before .before .before .before .before .before .before .before .before .before .before .pre in
+    let pre = loop-to-start (c .before .before) .pre in
     record {
       place = omega (arith, loop .inv .pruning .long, pre .pruned .long, pre .account);
       number = omega (arith, pruning-few (pre .pruned) (pre .account) (loop .inv .pruning) (pre .sound .most));
@@ -150,7 +157,7 @@ put-requires-2 c κs =
 
 same-length : tie.Need-same-length Inv-loop μ-loop
 same-length c =
-    let pre = c .before .before .before .before .before .before .before .before .before .before .before .before .before .before .before .pre in
+    let pre = loop-to-start (c .before .before .before .before .before) .pre in
     let loop = c .before .before .before .before .before .loop in
     let loop-test = c .before .before .before .before .loop-test in
     let put2 = c .before .before .put2 in
@@ -158,7 +165,7 @@ same-length c =
 
 returns : tie.Need-returns Inv-loop μ-loop
 returns c =
-    let pre = c .before .before .before .before .before .before .before .before .before .before .before .before .before .before .before .pre in
+    let pre = loop-to-start (c .before .before .before .before .before) .pre in
     let loop = c .before .before .before .before .before .loop in
     let loop-test = c .before .before .before .before .loop-test in
     let put2 = c .before .before .put2 in

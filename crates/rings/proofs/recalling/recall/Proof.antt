@@ -12,6 +12,11 @@ use Rattle.rings.proofs.recalling.check_recall.Reads as check-recall-re
 use Rattle.rings.proofs.recalling.clear_marks.Reads as clear-marks-reads
 use Rattle.rings.proofs.recalling.mark_entries.Reads as mark-entries-reads
 
+-- ---- the ways back, from a place of the code to an earlier one
+
+abbrev enum-told-to-start : tie.After-enum-told → tie.Start
+enum-told-to-start c = c .before .before .before .before .before .before .before .before .before .before
+
 check-recall-requires : tie.Need-check-recall-requires
 check-recall-requires c κs = search needs
 
@@ -36,7 +41,7 @@ mark-entries-requires c κs =
     let clear-marks = c .before .before .before .clear-marks in
     let enum-told = c .before .before .before .before .before .enum-told in
     let check-recall = c .before .before .before .before .before .before .before .check-recall in
-    let args = c .before .before .before .before .before .before .before .before .before .before .before .before .before .before .before .args in
+    let args = enum-told-to-start (c .before .before .before .before .before) .args in
     marks-ready (args .days .now) (args .first .now) (args .second .now) (args .rows .now) (args .starts .now)
     (args .ends .now) (args .s) (args .e) (args .marks .now) (sym (enum-told .given .1) ∙ check-recall .ensures)
     (clear-marks .ensures)
@@ -52,8 +57,7 @@ returns-2 c =
     let enum-told = c .before .before .before .before .before .before .before .before .enum-told in
     let check-recall = c .before .before .before .before .before .before .before .before .before .before .check-recall in
     let args =
-    c .before .before .before .before .before .before .before .before .before .before .before .before .before .before
-    .before .before .before .before .args in (
+    enum-told-to-start (c .before .before .before .before .before .before .before .before) .args in (
       sym (enum-told .given .1) ∙ check-recall .ensures,
       marks-right (args .days .now) (args .first .now) (args .second .now) (args .rows .now) (args .starts .now)
           (args .ends .now) (args .s) (args .e) (args .marks .now) (sym (enum-told .given .1) ∙ check-recall .ensures)

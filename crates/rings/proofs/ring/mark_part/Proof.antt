@@ -15,6 +15,11 @@ use Rattle.rings.proofs.adjacency.prepare_adjacency.Reads as prepare-ad
 use Rattle.rings.proofs.peel.core.Reads as core-reads
 use Rattle.rings.proofs.ring.mark_rows.Reads as mark-rows-reads
 
+-- ---- the ways back, from a place of the code to an earlier one
+
+abbrev times-to-start : tie.After-times → tie.Start
+times-to-start c = c .before .before .before .before .before .before .before .before .before .before .before
+
 prepare-adjacency-requires : tie.Need-prepare-adjacency-requires
 prepare-adjacency-requires c κs = search needs
 
@@ -31,8 +36,7 @@ core-requires : tie.Need-core-requires
 core-requires c κs =
     let prepare-adjacency = c .before .before .before .before .before .before .prepare-adjacency in
     let pre =
-    c .before .before .before .before .before .before .before .before .before .before .before .before
-    .before .pre in
+    times-to-start (c .before .before) .pre in
     let whole = pre .0 in
     let asked = whole .asked in (
       ready-of (whole .sound) (adjacency-later (prepare-adjacency .ensures) (omega (arith, whole .from))) (asked .some-k)
@@ -49,8 +53,7 @@ mark-rows-requires c κs =
     let prepare-adjacency =
     c .before .before .before .before .before .before .before .before .before .before .before .before .prepare-adjacency in
     let pre =
-    c .before .before .before .before .before .before .before .before .before .before .before .before .before
-    .before .before .before .before .before .before .pre in
+    times-to-start (c .before .before .before .before .before .before .before .before) .pre in
     let whole = pre .0 in
     let asked = whole .asked in (
       whole,

@@ -16,6 +16,21 @@ use Rattle.rings.proofs.recalling.clear_marks.Reads as clear-marks-read
 use Rattle.rings.proofs.ring.mark_part.Reads as mark-part-reads
 use Rattle.rings.proofs.table.rows_before.Reads as rows-before-reads
 
+-- ---- the ways back, from a place of the code to an earlier one
+
+abbrev marks-to-start : tie.After-marks → tie.Start
+marks-to-start c = c .before .before .before .before .before .before .before .before .before .before
+
+abbrev mark-part-arg2-to-start : tie.After-mark-part-arg2 → tie.Start
+mark-part-arg2-to-start c = marks-to-start (c .before .before .before)
+
+abbrev scratch-to-clear-marks : tie.After-scratch → tie.After-clear-marks
+scratch-to-clear-marks c = c .before .before .before .before .before .before .before .before .before .before .before
+
+abbrev clear-to-start : tie.After-clear → tie.Start
+clear-to-start c =
+    mark-part-arg2-to-start (c .before .before .before .before .before .before .before .before .before .before)
+
 rows-before-requires : tie.Need-rows-before-requires
 rows-before-requires c κs = search needs
 
@@ -48,7 +63,7 @@ sub-mark-part : tie.Need-sub-mark-part
 sub-mark-part c =
     let rows-before2 = c .before .before .before .before .rows-before2 in
     let rows-before = c .before .before .before .before .before .rows-before in
-    let pre = c .before .before .before .before .before .before .before .before .before .before .before .pre in
+    let pre = marks-to-start (c .before) .pre in
     let asked = pre .1 .0 in
     span-of (asked .ordered) (rows-before .ensures) (rows-before2 .ensures) .ordered
 
@@ -56,7 +71,7 @@ part-mark-part-start : tie.Need-part-mark-part-start
 part-mark-part-start c =
     let rows-before2 = c .before .before .before .before .rows-before2 in
     let rows-before = c .before .before .before .before .before .rows-before in
-    let pre = c .before .before .before .before .before .before .before .before .before .before .before .pre in
+    let pre = marks-to-start (c .before) .pre in
     let asked = pre .1 .0 in
     span-of (asked .ordered) (rows-before .ensures) (rows-before2 .ensures) .ordered
 
@@ -70,7 +85,7 @@ sub-mark-part-2 : tie.Need-sub-mark-part-2
 sub-mark-part-2 c =
     let rows-before2 = c .before .before .before .before .before .rows-before2 in
     let rows-before = c .before .before .before .before .before .before .rows-before in
-    let pre = c .before .before .before .before .before .before .before .before .before .before .before .before .pre in
+    let pre = marks-to-start (c .before .before) .pre in
     let asked = pre .1 .0 in
     span-of (asked .ordered) (rows-before .ensures) (rows-before2 .ensures) .ordered
 
@@ -78,7 +93,7 @@ part-mark-part-start-2 : tie.Need-part-mark-part-start-2
 part-mark-part-start-2 c =
     let rows-before2 = c .before .before .before .before .before .rows-before2 in
     let rows-before = c .before .before .before .before .before .before .rows-before in
-    let pre = c .before .before .before .before .before .before .before .before .before .before .before .before .pre in
+    let pre = marks-to-start (c .before .before) .pre in
     let asked = pre .1 .0 in
     span-of (asked .ordered) (rows-before .ensures) (rows-before2 .ensures) .ordered
 
@@ -93,8 +108,7 @@ sub-mark-part-3 c =
     let rows-before2 = c .before .before .before .before .before .before .rows-before2 in
     let rows-before = c .before .before .before .before .before .before .before .rows-before in
     let pre =
-    c .before .before .before .before .before .before .before .before .before .before .before .before
-    .before .pre in
+    mark-part-arg2-to-start c .pre in
     let asked = pre .1 .0 in
     span-of (asked .ordered) (rows-before .ensures) (rows-before2 .ensures) .ordered
 
@@ -103,8 +117,7 @@ part-mark-part-start-3 c =
     let rows-before2 = c .before .before .before .before .before .before .rows-before2 in
     let rows-before = c .before .before .before .before .before .before .before .rows-before in
     let pre =
-    c .before .before .before .before .before .before .before .before .before .before .before .before
-    .before .pre in
+    mark-part-arg2-to-start c .pre in
     let asked = pre .1 .0 in
     span-of (asked .ordered) (rows-before .ensures) (rows-before2 .ensures) .ordered
 
@@ -116,8 +129,7 @@ sub-mark-part-4 c =
     let rows-before2 = c .before .before .before .before .before .before .before .rows-before2 in
     let rows-before = c .before .before .before .before .before .before .before .before .rows-before in
     let pre =
-    c .before .before .before .before .before .before .before .before .before .before .before .before .before
-    .before .pre in
+    mark-part-arg2-to-start (c .before) .pre in
     let asked = pre .1 .0 in
     span-of (asked .ordered) (rows-before .ensures) (rows-before2 .ensures) .ordered
 
@@ -126,8 +138,7 @@ part-mark-part-start-4 c =
     let rows-before2 = c .before .before .before .before .before .before .before .rows-before2 in
     let rows-before = c .before .before .before .before .before .before .before .before .rows-before in
     let pre =
-    c .before .before .before .before .before .before .before .before .before .before .before .before .before
-    .before .pre in
+    mark-part-arg2-to-start (c .before) .pre in
     let asked = pre .1 .0 in
     span-of (asked .ordered) (rows-before .ensures) (rows-before2 .ensures) .ordered
 
@@ -142,11 +153,9 @@ slice-aggregate-mark-part c =
     let rows-before2 = c .before .before .before .before .before .before .before .before .before .rows-before2 in
     let rows-before = c .before .before .before .before .before .before .before .before .before .before .rows-before in
     let args =
-    c .before .before .before .before .before .before .before .before .before .before .before .before .before
-    .before .before .before .args in
+    mark-part-arg2-to-start (c .before .before .before) .args in
     let pre =
-    c .before .before .before .before .before .before .before .before .before .before .before .before .before
-    .before .before .before .pre in
+    mark-part-arg2-to-start (c .before .before .before) .pre in
     let asked = pre .1 .0 in
     let buffers = pre .1 .1 in
     let a = args in
@@ -159,11 +168,9 @@ mark-part-requires c κs =
     let rows-before2 = c .before .before .before .before .before .before .before .before .before .rows-before2 in
     let rows-before = c .before .before .before .before .before .before .before .before .before .before .rows-before in
     let args =
-    c .before .before .before .before .before .before .before .before .before .before .before .before .before
-    .before .before .before .args in
+    mark-part-arg2-to-start (c .before .before .before) .args in
     let pre =
-    c .before .before .before .before .before .before .before .before .before .before .before .before .before
-    .before .before .before .pre in
+    mark-part-arg2-to-start (c .before .before .before) .pre in
     let sound = pre .0 in
     let asked = pre .1 .0 in
     let buffers = pre .1 .1 in
@@ -203,20 +210,15 @@ returns c =
     let scratch = c .before .before .before .before .before .scratch in
     let mark-part = c .before .before .before .before .before .before .before .before .mark-part in
     let clear-marks =
-    c .before .before .before .before .before .before .before .before .before .before .before .before .before
-    .before .before .before .clear-marks in
+    scratch-to-clear-marks (c .before .before .before .before .before) .clear-marks in
     let rows-before2 =
-    c .before .before .before .before .before .before .before .before .before .before .before .before .before
-    .before .before .before .before .before .rows-before2 in
+    scratch-to-clear-marks (c .before .before .before .before .before) .before .before .rows-before2 in
     let rows-before =
-    c .before .before .before .before .before .before .before .before .before .before .before .before .before
-    .before .before .before .before .before .before .rows-before in
+    scratch-to-clear-marks (c .before .before .before .before .before) .before .before .before .rows-before in
     let args =
-    c .before .before .before .before .before .before .before .before .before .before .before .before .before
-    .before .before .before .before .before .before .before .before .before .before .before .before .args in
+    clear-to-start (c .before .before) .args in
     let pre =
-    c .before .before .before .before .before .before .before .before .before .before .before .before .before
-    .before .before .before .before .before .before .before .before .before .before .before .before .pre in
+    clear-to-start (c .before .before) .pre in
     let asked = pre .1 .0 in
     let buffers = pre .1 .1 in
     let a = args in

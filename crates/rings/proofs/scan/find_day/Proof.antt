@@ -19,6 +19,14 @@ Inv-loop days first second scratch frame times scan walked₀ c₀ walked c = Sh
 abbrev μ-loop : tie.MeasureT-loop
 μ-loop days first second scratch frame times scan walked₀ c₀ walked c = 65535 - c
 
+-- ---- the ways back, from a place of the code to an earlier one
+
+abbrev else1-to-start : tie.Else1 Inv-loop μ-loop → tie.Start Inv-loop μ-loop
+else1-to-start c = c .before .before .before .before .before .before .before .before .before
+
+abbrev else3-to-scan-on-day : tie.Else3 Inv-loop μ-loop → tie.After-scan-on-day Inv-loop μ-loop
+else3-to-scan-on-day c = c .before .before .before .before .before
+
 loop-holds : tie.Need-loop-holds Inv-loop μ-loop
 loop-holds c =
     let pre = c .before .before .before .before .before .pre in
@@ -31,7 +39,7 @@ scan-on-day-requires : tie.Need-scan-on-day-requires Inv-loop μ-loop
 scan-on-day-requires c κs =
     let loop-test = c .before .before .loop-test in
     let loop = c .before .before .before .loop in
-    let pre = c .before .before .before .before .before .before .before .before .before .pre in
+    let pre = else1-to-start c .pre in
     record {
       lent = record {
         opened = pre .lent .opened;
@@ -48,12 +56,12 @@ add-walked : tie.Need-add-walked Inv-loop μ-loop
 add-walked c =
     let scan-on-day = c .before .scan-on-day in
     let if1 = c .before .before .if1 in
-    let pre = c .before .before .before .before .before .before .before .before .before .before .before .pre in
+    let pre = else1-to-start (c .before .before) .pre in
     omega (arith, scan-on-day .ensures .short-walk, if1 .left, pre .bounded)
 
 add-t16 : tie.Need-add-t16 Inv-loop μ-loop
 add-t16 c =
-    let scan-on-day = c .before .before .before .before .before .before .before .before .scan-on-day in
+    let scan-on-day = else3-to-scan-on-day (c .before .before .before) .scan-on-day in
     omega (arith, scan-on-day .ensures .few)
 
 sub-t17 : tie.Need-sub-t17 Inv-loop μ-loop
@@ -68,7 +76,7 @@ returns-2 c =
     let if1 = c .before .before .before .before .before .before .before .if1 in
     let loop-test = c .before .before .before .before .before .before .before .before .before .loop-test in
     let loop = c .before .before .before .before .before .before .before .before .before .before .loop in
-    let pre = c .before .before .before .before .before .before .before .before .before .before .before .before .before .before .before .before .pre in
+    let pre = else1-to-start (c .before .before .before .before .before .before .before) .pre in
     record {
       day-found = find-day-found _ _ _ _ _ (pre .lent .opened .setting) _ (loop .inv .0 .fewer) (loop .inv .0 .from) (scan-on-day .ensures .scanned)
           (if2 .taken) (⊎-elim (λ h. h) (λ h. absurd (omega (arith, h, loop-test .taken))) (loop .inv .0 .day)) refl;
@@ -81,7 +89,7 @@ returns-3 c =
     let scan-on-day = c .before .before .before .before .before .scan-on-day in
     let if1 = c .before .before .before .before .before .before .if1 in
     let loop = c .before .before .before .before .before .before .before .before .before .loop in
-    let pre = c .before .before .before .before .before .before .before .before .before .before .before .before .before .before .before .pre in
+    let pre = else1-to-start (c .before .before .before .before .before .before) .pre in
     record {
       day-found = find-day-never _ _ _ _ _ (pre .lent .opened .setting) _
           (short-next _ _ _ _ _ (pre .lent .opened .setting) _ (loop .inv .0) (scan-on-day .ensures .scanned) (if2 .left) .fewer)
@@ -92,7 +100,7 @@ returns-3 c =
 
 add-both : tie.Need-add-both Inv-loop μ-loop
 add-both c =
-    let scan-on-day = c .before .before .before .before .before .before .scan-on-day in
+    let scan-on-day = else3-to-scan-on-day (c .before) .scan-on-day in
     omega (arith, scan-on-day .ensures .few)
 
 add-t14 : tie.Need-add-t14 Inv-loop μ-loop
@@ -109,10 +117,10 @@ returns-4 : tie.Need-returns-4 Inv-loop μ-loop
 returns-4 c =
     let if3 = c .before .before .before .before .if3 in
     let if2 = c .before .before .before .before .before .if2 in
-    let scan-on-day = c .before .before .before .before .before .before .before .before .before .scan-on-day in
-    let if1 = c .before .before .before .before .before .before .before .before .before .before .if1 in
-    let loop = c .before .before .before .before .before .before .before .before .before .before .before .before .before .loop in
-    let pre = c .before .before .before .before .before .before .before .before .before .before .before .before .before .before .before .before .before .before .before .pre in
+    let scan-on-day = else3-to-scan-on-day (c .before .before .before .before) .scan-on-day in
+    let if1 = else3-to-scan-on-day (c .before .before .before .before) .before .if1 in
+    let loop = else3-to-scan-on-day (c .before .before .before .before) .before .before .before .before .loop in
+    let pre = else1-to-start (c .before .before .before .before .before .before .before .before .before .before) .pre in
     record {
       day-found = find-day-then _ _ _ _ _ (pre .lent .opened .setting) _ (loop .inv .0 .fewer) (loop .inv .0 .from) (scan-on-day .ensures .scanned)
           (if2 .left) (if3 .left) (c .before .if4 .taken) refl;
@@ -122,10 +130,10 @@ returns-4 c =
 loop-less : tie.Need-loop-less Inv-loop μ-loop
 loop-less c =
     let if2 = c .before .before .before .before .if2 in
-    let scan-on-day = c .before .before .before .before .before .before .before .before .scan-on-day in
-    let loop-test = c .before .before .before .before .before .before .before .before .before .before .before .loop-test in
-    let loop = c .before .before .before .before .before .before .before .before .before .before .before .before .loop in
-    let pre = c .before .before .before .before .before .before .before .before .before .before .before .before .before .before .before .before .before .before .pre in
+    let scan-on-day = else3-to-scan-on-day (c .before .before .before) .scan-on-day in
+    let loop-test = else3-to-scan-on-day (c .before .before .before) .before .before .before .loop-test in
+    let loop = else3-to-scan-on-day (c .before .before .before) .before .before .before .before .loop in
+    let pre = else1-to-start (c .before .before .before .before .before .before .before .before .before) .pre in
     omega (
       arith,
       find-day-next _ _ _ _ _ (pre .lent .opened .setting) _ (loop .inv .0 .fewer) (scan-on-day .ensures .scanned) (if2 .left) .1,
@@ -135,10 +143,10 @@ loop-less c =
 loop-again : tie.Need-loop-again Inv-loop μ-loop
 loop-again c =
     let if2 = c .before .before .before .before .if2 in
-    let scan-on-day = c .before .before .before .before .before .before .before .before .scan-on-day in
-    let if1 = c .before .before .before .before .before .before .before .before .before .if1 in
-    let loop = c .before .before .before .before .before .before .before .before .before .before .before .before .loop in
-    let pre = c .before .before .before .before .before .before .before .before .before .before .before .before .before .before .before .before .before .before .pre in (
+    let scan-on-day = else3-to-scan-on-day (c .before .before .before) .scan-on-day in
+    let if1 = else3-to-scan-on-day (c .before .before .before) .before .if1 in
+    let loop = else3-to-scan-on-day (c .before .before .before) .before .before .before .before .loop in
+    let pre = else1-to-start (c .before .before .before .before .before .before .before .before .before) .pre in (
       short-next _ _ _ _ _ (pre .lent .opened .setting) _ (loop .inv .0) (scan-on-day .ensures .scanned) (if2 .left),
       omega (arith, scan-on-day .ensures .short-walk, if1 .left),
     )

@@ -14,6 +14,16 @@ use Rattle.rings.proofs.settle.peel_start.Reads as peel-start-reads
 use Rattle.rings.proofs.settle.list_all.Reads as list-all-reads
 use Rattle.rings.proofs.settle.step.Reads as step-reads
 
+-- ---- the ways back, from a place of the code to an earlier one
+
+abbrev next-frame-to-start : tie.After-next-frame → tie.Start
+next-frame-to-start c =
+    c .before .before .before .before .before .before .before .before .before .before .before .before .before
+    .before .before .before .before .before .before .before .before .before
+
+abbrev next-frame-to-step : tie.After-next-frame → tie.After-step
+next-frame-to-step c = c .before .before .before .before .before .before .before .before .before .before
+
 slice-aggregate-step : tie.Need-slice-aggregate-step
 slice-aggregate-step c = search needs
 
@@ -47,8 +57,8 @@ next-frame-requires c κs = search needs
 peel-start-requires : tie.Need-peel-start-requires
 peel-start-requires c κs =
     let next = c .before .before .before .next-frame in
-    let step = c .before .before .before .before .before .before .before .before .before .before .before .before .before .step in
-    let pre = c .before .before .before .before .before .before .before .before .before .before .before .before .before .before .before .before .before .before .before .before .before .before .before .before .before .pre in
+    let step = next-frame-to-step (c .before .before .before) .step in
+    let pre = next-frame-to-start (c .before .before .before) .pre in
     rw (next .ensures) (
     record {
       ready = pre .ready;
@@ -62,8 +72,8 @@ peel-start-requires c κs =
 list-all-requires : tie.Need-list-all-requires
 list-all-requires c κs =
     let peel-start = c .before .before .before .before .before .before .before .peel-start in
-    let step = c .before .before .before .before .before .before .before .before .before .before .before .before .before .before .before .before .before .before .before .before .before .step in
-    let pre = c .before .before .before .before .before .before .before .before .before .before .before .before .before .before .before .before .before .before .before .before .before .before .before .before .before .before .before .before .before .before .before .before .before .pre in
+    let step = next-frame-to-step (c .before .before .before .before .before .before .before .before .before .before .before) .step in
+    let pre = next-frame-to-start (c .before .before .before .before .before .before .before .before .before .before .before) .pre in
     peel-start .kept .1 .1 .1 .1 .1 .1 .1 .1 .0 ∙ (step .kept .1 .1 .1 .1 .1 .1 .1 .1 .1 .0 ∙ pre .queue-long)
 
 same-length : tie.Need-same-length

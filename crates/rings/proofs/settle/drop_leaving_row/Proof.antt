@@ -12,6 +12,24 @@ use Rattle.rings.proofs.pairs.leads.Reads as leads-reads
 use Rattle.rings.proofs.supporters.loses_supporter.Reads as loses-supporter-reads
 use Rattle.rings.proofs.supporters.drop_supporter.Reads as drop-supporter-reads
 
+-- ---- the ways back, from a place of the code to an earlier one
+
+abbrev entry2-to-start : tie.After-entry2 → tie.Start
+entry2-to-start c = c .before .before .before .before .before .before .before .before .before .before .before
+
+abbrev queue-to-start : tie.After-queue → tie.Start
+queue-to-start c =
+    entry2-to-start (c .before .before .before .before .before .before .before .before .before .before .before)
+
+abbrev queue-to-entry2 : tie.After-queue → tie.After-entry2
+queue-to-entry2 c = c .before .before .before .before .before .before .before .before .before .before .before
+
+abbrev queue2-to-entry2 : tie.After-queue2 → tie.After-entry2
+queue2-to-entry2 c = queue-to-entry2 (c .before .before .before .before .before .before .before)
+
+abbrev queue2-to-drop-supporter : tie.After-queue2 → tie.After-drop-supporter
+queue2-to-drop-supporter c = c .before .before .before .before .before .before .before .before .before .before
+
 returns : tie.Need-returns
 returns c =
     record { queued = λ h. absurd (omega (arith, h)); leaving = λ h. absurd (omega (arith, h)) }
@@ -28,25 +46,25 @@ entry-requires-2 c κs = search needs
 mul-x : tie.Need-mul-x
 mul-x c =
     let entry = c .before .entry in
-    let pre = c .before .before .before .before .before .before .before .before .before .before .before .pre in
+    let pre = entry2-to-start c .pre in
     omega (arith, first-small _ _ _ (pre .0 .placed .sound) (pre .1) (entry .ensures))
 
 shared-slice-read-x : tie.Need-shared-slice-read-x
 shared-slice-read-x c =
     let entry = c .before .before .entry in
-    let pre = c .before .before .before .before .before .before .before .before .before .before .before .before .pre in
+    let pre = entry2-to-start (c .before) .pre in
     omega (arith, first-small _ _ _ (pre .0 .placed .sound) (pre .1) (entry .ensures), pre .0 .times-long)
 
 mul-y : tie.Need-mul-y
 mul-y c =
     let entry2 = c .before .entry2 in
-    let pre = c .before .before .before .before .before .before .before .before .before .before .before .before .pre in
+    let pre = entry2-to-start (c .before) .pre in
     omega (arith, second-small _ _ _ (pre .0 .placed .sound) (pre .1) (entry2 .ensures))
 
 shared-slice-read-y : tie.Need-shared-slice-read-y
 shared-slice-read-y c =
     let entry2 = c .before .before .entry2 in
-    let pre = c .before .before .before .before .before .before .before .before .before .before .before .before .before .pre in
+    let pre = entry2-to-start (c .before .before) .pre in
     omega (arith, second-small _ _ _ (pre .0 .placed .sound) (pre .1) (entry2 .ensures), pre .0 .times-long)
 
 mul-day : tie.Need-mul-day
@@ -65,7 +83,7 @@ drop-supporter-requires : tie.Need-drop-supporter-requires
 drop-supporter-requires c κs =
     let entry = c .before .before .before .before .before .before .before .before .entry in
     let if1 = c .before .before .before .before .before .before .before .before .before .before .if1 in
-    let pre = c .before .before .before .before .before .before .before .before .before .before .before .before .before .before .before .before .before .before .pre in
+    let pre = entry2-to-start (c .before .before .before .before .before .before .before) .pre in
     record {
       slack-long = pre .0 .slack-long;
       queue-long = pre .0 .queue-long;
@@ -76,10 +94,10 @@ drop-supporter-requires c κs =
 drop-supporter-requires-2 : tie.Need-drop-supporter-requires-2
 drop-supporter-requires-2 c κs =
     let drop-supporter = c .before .before .before .before .before .before .drop-supporter in
-    let entry2 = c .before .before .before .before .before .before .before .before .before .before .before .before .before .before .entry2 in
-    let entry = c .before .before .before .before .before .before .before .before .before .before .before .before .before .before .before .entry in
-    let if1 = c .before .before .before .before .before .before .before .before .before .before .before .before .before .before .before .before .before .if1 in
-    let pre = c .before .before .before .before .before .before .before .before .before .before .before .before .before .before .before .before .before .before .before .before .before .before .before .before .before .pre in
+    let entry2 = queue-to-entry2 (c .before .before .before) .entry2 in
+    let entry = queue-to-entry2 (c .before .before .before) .before .entry in
+    let if1 = queue-to-entry2 (c .before .before .before) .before .before .before .if1 in
+    let pre = queue-to-start (c .before .before .before) .pre in
     let small = first-small _ _ _ (pre .0 .placed .sound) (pre .1) (entry .ensures) in
     record {
       slack-long = dropped-supporter-less small (pre .0 .slack-long) (drop-supporter .ensures) .long;
@@ -97,15 +115,15 @@ same-length-2 c = search needs
 returns-2 : tie.Need-returns-2
 returns-2 c =
     let drop-supporter2 = c .before .before .before .before .drop-supporter2 in
-    let drop-supporter = c .before .before .before .before .before .before .before .before .before .before .before .drop-supporter in
-    let loses-supporter2 = c .before .before .before .before .before .before .before .before .before .before .before .before .before .before .loses-supporter2 in
-    let loses-supporter = c .before .before .before .before .before .before .before .before .before .before .before .before .before .before .before .loses-supporter in
-    let entry2 = c .before .before .before .before .before .before .before .before .before .before .before .before .before .before .before .before .before .before .before .entry2 in
-    let entry = c .before .before .before .before .before .before .before .before .before .before .before .before .before .before .before .before .before .before .before .before .entry in
-    let leads = c .before .before .before .before .before .before .before .before .before .before .before .before .before .before .before .before .before .before .before .before .before .leads in
-    let if1 = c .before .before .before .before .before .before .before .before .before .before .before .before .before .before .before .before .before .before .before .before .before .before .if1 in
-    let args = c .before .before .before .before .before .before .before .before .before .before .before .before .before .before .before .before .before .before .before .before .before .before .before .before .before .before .before .before .before .before .args in
-    let pre = c .before .before .before .before .before .before .before .before .before .before .before .before .before .before .before .before .before .before .before .before .before .before .before .before .before .before .before .before .before .before .pre in
+    let drop-supporter = queue2-to-drop-supporter (c .before) .drop-supporter in
+    let loses-supporter2 = queue2-to-drop-supporter (c .before) .before .before .before .loses-supporter2 in
+    let loses-supporter = queue2-to-drop-supporter (c .before) .before .before .before .before .loses-supporter in
+    let entry2 = queue2-to-entry2 (c .before) .entry2 in
+    let entry = queue2-to-entry2 (c .before) .before .entry in
+    let leads = queue2-to-entry2 (c .before) .before .before .leads in
+    let if1 = queue2-to-entry2 (c .before) .before .before .before .if1 in
+    let args = queue-to-start (c .before .before .before .before .before .before .before .before) .args in
+    let pre = queue-to-start (c .before .before .before .before .before .before .before .before) .pre in
     let sound = pre .0 .placed .sound in
     let small = first-small _ _ _ sound (pre .1) (entry .ensures) in
     record {

@@ -18,6 +18,11 @@ Inv-loop days first second scratch frame next times slack₀ queue₀ tail₀ j�
 abbrev μ-loop : tie.MeasureT-loop
 μ-loop days first second scratch frame next times slack₀ queue₀ tail₀ j₀ slack queue tail j = next - j
 
+-- ---- the ways back, from a place of the code to an earlier one
+
+abbrev loop-to-start : tie.At-loop Inv-loop μ-loop → tie.Start Inv-loop μ-loop
+loop-to-start c = c .before .before .before .before .before .before .before .before
+
 loop-holds : tie.Need-loop-holds Inv-loop μ-loop
 loop-holds c =
     let pre = c .before .before .before .before .before .before .before .pre in (
@@ -34,7 +39,7 @@ drop-leaving-row-requires : tie.Need-drop-leaving-row-requires Inv-loop μ-loop
 drop-leaving-row-requires c κs =
     let loop-test = c .before .before .loop-test in
     let loop = c .before .before .before .loop in
-    let pre = c .before .before .before .before .before .before .before .before .before .before .before .pre in (
+    let pre = loop-to-start (c .before .before .before) .pre in (
       record {
         placed = pre .0 .placed;
         times-long = pre .0 .times-long;
@@ -48,7 +53,7 @@ drop-leaving-row-requires c κs =
 add-j : tie.Need-add-j Inv-loop μ-loop
 add-j c =
     let loop-test = c .before .before .before .before .before .before .before .loop-test in
-    let pre = c .before .before .before .before .before .before .before .before .before .before .before .before .before .before .before .before .pre in
+    let pre = loop-to-start (c .before .before .before .before .before .before .before .before) .pre in
     omega (arith, loop-test .taken, pre .1 .within, pre .0 .placed .sound .most)
 
 loop-less : tie.Need-loop-less Inv-loop μ-loop
@@ -71,13 +76,13 @@ loop-again c =
 same-length : tie.Need-same-length Inv-loop μ-loop
 same-length c =
     let loop = c .before .loop in
-    let pre = c .before .before .before .before .before .before .before .before .before .pre in
+    let pre = loop-to-start (c .before) .pre in
     loop .inv .1 ∙ sym (pre .0 .slack-long)
 
 same-length-2 : tie.Need-same-length-2 Inv-loop μ-loop
 same-length-2 c =
     let loop = c .before .loop in
-    let pre = c .before .before .before .before .before .before .before .before .before .pre in
+    let pre = loop-to-start (c .before) .pre in
     loop .inv .2 ∙ sym (pre .0 .queue-long)
 
 returns : tie.Need-returns Inv-loop μ-loop

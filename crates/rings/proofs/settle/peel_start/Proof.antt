@@ -8,6 +8,11 @@ use Rattle.rings.proofs.settle.peel_start.Lts as lts
 use Rattle.rings.proofs.peel.peel.Reads as peel-reads
 use Rattle.rings.proofs.settle.reset_slack.Reads as reset-slack-reads
 
+-- ---- the ways back, from a place of the code to an earlier one
+
+abbrev peel-to-start : tie.After-peel → tie.Start
+peel-to-start c = c .before .before .before .before .before .before .before .before .before .before .before
+
 peel-requires : tie.Need-peel-requires
 peel-requires c κs =
     let pre = c .before .before .before .before .before .before .before .before .before .before .pre in
@@ -29,7 +34,7 @@ returns : tie.Need-returns
 returns c =
     let reset-slack = c .before .before .reset-slack in
     let peel = c .before .before .before .before .before .before .before .before .before .before .peel in
-    let pre = c .before .before .before .before .before .before .before .before .before .before .before .before .before .before .before .before .before .before .before .before .before .pre in
+    let pre = peel-to-start (c .before .before .before .before .before .before .before .before .before .before) .pre in
     record {
       times-are = peel .ensures;
       slacks = slack-ones _ _ _ _ _ _ _ (pre .ready .setting) (peel .ensures) (reset-slack .ensures .long) (reset-slack .ensures .each);

@@ -21,6 +21,17 @@ Inv-loop days first second scratch frame budget waiting times₀ slack₀ queue�
 abbrev μ-loop : tie.MeasureT-loop
 μ-loop days first second scratch frame budget waiting times₀ slack₀ queue₀ counting counts₀ list₀ times slack queue counts list = 4353 - list .head
 
+-- ---- the ways back, from a place of the code to an earlier one
+
+abbrev loop-to-start : tie.At-loop Inv-loop μ-loop → tie.Start Inv-loop μ-loop
+loop-to-start c = c .before .before .before .before .before .before .before .before .before
+
+abbrev times-to-start : tie.After-times Inv-loop μ-loop → tie.Start Inv-loop μ-loop
+times-to-start c = loop-to-start (c .before .before .before .before .before .before .before .before .before .before)
+
+abbrev counts-to-else2 : tie.After-counts Inv-loop μ-loop → tie.Else2 Inv-loop μ-loop
+counts-to-else2 c = c .before .before .before .before .before .before .before .before .before .before .before .before
+
 loop-holds : tie.Need-loop-holds Inv-loop μ-loop
 loop-holds c =
     let pre = c .before .before .before .before .before .before .before .before .pre in
@@ -36,19 +47,19 @@ loop-holds c =
 same-length : tie.Need-same-length Inv-loop μ-loop
 same-length c =
     let loop = c .before .before .before .before .loop in
-    let pre = c .before .before .before .before .before .before .before .before .before .before .before .before .before .pre in
+    let pre = loop-to-start (c .before .before .before .before) .pre in
     loop .inv .rising .settling .long ∙ sym (pre .rising .settling .long)
 
 same-length-2 : tie.Need-same-length-2 Inv-loop μ-loop
 same-length-2 c =
     let loop = c .before .before .before .before .loop in
-    let pre = c .before .before .before .before .before .before .before .before .before .before .before .before .before .pre in
+    let pre = loop-to-start (c .before .before .before .before) .pre in
     loop .inv .rising .settling .long-slack ∙ sym (pre .rising .settling .long-slack)
 
 same-length-3 : tie.Need-same-length-3 Inv-loop μ-loop
 same-length-3 c =
     let loop = c .before .before .before .before .loop in
-    let pre = c .before .before .before .before .before .before .before .before .before .before .before .before .before .pre in
+    let pre = loop-to-start (c .before .before .before .before) .pre in
     loop .inv .rising .waiting .long ∙ sym (pre .rising .waiting .long)
 
 same-length-4 : tie.Need-same-length-4 Inv-loop μ-loop
@@ -66,7 +77,7 @@ settle-account-requires c κs =
     let if2 = c .before .before .before .before .if2 in
     let if1 = c .before .before .before .before .before .before .if1 in
     let loop = c .before .before .before .before .before .before .before .before .loop in
-    let pre = c .before .before .before .before .before .before .before .before .before .before .before .before .before .before .before .before .before .pre in
+    let pre = loop-to-start (c .before .before .before .before .before .before .before .before) .pre in
     let r = loop .inv .rising in
     record {
       working = record {
@@ -92,35 +103,35 @@ enum-told c = search needs
 same-length-5 : tie.Need-same-length-5 Inv-loop μ-loop
 same-length-5 c =
     let settle-account = c .before .before .before .before .before .before .before .before .before .before .settle-account in
-    let loop = c .before .before .before .before .before .before .before .before .before .before .before .before .before .before .before .before .before .before .before .loop in
-    let pre = c .before .before .before .before .before .before .before .before .before .before .before .before .before .before .before .before .before .before .before .before .before .before .before .before .before .before .before .before .pre in
+    let loop = counts-to-else2 (c .before .before .before) .before .before .before .before .loop in
+    let pre = times-to-start (c .before .before .before .before .before .before .before .before .before) .pre in
     settle-account .kept .1 .1 .1 .1 .1 .1 .1 .0 ∙ (loop .inv .rising .settling .long ∙ sym (pre .rising .settling .long))
 
 same-length-6 : tie.Need-same-length-6 Inv-loop μ-loop
 same-length-6 c =
     let settle-account = c .before .before .before .before .before .before .before .before .before .before .settle-account in
-    let loop = c .before .before .before .before .before .before .before .before .before .before .before .before .before .before .before .before .before .before .before .loop in
-    let pre = c .before .before .before .before .before .before .before .before .before .before .before .before .before .before .before .before .before .before .before .before .before .before .before .before .before .before .before .before .pre in
+    let loop = counts-to-else2 (c .before .before .before) .before .before .before .before .loop in
+    let pre = times-to-start (c .before .before .before .before .before .before .before .before .before) .pre in
     settle-account .kept .1 .1 .1 .1 .1 .1 .1 .1 .0 ∙ (loop .inv .rising .settling .long-slack ∙ sym (pre .rising .settling .long-slack))
 
 same-length-7 : tie.Need-same-length-7 Inv-loop μ-loop
 same-length-7 c =
     let settle-account = c .before .before .before .before .before .before .before .before .before .before .settle-account in
-    let loop = c .before .before .before .before .before .before .before .before .before .before .before .before .before .before .before .before .before .before .before .loop in
-    let pre = c .before .before .before .before .before .before .before .before .before .before .before .before .before .before .before .before .before .before .before .before .before .before .before .before .before .before .before .before .pre in
+    let loop = counts-to-else2 (c .before .before .before) .before .before .before .before .loop in
+    let pre = times-to-start (c .before .before .before .before .before .before .before .before .before) .pre in
     settle-account .kept .1 .1 .1 .1 .1 .1 .1 .1 .1 .0 ∙ (loop .inv .rising .waiting .long ∙ sym (pre .rising .waiting .long))
 
 same-length-8 : tie.Need-same-length-8 Inv-loop μ-loop
 same-length-8 c =
     let settle-account = c .before .before .before .before .before .before .before .before .before .before .settle-account in
-    let loop = c .before .before .before .before .before .before .before .before .before .before .before .before .before .before .before .before .before .before .before .loop in
+    let loop = counts-to-else2 (c .before .before .before) .before .before .before .before .loop in
     settle-account .kept .1 .1 .1 .1 .1 .1 .1 .1 .1 .1 .1 .0 ∙ loop .inv .long-counts
 
 returns-2 : tie.Need-returns-2 Inv-loop μ-loop
 returns-2 c =
     let enum-told = c .enum-told in
     let settle-account = c .before .before .before .before .before .before .before .before .before .before .settle-account in
-    let loop = c .before .before .before .before .before .before .before .before .before .before .before .before .before .before .before .before .before .before .before .loop in
+    let loop = counts-to-else2 (c .before .before .before) .before .before .before .before .loop in
     let stay = rw (enum-told .given .1) at (settle-account .ensures) in
     record { same = λ y. stay .same y ∙ loop .inv .counted .same y }
 
@@ -132,8 +143,8 @@ loop-less c =
     let found = c .before .found in
     let settle-account = c .before .before .before .before .before .before .before .before .before .before .before .settle-account in
     let moved = rw (found .given .1) at (settle-account .ensures) in
-    let if1 = c .before .before .before .before .before .before .before .before .before .before .before .before .before .before .before .before .before .before .if1 in
-    let loop = c .before .before .before .before .before .before .before .before .before .before .before .before .before .before .before .before .before .before .before .before .loop in
+    let if1 = counts-to-else2 (c .before .before .before .before) .before .before .if1 in
+    let loop = counts-to-else2 (c .before .before .before .before) .before .before .before .before .loop in
     omega (arith, moved .next, if1 .taken, loop .inv .within)
 
 loop-again : tie.Need-loop-again Inv-loop μ-loop
@@ -141,8 +152,8 @@ loop-again c =
     let found = c .before .found in
     let settle-account = c .before .before .before .before .before .before .before .before .before .before .before .settle-account in
     let moved = rw (found .given .1) at (settle-account .ensures) in
-    let if2 = c .before .before .before .before .before .before .before .before .before .before .before .before .before .before .before .before .if2 in
-    let loop = c .before .before .before .before .before .before .before .before .before .before .before .before .before .before .before .before .before .before .before .before .loop in
+    let if2 = counts-to-else2 (c .before .before .before .before) .if2 in
+    let loop = counts-to-else2 (c .before .before .before .before) .before .before .before .before .loop in
     record {
       covered = covered-rise (moved .nevers) (le-refl _) (loop .inv .covered);
       within = moved .within;
@@ -155,19 +166,19 @@ loop-again c =
 same-length-9 : tie.Need-same-length-9 Inv-loop μ-loop
 same-length-9 c =
     let loop = c .before .before .loop in
-    let pre = c .before .before .before .before .before .before .before .before .before .before .before .pre in
+    let pre = loop-to-start (c .before .before) .pre in
     loop .inv .rising .settling .long ∙ sym (pre .rising .settling .long)
 
 same-length-10 : tie.Need-same-length-10 Inv-loop μ-loop
 same-length-10 c =
     let loop = c .before .before .loop in
-    let pre = c .before .before .before .before .before .before .before .before .before .before .before .pre in
+    let pre = loop-to-start (c .before .before) .pre in
     loop .inv .rising .settling .long-slack ∙ sym (pre .rising .settling .long-slack)
 
 same-length-11 : tie.Need-same-length-11 Inv-loop μ-loop
 same-length-11 c =
     let loop = c .before .before .loop in
-    let pre = c .before .before .before .before .before .before .before .before .before .before .before .pre in
+    let pre = loop-to-start (c .before .before) .pre in
     loop .inv .rising .waiting .long ∙ sym (pre .rising .waiting .long)
 
 same-length-12 : tie.Need-same-length-12 Inv-loop μ-loop
@@ -179,7 +190,7 @@ returns-3 : tie.Need-returns-3 Inv-loop μ-loop
 returns-3 c =
     let if1 = c .if1 in
     let loop = c .before .before .loop in
-    let pre = c .before .before .before .before .before .before .before .before .before .before .before .pre in
+    let pre = loop-to-start (c .before .before) .pre in
     let end = settle-end _ _ _ _ _ _ _ (pre .opened .setting) (loop .inv .rising) (if1 .left) in
     record {
       times-are = end .0;

@@ -12,32 +12,46 @@ use Rattle.rings.proofs.scan.first_from.Reads as first-from-reads
 use Rattle.rings.proofs.settle.settle_far.Reads as settle-far-reads
 use Rattle.rings.proofs.settle.settle_near.Reads as settle-near-reads
 
+-- ---- the ways back, from a place of the code to an earlier one
+
+abbrev entry-to-start : tie.After-entry → tie.Start
+entry-to-start c = c .before .before .before .before .before .before .before .before .before .before
+
+abbrev counts-to-first-from : tie.After-counts → tie.After-first-from
+counts-to-first-from c =
+    c .before .before .before .before .before .before .before .before .before .before .before .before .before
+
+abbrev settle-far-arg4-to-start : tie.After-settle-far-arg4 → tie.Start
+settle-far-arg4-to-start c =
+    entry-to-start (c .before .before .before .before .before .before .before .before .before .before .before
+    .before .before .before .before .before .before .before .before .before .before .before)
+
 entry-requires : tie.Need-entry-requires
 entry-requires c κs = search needs
 
 first-from-requires : tie.Need-first-from-requires
 first-from-requires c κs =
-    let pre = c .before .before .before .before .before .before .before .before .before .before .pre in
+    let pre = entry-to-start c .pre in
     let w = pre .working in
     (w .opened .sound, (w .opened .pruned, omega (arith, c .entry .ensures, pre .small)))
 
 mul-t24 : tie.Need-mul-t24
 mul-t24 c =
     let entry = c .before .entry in
-    let pre = c .before .before .before .before .before .before .before .before .before .before .before .pre in
+    let pre = entry-to-start (c .before) .pre in
     omega (arith, entry .ensures, pre .small)
 
 slice-read-t26 : tie.Need-slice-read-t26
 slice-read-t26 c =
     let entry = c .before .before .entry in
-    let pre = c .before .before .before .before .before .before .before .before .before .before .before .before .pre in
+    let pre = entry-to-start (c .before .before) .pre in
     omega (arith, entry .ensures, pre .small, pre .working .times-long)
 
 settle-near-requires : tie.Need-settle-near-requires
 settle-near-requires c κs =
     let first-from = c .before .before .before .before .before .first-from in
     let entry = c .before .before .before .before .before .before .entry in
-    let pre = c .before .before .before .before .before .before .before .before .before .before .before .before .before .before .before .before .pre in
+    let pre = entry-to-start (c .before .before .before .before .before .before) .pre in
     record {
       working = pre .working;
       at-head = record {
@@ -59,9 +73,9 @@ settle-far-requires c κs =
     let near2 = c .before .before .before .before .before .near2 in
     let settle-near = c .before .before .before .before .before .before .before .before .before .before .before .before .before .before .before .settle-near in
     let unmoved = rw (near2 .given .1) at (settle-near .ensures) in
-    let first-from = c .before .before .before .before .before .before .before .before .before .before .before .before .before .before .before .before .before .before .before .before .before .first-from in
-    let entry = c .before .before .before .before .before .before .before .before .before .before .before .before .before .before .before .before .before .before .before .before .before .before .entry in
-    let pre = c .before .before .before .before .before .before .before .before .before .before .before .before .before .before .before .before .before .before .before .before .before .before .before .before .before .before .before .before .before .before .before .before .pre in
+    let first-from = counts-to-first-from (c .before .before .before .before .before .before .before .before) .first-from in
+    let entry = counts-to-first-from (c .before .before .before .before .before .before .before .before) .before .entry in
+    let pre = settle-far-arg4-to-start c .pre in
     record {
       working = unmoved-working unmoved (pre .working);
       at-head = record {
@@ -108,7 +122,7 @@ returns-2 c =
     let settle-far = c .before .before .before .before .before .before .before .before .settle-far in
     let near2 = c .before .before .before .before .before .before .before .before .before .before .before .before .before .before .near2 in
     let settle-near = c .before .before .before .before .before .before .before .before .before .before .before .before .before .before .before .before .before .before .before .before .before .before .before .before .settle-near in
-    let args = c .before .before .before .before .before .before .before .before .before .before .before .before .before .before .before .before .before .before .before .before .before .before .before .before .before .before .before .before .before .before .before .before .before .before .before .before .before .before .before .before .before .args in
+    let args = settle-far-arg4-to-start (c .before .before .before .before .before .before .before .before .before) .args in
     unmoved-attempt (args .counting) _ (settle-far .result) (rw (near2 .given .1) at (settle-near .ensures)) (settle-far .ensures)
 
 pub settle-account-spec : {M : Type 1} → statement M

@@ -14,6 +14,24 @@ use Rattle.rings.proofs.slices.put.Reads as put-reads
 use Rattle.rings.proofs.scan.find_day.Reads as find-day-reads
 use Rattle.rings.proofs.supporters.drop_supported.Reads as drop-supported-reads
 
+-- ---- the ways back, from a place of the code to an earlier one
+
+abbrev outcome-to-start : tie.After-outcome → tie.Start
+outcome-to-start c =
+    c .before .before .before .before .before .before .before .before .before .before .before .before .before
+
+abbrev drop-supported-arg4-to-start : tie.After-drop-supported-arg4 → tie.Start
+drop-supported-arg4-to-start c =
+    outcome-to-start (c .before .before .before .before .before .before .before .before .before .before)
+
+abbrev else2-to-start : tie.Else2 → tie.Start
+else2-to-start c = drop-supported-arg4-to-start (c .before .before .before .before .before .before .before .before)
+
+abbrev else2-to-put : tie.Else2 → tie.After-put
+else2-to-put c =
+    c .before .before .before .before .before .before .before .before .before .before .before .before .before
+    .before
+
 mul-old : tie.Need-mul-old
 mul-old c =
     let pre = c .before .before .before .before .before .before .before .before .pre in
@@ -57,12 +75,12 @@ returns c = record { same = λ y. refl }
 
 mul-slack : tie.Need-mul-slack
 mul-slack c =
-    let pre = c .before .before .before .before .before .before .before .before .before .before .before .before .before .before .pre in
+    let pre = outcome-to-start (c .before) .pre in
     omega (arith, pre .at-head .small)
 
 slice-write-slack : tie.Need-slice-write-slack
 slice-write-slack c =
-    let pre = c .before .before .before .before .before .before .before .before .before .before .before .before .before .before .pre in
+    let pre = outcome-to-start (c .before) .pre in
     omega (arith, pre .at-head .small, pre .working .slack-long)
 
 add-t28 : tie.Need-add-t28
@@ -70,7 +88,7 @@ add-t28 c =
     let outcome = c .before .before .before .outcome in
     let find-day = c .before .before .before .before .before .find-day in
     let found-day = rw (outcome .given .1) at (find-day .ensures) in
-    let pre = c .before .before .before .before .before .before .before .before .before .before .before .before .before .before .before .before .pre in
+    let pre = outcome-to-start (c .before .before .before) .pre in
     let w = pre .working in
     let h = pre .at-head in
     omega (arith, w .waits, w .within, w .behind, w .few, found-day .short-walk)
@@ -80,7 +98,7 @@ add-t29 c =
     let outcome = c .before .before .before .before .outcome in
     let find-day = c .before .before .before .before .before .before .find-day in
     let found-day = rw (outcome .given .1) at (find-day .ensures) in
-    let pre = c .before .before .before .before .before .before .before .before .before .before .before .before .before .before .before .before .before .pre in
+    let pre = outcome-to-start (c .before .before .before .before) .pre in
     let w = pre .working in
     let h = pre .at-head in
     omega (arith, w .waits, w .within, w .behind, w .few, found-day .short-walk)
@@ -96,7 +114,7 @@ returns-2 c =
     let outcome = c .before .before .before .before .outcome in
     let find-day = c .before .before .before .before .before .before .find-day in
     let found-day = rw (outcome .given .1) at (find-day .ensures) in
-    let pre = c .before .before .before .before .before .before .before .before .before .before .before .before .before .before .before .before .before .pre in
+    let pre = outcome-to-start (c .before .before .before .before) .pre in
     let w = pre .working in
     let h = pre .at-head in
     record {
@@ -111,17 +129,17 @@ returns-2 c =
 
 mul-times : tie.Need-mul-times
 mul-times c =
-    let pre = c .before .before .before .before .before .before .before .before .before .before .before .before .before .before .before .pre in
+    let pre = outcome-to-start (c .before .before) .pre in
     omega (arith, pre .at-head .small)
 
 slice-write-times : tie.Need-slice-write-times
 slice-write-times c =
-    let pre = c .before .before .before .before .before .before .before .before .before .before .before .before .before .before .before .pre in
+    let pre = outcome-to-start (c .before .before) .pre in
     omega (arith, pre .at-head .small, pre .working .times-long)
 
 put-requires : tie.Need-put-requires
 put-requires c κs =
-    let pre = c .before .before .before .before .before .before .before .before .before .before .before .before .before .before .before .before .pre in
+    let pre = outcome-to-start (c .before .before .before) .pre in
     let w = pre .working in
     let h = pre .at-head in
     record {
@@ -133,11 +151,11 @@ drop-supported-requires : tie.Need-drop-supported-requires
 drop-supported-requires c κs =
     let put = c .before .before .before .before .before .before .put in
     let if1 = c .before .before .before .before .before .before .before .before .if1 in
-    let args = c .before .before .before .before .before .before .before .before .before .before .before .before .before .before .before .before .before .before .before .before .before .before .before .args in
+    let args = drop-supported-arg4-to-start c .args in
     let outcome = c .before .before .before .before .before .before .before .before .before .before .outcome in
     let find-day = c .before .before .before .before .before .before .before .before .before .before .before .before .find-day in
     let found-day = rw (outcome .given .1) at (find-day .ensures) in
-    let pre = c .before .before .before .before .before .before .before .before .before .before .before .before .before .before .before .before .before .before .before .before .before .before .before .pre in
+    let pre = drop-supported-arg4-to-start c .pre in
     let w = pre .working in
     let h = pre .at-head in
     record {
@@ -176,30 +194,30 @@ returns-3 c =
 
 add-t21 : tie.Need-add-t21
 add-t21 c =
-    let outcome = c .before .before .before .before .before .before .before .before .before .before .before .before .before .before .before .before .before .before .before .outcome in
+    let outcome = else2-to-put (c .before) .before .before .before .before .outcome in
     let find-day = c .before .before .before .before .before .before .before .before .before .before .before .before .before .before .before .before .before .before .before .before .before .find-day in
     let found-day = rw (outcome .given .1) at (find-day .ensures) in
-    let pre = c .before .before .before .before .before .before .before .before .before .before .before .before .before .before .before .before .before .before .before .before .before .before .before .before .before .before .before .before .before .before .before .before .pre in
+    let pre = else2-to-start (c .before) .pre in
     let w = pre .working in
     let h = pre .at-head in
     omega (arith, w .waits, w .within, w .behind, w .few, found-day .short-walk)
 
 add-t43 : tie.Need-add-t43
 add-t43 c =
-    let outcome = c .before .before .before .before .before .before .before .before .before .before .before .before .before .before .before .before .before .before .before .before .outcome in
+    let outcome = else2-to-put (c .before .before) .before .before .before .before .outcome in
     let find-day = c .before .before .before .before .before .before .before .before .before .before .before .before .before .before .before .before .before .before .before .before .before .before .find-day in
     let found-day = rw (outcome .given .1) at (find-day .ensures) in
-    let pre = c .before .before .before .before .before .before .before .before .before .before .before .before .before .before .before .before .before .before .before .before .before .before .before .before .before .before .before .before .before .before .before .before .before .pre in
+    let pre = else2-to-start (c .before .before) .pre in
     let w = pre .working in
     let h = pre .at-head in
     omega (arith, w .waits, w .within, w .behind, w .few, found-day .short-walk)
 
 add-t44 : tie.Need-add-t44
 add-t44 c =
-    let outcome = c .before .before .before .before .before .before .before .before .before .before .before .before .before .before .before .before .before .before .before .before .before .outcome in
+    let outcome = else2-to-put (c .before .before .before) .before .before .before .before .outcome in
     let find-day = c .before .before .before .before .before .before .before .before .before .before .before .before .before .before .before .before .before .before .before .before .before .before .before .find-day in
     let found-day = rw (outcome .given .1) at (find-day .ensures) in
-    let pre = c .before .before .before .before .before .before .before .before .before .before .before .before .before .before .before .before .before .before .before .before .before .before .before .before .before .before .before .before .before .before .before .before .before .before .pre in
+    let pre = else2-to-start (c .before .before .before) .pre in
     let w = pre .working in
     let h = pre .at-head in
     omega (arith, w .waits, w .within, w .behind, w .few, found-day .short-walk)
@@ -222,12 +240,12 @@ returns-4 : tie.Need-returns-4
 returns-4 c =
     let if2 = c .before .before .before .if2 in
     let drop-supported = c .before .before .before .before .before .before .before .before .before .before .drop-supported in
-    let put = c .before .before .before .before .before .before .before .before .before .before .before .before .before .before .before .before .before .put in
-    let args = c .before .before .before .before .before .before .before .before .before .before .before .before .before .before .before .before .before .before .before .before .before .before .before .before .before .before .before .before .before .before .before .before .before .before .args in
-    let outcome = c .before .before .before .before .before .before .before .before .before .before .before .before .before .before .before .before .before .before .before .before .before .outcome in
+    let put = else2-to-put (c .before .before .before) .put in
+    let args = else2-to-start (c .before .before .before) .args in
+    let outcome = else2-to-put (c .before .before .before) .before .before .before .before .outcome in
     let find-day = c .before .before .before .before .before .before .before .before .before .before .before .before .before .before .before .before .before .before .before .before .before .before .before .find-day in
     let found-day = rw (outcome .given .1) at (find-day .ensures) in
-    let pre = c .before .before .before .before .before .before .before .before .before .before .before .before .before .before .before .before .before .before .before .before .before .before .before .before .before .before .before .before .before .before .before .before .before .before .pre in
+    let pre = else2-to-start (c .before .before .before) .pre in
     let w = pre .working in
     let h = pre .at-head in
     record {

@@ -15,6 +15,43 @@ use Rattle.rings.proofs.scan.scan_for_rise.Reads as scan-for-rise-reads
 use Rattle.rings.proofs.scan.slack_above.Reads as slack-above-reads
 use Rattle.rings.proofs.supporters.drop_listed_supporters.Reads as drop-listed-supporters-reads
 
+-- ---- the ways back, from a place of the code to an earlier one
+
+abbrev else1-to-start : tie.Else1 → tie.Start
+else1-to-start c = c .before .before .before .before .before .before .before .before .before .before
+
+abbrev struct-known5-to-start : tie.After-struct-known5 → tie.Start
+struct-known5-to-start c =
+    else1-to-start (c .before .before .before .before .before .before .before .before .before .before .before)
+
+abbrev else3-to-else1 : tie.Else3 → tie.Else1
+else3-to-else1 c = c .before .before .before .before .before .before .before .before .before .before .before .before
+
+abbrev else4-to-start : tie.Else4 → tie.Start
+else4-to-start c = struct-known5-to-start (c .before .before .before .before)
+
+abbrev queue3-to-start : tie.After-queue3 → tie.Start
+queue3-to-start c = else4-to-start (c .before .before .before .before .before .before .before .before .before .before)
+
+abbrev queue3-to-else1 : tie.After-queue3 → tie.Else1
+queue3-to-else1 c =
+    else3-to-else1 (c .before .before .before .before .before .before .before .before .before .before .before
+    .before .before)
+
+abbrev queue3-to-scan-for-rise : tie.After-queue3 → tie.After-scan-for-rise
+queue3-to-scan-for-rise c =
+    c .before .before .before .before .before .before .before .before .before .before .before .before .before
+    .before .before .before .before .before
+
+abbrev queue3-to-else4 : tie.After-queue3 → tie.Else4
+queue3-to-else4 c = c .before .before .before .before .before .before .before .before .before .before
+
+abbrev counts-to-start : tie.After-counts → tie.Start
+counts-to-start c = queue3-to-start (c .before .before .before .before)
+
+abbrev counts-to-put : tie.After-counts → tie.After-put
+counts-to-put c = c .before .before .before .before .before .before .before .before .before .before .before .before
+
 returns : tie.Need-returns
 returns c =
     let pre = c .before .before .before .before .before .before .before .before .before .before .pre in
@@ -29,26 +66,26 @@ returns c =
 
 entry-requires : tie.Need-entry-requires
 entry-requires c κs =
-    let pre = c .before .before .before .before .before .before .before .before .before .before .pre in
+    let pre = else1-to-start c .pre in
     omega (arith, pre .working .opened .pruned .long, pre .at-head .small)
 
 add-if2 : tie.Need-add-if2
 add-if2 c =
-    let pre = c .before .before .before .before .before .before .before .before .before .before .before .before .pre in
+    let pre = else1-to-start (c .before .before) .pre in
     let w = pre .working in
     let h = pre .at-head in
     omega (arith, h .reading .to, w .opened .pruned .pruned-list _ (h .small) .to, w .opened .sound .most)
 
 add-if2-2 : tie.Need-add-if2-2
 add-if2-2 c =
-    let pre = c .before .before .before .before .before .before .before .before .before .before .before .before .before .pre in
+    let pre = else1-to-start (c .before .before .before) .pre in
     let w = pre .working in
     let h = pre .at-head in
     omega (arith, c .before .before .entry .ensures, w .within, w .opened .pruned .pruned-list _ (h .small) .to, w .opened .sound .most)
 
 returns-2 : tie.Need-returns-2
 returns-2 c =
-    let pre = c .before .before .before .before .before .before .before .before .before .before .before .before .before .before .pre in
+    let pre = else1-to-start (c .before .before .before .before) .pre in
     record {
       same-times = refl;
       same-slack = refl;
@@ -63,8 +100,8 @@ scan-for-rise-requires c κs =
     let if2 = c .before .before .if2 in
     let entry = c .before .before .before .before .before .entry in
     let if1 = c .before .before .before .before .before .before .if1 in
-    let args = c .before .before .before .before .before .before .before .before .before .before .before .before .before .before .before .before .args in
-    let pre = c .before .before .before .before .before .before .before .before .before .before .before .before .before .before .before .before .pre in
+    let args = else1-to-start (c .before .before .before .before .before .before) .args in
+    let pre = else1-to-start (c .before .before .before .before .before .before) .pre in
     let w = pre .working in
     let h = pre .at-head in (
       record {
@@ -95,22 +132,22 @@ sub-slack c =
 
 mul-slack : tie.Need-mul-slack
 mul-slack c =
-    let pre = c .before .before .before .before .before .before .before .before .before .before .before .before .before .before .before .before .before .before .before .before .before .before .before .before .pre in
+    let pre = struct-known5-to-start (c .before .before .before) .pre in
     omega (arith, pre .at-head .small)
 
 slice-write-slack : tie.Need-slice-write-slack
 slice-write-slack c =
-    let pre = c .before .before .before .before .before .before .before .before .before .before .before .before .before .before .before .before .before .before .before .before .before .before .before .before .pre in
+    let pre = struct-known5-to-start (c .before .before .before) .pre in
     omega (arith, pre .at-head .small, pre .working .slack-long)
 
 add-t28 : tie.Need-add-t28
 add-t28 c =
-    let pre = c .before .before .before .before .before .before .before .before .before .before .before .before .before .before .before .before .before .before .before .before .before .before .before .before .before .pre in
+    let pre = struct-known5-to-start (c .before .before .before .before) .pre in
     omega (arith, pre .working .waits, pre .working .within)
 
 add-t30 : tie.Need-add-t30
 add-t30 c =
-    let pre = c .before .before .before .before .before .before .before .before .before .before .before .before .before .before .before .before .before .before .before .before .before .before .before .before .before .before .before .pre in
+    let pre = struct-known5-to-start (c .before .before .before .before .before .before) .pre in
     let scan-for-rise = c .before .before .before .before .before .before .before .before .before .before .scan-for-rise in
     omega (arith, pre .working .few, scan-for-rise .ensures .found .short-walk)
 
@@ -128,8 +165,8 @@ returns-3 c =
     let if3 = c .before .before .before .before .before .if3 in
     let scan-for-rise = c .before .before .before .before .before .before .before .before .before .before .scan-for-rise in
     let if1 = c .before .before .before .before .before .before .before .before .before .before .before .before .before .before .before .before .before .if1 in
-    let args = c .before .before .before .before .before .before .before .before .before .before .before .before .before .before .before .before .before .before .before .before .before .before .before .before .before .before .before .args in
-    let pre = c .before .before .before .before .before .before .before .before .before .before .before .before .before .before .before .before .before .before .before .before .before .before .before .before .before .before .before .pre in
+    let args = struct-known5-to-start (c .before .before .before .before .before .before) .args in
+    let pre = struct-known5-to-start (c .before .before .before .before .before .before) .pre in
     let w = pre .working in
     let h = pre .at-head in
     record {
@@ -155,7 +192,7 @@ slack-above-requires c κs =
 
 add-t33 : tie.Need-add-t33
 add-t33 c =
-    let pre = c .before .before .before .before .before .before .before .before .before .before .before .before .before .before .before .before .before .before .before .before .before .before .before .before .before .before .before .pre in
+    let pre = struct-known5-to-start (c .before .before .before .before .before .before) .pre in
     let scan-for-rise = c .before .before .before .before .before .before .before .before .before .before .scan-for-rise in
     omega (arith, pre .working .few, scan-for-rise .ensures .found .short-walk)
 
@@ -169,9 +206,9 @@ returns-4 : tie.Need-returns-4
 returns-4 c =
     let if3 = c .before .before .before .before .before .if3 in
     let scan-for-rise = c .before .before .before .before .before .before .before .before .before .before .scan-for-rise in
-    let if1 = c .before .before .before .before .before .before .before .before .before .before .before .before .before .before .before .before .before .if1 in
-    let args = c .before .before .before .before .before .before .before .before .before .before .before .before .before .before .before .before .before .before .before .before .before .before .before .before .before .before .before .args in
-    let pre = c .before .before .before .before .before .before .before .before .before .before .before .before .before .before .before .before .before .before .before .before .before .before .before .before .before .before .before .pre in
+    let if1 = else3-to-else1 (c .before .before .before .before .before) .if1 in
+    let args = struct-known5-to-start (c .before .before .before .before .before .before) .args in
+    let pre = struct-known5-to-start (c .before .before .before .before .before .before) .pre in
     let w = pre .working in
     let h = pre .at-head in
     record {
@@ -186,28 +223,28 @@ returns-4 c =
 
 mul-slack-2 : tie.Need-mul-slack-2
 mul-slack-2 c =
-    let pre = c .before .before .before .before .before .before .before .before .before .before .before .before .before .before .before .before .before .before .before .before .before .before .before .before .before .pre in
+    let pre = else4-to-start c .pre in
     omega (arith, pre .at-head .small)
 
 slice-write-slack-2 : tie.Need-slice-write-slack-2
 slice-write-slack-2 c =
-    let pre = c .before .before .before .before .before .before .before .before .before .before .before .before .before .before .before .before .before .before .before .before .before .before .before .before .before .pre in
+    let pre = else4-to-start c .pre in
     omega (arith, pre .at-head .small, pre .working .slack-long)
 
 mul-times : tie.Need-mul-times
 mul-times c =
-    let pre = c .before .before .before .before .before .before .before .before .before .before .before .before .before .before .before .before .before .before .before .before .before .before .before .before .before .pre in
+    let pre = else4-to-start c .pre in
     omega (arith, pre .at-head .small)
 
 slice-write-times : tie.Need-slice-write-times
 slice-write-times c =
-    let pre = c .before .before .before .before .before .before .before .before .before .before .before .before .before .before .before .before .before .before .before .before .before .before .before .before .before .pre in
+    let pre = else4-to-start c .pre in
     omega (arith, pre .at-head .small, pre .working .times-long)
 
 put-requires : tie.Need-put-requires
 put-requires c κs =
     let scan-for-rise = c .before .before .before .before .before .before .before .before .before .scan-for-rise in
-    let pre = c .before .before .before .before .before .before .before .before .before .before .before .before .before .before .before .before .before .before .before .before .before .before .before .before .before .before .pre in
+    let pre = else4-to-start (c .before) .pre in
     let w = pre .working in
     record {
       place = omega (arith, (scan-for-rise .ensures .behind) .long, w .waits, w .within, w .behind);
@@ -221,9 +258,9 @@ drop-listed-supporters-requires c κs =
     let slack-above = c .before .before .before .before .before .before .before .slack-above in
     let if3 = c .before .before .before .before .before .before .before .before .before .if3 in
     let scan-for-rise = c .before .before .before .before .before .before .before .before .before .before .before .before .before .before .scan-for-rise in
-    let if1 = c .before .before .before .before .before .before .before .before .before .before .before .before .before .before .before .before .before .before .before .before .before .if1 in
-    let args = c .before .before .before .before .before .before .before .before .before .before .before .before .before .before .before .before .before .before .before .before .before .before .before .before .before .before .before .before .before .before .before .args in
-    let pre = c .before .before .before .before .before .before .before .before .before .before .before .before .before .before .before .before .before .before .before .before .before .before .before .before .before .before .before .before .before .before .before .pre in
+    let if1 = else3-to-else1 (c .before .before .before .before .before .before .before .before .before) .if1 in
+    let args = else4-to-start (c .before .before .before .before .before .before) .args in
+    let pre = else4-to-start (c .before .before .before .before .before .before) .pre in
     let w = pre .working in
     let h = pre .at-head in
     let outcome = rw (pre .its-time) at (scan-for-rise .ensures .found .scanned) in
@@ -240,13 +277,13 @@ drop-listed-supporters-requires c κs =
 
 move-in-histogram-requires : tie.Need-move-in-histogram-requires
 move-in-histogram-requires c κs =
-    let if4 = c .before .before .before .before .before .before .before .before .before .before .before .before .if4 in
-    let slack-above = c .before .before .before .before .before .before .before .before .before .before .before .before .before .slack-above in
-    let if3 = c .before .before .before .before .before .before .before .before .before .before .before .before .before .before .before .if3 in
+    let if4 = queue3-to-else4 (c .before .before) .if4 in
+    let slack-above = queue3-to-else4 (c .before .before) .before .slack-above in
+    let if3 = queue3-to-else4 (c .before .before) .before .before .before .if3 in
     let scan-for-rise = c .before .before .before .before .before .before .before .before .before .before .before .before .before .before .before .before .before .before .before .before .scan-for-rise in
-    let if1 = c .before .before .before .before .before .before .before .before .before .before .before .before .before .before .before .before .before .before .before .before .before .before .before .before .before .before .before .if1 in
-    let args = c .before .before .before .before .before .before .before .before .before .before .before .before .before .before .before .before .before .before .before .before .before .before .before .before .before .before .before .before .before .before .before .before .before .before .before .before .before .args in
-    let pre = c .before .before .before .before .before .before .before .before .before .before .before .before .before .before .before .before .before .before .before .before .before .before .before .before .before .before .before .before .before .before .before .before .before .before .before .before .before .pre in
+    let if1 = queue3-to-else1 (c .before .before) .if1 in
+    let args = queue3-to-start (c .before .before) .args in
+    let pre = queue3-to-start (c .before .before) .pre in
     let w = pre .working in
     let h = pre .at-head in
     let outcome = rw (pre .its-time) at (scan-for-rise .ensures .found .scanned) in
@@ -257,18 +294,18 @@ move-in-histogram-requires c κs =
 
 add-t20 : tie.Need-add-t20
 add-t20 c =
-    let pre = c .before .before .before .before .before .before .before .before .before .before .before .before .before .before .before .before .before .before .before .before .before .before .before .before .before .before .before .before .before .before .before .before .before .before .before .before .before .before .before .before .before .pre in
+    let pre = counts-to-start (c .before .before) .pre in
     omega (arith, pre .working .waits, pre .working .within)
 
 add-t21 : tie.Need-add-t21
 add-t21 c =
-    let pre = c .before .before .before .before .before .before .before .before .before .before .before .before .before .before .before .before .before .before .before .before .before .before .before .before .before .before .before .before .before .before .before .before .before .before .before .before .before .before .before .before .before .before .pre in
+    let pre = counts-to-start (c .before .before .before) .pre in
     omega (arith, pre .working .waits, pre .working .within, pre .working .behind)
 
 add-t45 : tie.Need-add-t45
 add-t45 c =
-    let pre = c .before .before .before .before .before .before .before .before .before .before .before .before .before .before .before .before .before .before .before .before .before .before .before .before .before .before .before .before .before .before .before .before .before .before .before .before .before .before .before .before .before .before .before .before .pre in
-    let scan-for-rise = c .before .before .before .before .before .before .before .before .before .before .before .before .before .before .before .before .before .before .before .before .before .before .before .before .before .before .before .scan-for-rise in
+    let pre = counts-to-start (c .before .before .before .before .before) .pre in
+    let scan-for-rise = queue3-to-scan-for-rise (c .before .before .before .before .before .before .before .before .before) .scan-for-rise in
     omega (arith, pre .working .few, scan-for-rise .ensures .found .short-walk)
 
 same-length-6 : tie.Need-same-length-6
@@ -277,16 +314,16 @@ same-length-6 c = search needs
 same-length-7 : tie.Need-same-length-7
 same-length-7 c =
     let drop-listed-supporters = c .before .before .before .before .before .before .before .before .before .before .before .before .drop-listed-supporters in
-    let slack-above = c .before .before .before .before .before .before .before .before .before .before .before .before .before .before .before .before .before .before .before .before .slack-above in
-    let args = c .before .before .before .before .before .before .before .before .before .before .before .before .before .before .before .before .before .before .before .before .before .before .before .before .before .before .before .before .before .before .before .before .before .before .before .before .before .before .before .before .before .before .before .before .args in
+    let slack-above = counts-to-put (c .before .before .before .before .before) .before .before .before .slack-above in
+    let args = counts-to-start (c .before .before .before .before .before) .args in
     drop-listed-supporters .kept .0 ∙ length-set (args .slack .now) (args .scan .account) (slack-above .result)
 
 same-length-8 : tie.Need-same-length-8
 same-length-8 c =
     let drop-listed-supporters = c .before .before .before .before .before .before .before .before .before .before .before .before .drop-listed-supporters in
-    let put = c .before .before .before .before .before .before .before .before .before .before .before .before .before .before .before .before .before .put in
-    let scan-for-rise = c .before .before .before .before .before .before .before .before .before .before .before .before .before .before .before .before .before .before .before .before .before .before .before .before .before .before .before .scan-for-rise in
-    let pre = c .before .before .before .before .before .before .before .before .before .before .before .before .before .before .before .before .before .before .before .before .before .before .before .before .before .before .before .before .before .before .before .before .before .before .before .before .before .before .before .before .before .before .before .before .pre in
+    let put = counts-to-put (c .before .before .before .before .before) .put in
+    let scan-for-rise = queue3-to-scan-for-rise (c .before .before .before .before .before .before .before .before .before) .scan-for-rise in
+    let pre = counts-to-start (c .before .before .before .before .before) .pre in
     drop-listed-supporters .kept .1 .0 ∙ (put .kept .0 ∙ (scan-for-rise .ensures .behind .long ∙ sym (pre .working .queue-long)))
 
 same-length-9 : tie.Need-same-length-9
@@ -296,14 +333,14 @@ returns-5 : tie.Need-returns-5
 returns-5 c =
     let move-in-histogram = c .before .before .before .before .before .before .move-in-histogram in
     let drop-listed-supporters = c .before .before .before .before .before .before .before .before .before .before .before .before .drop-listed-supporters in
-    let put = c .before .before .before .before .before .before .before .before .before .before .before .before .before .before .before .before .before .put in
-    let if4 = c .before .before .before .before .before .before .before .before .before .before .before .before .before .before .before .before .before .before .before .if4 in
-    let slack-above = c .before .before .before .before .before .before .before .before .before .before .before .before .before .before .before .before .before .before .before .before .slack-above in
-    let if3 = c .before .before .before .before .before .before .before .before .before .before .before .before .before .before .before .before .before .before .before .before .before .before .if3 in
+    let put = counts-to-put (c .before .before .before .before .before) .put in
+    let if4 = counts-to-put (c .before .before .before .before .before) .before .before .if4 in
+    let slack-above = counts-to-put (c .before .before .before .before .before) .before .before .before .slack-above in
+    let if3 = queue3-to-else4 (c .before .before .before .before .before .before .before .before .before) .before .before .before .if3 in
     let scan-for-rise = c .before .before .before .before .before .before .before .before .before .before .before .before .before .before .before .before .before .before .before .before .before .before .before .before .before .before .before .scan-for-rise in
-    let if1 = c .before .before .before .before .before .before .before .before .before .before .before .before .before .before .before .before .before .before .before .before .before .before .before .before .before .before .before .before .before .before .before .before .before .before .if1 in
-    let args = c .before .before .before .before .before .before .before .before .before .before .before .before .before .before .before .before .before .before .before .before .before .before .before .before .before .before .before .before .before .before .before .before .before .before .before .before .before .before .before .before .before .before .before .before .args in
-    let pre = c .before .before .before .before .before .before .before .before .before .before .before .before .before .before .before .before .before .before .before .before .before .before .before .before .before .before .before .before .before .before .before .before .before .before .before .before .before .before .before .before .before .before .before .before .pre in
+    let if1 = queue3-to-else1 (c .before .before .before .before .before .before .before .before .before) .if1 in
+    let args = counts-to-start (c .before .before .before .before .before) .args in
+    let pre = counts-to-start (c .before .before .before .before .before) .pre in
     let w = pre .working in
     let h = pre .at-head in
     let outcome = rw (pre .its-time) at (scan-for-rise .ensures .found .scanned) in

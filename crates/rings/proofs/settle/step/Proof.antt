@@ -11,6 +11,12 @@ use Rattle.rings.proofs.settle.step.Lts as lts
 use Rattle.rings.proofs.settle.drop_leaving_rows.Reads as drop-leaving-rows-reads
 use Rattle.rings.proofs.settle.settle.Reads as settle-reads
 
+-- ---- the ways back, from a place of the code to an earlier one
+
+abbrev slack-to-start : tie.After-slack → tie.Start
+slack-to-start c =
+    c .before .before .before .before .before .before .before .before .before .before .before .before .before
+
 drop-leaving-rows-requires : tie.Need-drop-leaving-rows-requires
 drop-leaving-rows-requires c κs =
     let pre = c .before .before .before .before .before .before .before .before .before .before .before .pre in
@@ -39,20 +45,20 @@ returns c = record { same = λ y. refl }
 
 sub-budget : tie.Need-sub-budget
 sub-budget c =
-    let pre = c .before .before .before .before .before .before .before .before .before .before .before .before .before .before .before .before .before .pre in
+    let pre = slack-to-start (c .before .before .before .before) .pre in
     (span-after (omega (arith, pre .ordered)) (pre .follows) (pre .ends)) .ordered
 
 mul-budget : tie.Need-mul-budget
 mul-budget c = search needs
 
 add-t25 : tie.Need-add-t25
-add-t25 c = let pre = c .before .before .before .before .before .before .before .before .before .before .before .before .before .before .before .before .before .before .before .pre in omega (arith, pre .ordered, pre .in-days)
+add-t25 c = let pre = slack-to-start (c .before .before .before .before .before .before) .pre in omega (arith, pre .ordered, pre .in-days)
 
 settle-requires : tie.Need-settle-requires
 settle-requires c κs =
     let if1 = c .before .before .before .before .before .before .if1 in
     let drop-leaving-rows = c .before .before .before .before .before .before .before .before .before .before .before .drop-leaving-rows in
-    let pre = c .before .before .before .before .before .before .before .before .before .before .before .before .before .before .before .before .before .before .before .before .before .before .before .pre in
+    let pre = slack-to-start (c .before .before .before .before .before .before .before .before .before .before) .pre in
     let placed = step-placed pre in
     record {
       opened = pre .opened;

@@ -15,6 +15,33 @@ use Rattle.rings.proofs.settle.step.Reads as step-reads
 use Rattle.rings.proofs.heads.pass_heads.Reads as pass-heads-reads
 use Rattle.rings.proofs.starts.first_start.Reads as first-start-reads
 
+-- ---- the ways back, from a place of the code to an earlier one
+
+abbrev counts-to-start : tie.After-counts → tie.Start
+counts-to-start c = c .before .before .before .before .before .before .before .before .before .before .before .before
+
+abbrev slack-to-pass-heads : tie.After-slack → tie.After-pass-heads
+slack-to-pass-heads c = c .before .before .before .before .before .before .before .before .before .before .before
+
+abbrev counts2-to-start : tie.After-counts2 → tie.Start
+counts2-to-start c =
+    counts-to-start (c .before .before .before .before .before .before .before .before .before .before .before
+    .before .before .before .before .before .before .before)
+
+abbrev first-start-arg5-to-pass-heads : tie.After-first-start-arg5 → tie.After-pass-heads
+first-start-arg5-to-pass-heads c =
+    slack-to-pass-heads (c .before .before .before .before .before .before .before .before .before .before .before
+    .before .before)
+
+abbrev scratch2-to-step : tie.After-scratch2 → tie.After-step
+scratch2-to-step c =
+    c .before .before .before .before .before .before .before .before .before .before .before .before .before
+    .before .before .before .before .before
+
+abbrev queue2-to-pass-heads : tie.After-queue2 → tie.After-pass-heads
+queue2-to-pass-heads c =
+    first-start-arg5-to-pass-heads (c .before .before .before .before .before .before .before .before)
+
 drop-rows-requires : tie.Need-drop-rows-requires
 drop-rows-requires c κs =
     let pre = c .before .before .before .before .before .before .before .before .before .before .pre in
@@ -32,7 +59,7 @@ drop-rows-requires c κs =
 
 pass-heads-requires : tie.Need-pass-heads-requires
 pass-heads-requires c κs =
-    let pre = c .before .before .before .before .before .before .before .before .before .before .before .before .before .before .pre in
+    let pre = counts-to-start (c .before .before) .pre in
     let here = pre .0 .inside in
     record {
       sound = here .opened .sound;
@@ -45,7 +72,7 @@ step-requires : tie.Need-step-requires
 step-requires c κs =
     let pass-heads = c .before .before .before .before .before .before .before .pass-heads in
     let drop-rows = c .before .before .before .before .before .before .before .before .before .before .before .drop-rows in
-    let pre = c .before .before .before .before .before .before .before .before .before .before .before .before .before .before .before .before .before .before .before .before .before .before .pre in
+    let pre = counts-to-start (c .before .before .before .before .before .before .before .before .before .before) .pre in
     let here = pre .0 .inside in
     record {
       opened = ready-pruned-of (here .opened .sound) (pass-heads .ensures .pruned) (here .opened .setting .some-k) (pre .1 .0 .in-days) (pre .1 .0 .follows);
@@ -69,16 +96,16 @@ enum-told-2 c = search needs
 
 next-frame-requires : tie.Need-next-frame-requires
 next-frame-requires c κs =
-    let pre = c .before .before .before .before .before .before .before .before .before .before .before .before .before .before .before .before .before .before .before .before .before .before .before .before .before .before .before .before .before .before .before .before .before .pre in
+    let pre = counts2-to-start (c .before .before .before) .pre in
     omega (arith, pre .1 .0 .ordered, pre .1 .0 .in-days)
 
 first-start-requires : tie.Need-first-start-requires
 first-start-requires c κs =
     let next = c .before .before .before .before .before .next-frame in
     let step = c .before .before .before .before .before .before .before .before .before .before .before .before .before .before .before .before .step in
-    let pass-heads = c .before .before .before .before .before .before .before .before .before .before .before .before .before .before .before .before .before .before .before .before .before .before .before .before .pass-heads in
-    let drop-rows = c .before .before .before .before .before .before .before .before .before .before .before .before .before .before .before .before .before .before .before .before .before .before .before .before .before .before .before .before .drop-rows in
-    let pre = c .before .before .before .before .before .before .before .before .before .before .before .before .before .before .before .before .before .before .before .before .before .before .before .before .before .before .before .before .before .before .before .before .before .before .before .before .before .before .before .pre in
+    let pass-heads = first-start-arg5-to-pass-heads c .pass-heads in
+    let drop-rows = first-start-arg5-to-pass-heads c .before .before .before .before .drop-rows in
+    let pre = counts2-to-start (c .before .before .before .before .before .before .before .before .before) .pre in
     let here = pre .0 .inside in
     rw (next .ensures) (
       here .opened .sound,
@@ -121,8 +148,8 @@ returns : tie.Need-returns
 returns c =
     let enum-told = c .enum-told in
     let step = c .before .before .before .before .before .before .before .before .before .before .step in
-    let pass-heads = c .before .before .before .before .before .before .before .before .before .before .before .before .before .before .before .before .before .before .pass-heads in
-    let pre = c .before .before .before .before .before .before .before .before .before .before .before .before .before .before .before .before .before .before .before .before .before .before .before .before .before .before .before .before .before .before .before .before .before .pre in
+    let pass-heads = slack-to-pass-heads (c .before .before .before .before .before .before .before) .pass-heads in
+    let pre = counts2-to-start (c .before .before .before) .pre in
     let here = pre .0 .inside in
     let done = rw (enum-told .given .1) at (step .ensures) in
     record {
@@ -139,7 +166,7 @@ returns c =
 same-length-6 : tie.Need-same-length-6
 same-length-6 c =
     let first-start = c .before .before .before .before .before .before .before .before .before .before .first-start in
-    let pass-heads = c .before .before .before .before .before .before .before .before .before .before .before .before .before .before .before .before .before .before .before .before .before .before .before .before .before .before .before .before .before .before .before .before .before .before .before .pass-heads in
+    let pass-heads = queue2-to-pass-heads (c .before .before .before) .pass-heads in
     first-start .kept .1 .1 .1 .0 ∙ pass-heads .kept .1 .1 .1 .0
 
 same-length-7 : tie.Need-same-length-7
@@ -154,8 +181,8 @@ same-length-9 c = search needs
 same-length-10 : tie.Need-same-length-10
 same-length-10 c =
     let first-start = c .before .before .before .before .before .before .before .before .before .before .first-start in
-    let step = c .before .before .before .before .before .before .before .before .before .before .before .before .before .before .before .before .before .before .before .before .before .before .before .before .before .before .before .step in
-    let drop-rows = c .before .before .before .before .before .before .before .before .before .before .before .before .before .before .before .before .before .before .before .before .before .before .before .before .before .before .before .before .before .before .before .before .before .before .before .before .before .before .before .drop-rows in
+    let step = scratch2-to-step (c .before .before .before .before .before .before .before .before .before) .step in
+    let drop-rows = queue2-to-pass-heads (c .before .before .before) .before .before .before .before .drop-rows in
     first-start .kept .1 .1 .1 .1 .1 .1 .1 .1 .1 .0 ∙ (step .kept .1 .1 .1 .1 .1 .1 .1 .1 .1 .1 .1 .0 ∙ drop-rows .kept .1 .1 .1 .1 .1 .1 .1 .0)
 
 returns-2 : tie.Need-returns-2

@@ -16,6 +16,11 @@ Inv-loop slack₀ queue₀ tail upto end₀ p₀ slack queue end p = (tail ≤ p
 abbrev μ-loop : tie.MeasureT-loop
 μ-loop slack₀ queue₀ tail upto end₀ p₀ slack queue end p = upto - p
 
+-- ---- the ways back, from a place of the code to an earlier one
+
+abbrev queue-to-in-loop : tie.After-queue Inv-loop μ-loop → tie.In-loop Inv-loop μ-loop
+queue-to-in-loop c = c .before .before .before .before .before .before .before .before
+
 loop-holds : tie.Need-loop-holds Inv-loop μ-loop
 loop-holds c =
     let pre = c .before .before .pre in
@@ -43,22 +48,22 @@ drop-supporter-requires c κs =
 
 add-p : tie.Need-add-p Inv-loop μ-loop
 add-p c =
-    let loop-test = c .before .before .before .before .before .before .before .before .before .loop-test in
-    let pre = c .before .before .before .before .before .before .before .before .before .before .before .before .before .pre in
+    let loop-test = queue-to-in-loop (c .before) .loop-test in
+    let pre = queue-to-in-loop (c .before) .before .before .before .before .pre in
     omega (arith, loop-test .taken, pre .within)
 
 loop-less : tie.Need-loop-less Inv-loop μ-loop
 loop-less c =
-    let loop-test = c .before .before .before .before .before .before .before .before .before .loop-test in
+    let loop-test = queue-to-in-loop (c .before) .loop-test in
     omega (arith, loop-test .taken)
 
 loop-again : tie.Need-loop-again Inv-loop μ-loop
 loop-again c =
     let drop-supporter = c .before .before .before .before .drop-supporter in
     let entry = c .before .before .before .before .before .before .before .entry in
-    let loop-test = c .before .before .before .before .before .before .before .before .before .loop-test in
-    let loop = c .before .before .before .before .before .before .before .before .before .before .loop in
-    let pre = c .before .before .before .before .before .before .before .before .before .before .before .before .before .pre in (
+    let loop-test = queue-to-in-loop (c .before) .loop-test in
+    let loop = queue-to-in-loop (c .before) .before .loop in
+    let pre = queue-to-in-loop (c .before) .before .before .before .before .pre in (
       omega (arith, loop .inv .0),
       omega (arith, loop-test .taken),
       dropping-listed-next (loop .inv .2) (omega (arith, loop-test .taken, pre .within)) (entry .ensures)

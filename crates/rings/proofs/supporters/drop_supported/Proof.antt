@@ -36,6 +36,24 @@ Inv-loop days first second scratch frame times rise tail slack₀ queue₀ count
 abbrev μ-loop : tie.MeasureT-loop
 μ-loop days first second scratch frame times rise tail slack₀ queue₀ counting counts₀ last until p₀ end₀ moved₀ slack queue counts p end moved = last - p
 
+-- ---- the ways back, from a place of the code to an earlier one
+
+abbrev loop-to-start : tie.At-loop Inv-loop μ-loop → tie.Start Inv-loop μ-loop
+loop-to-start c = c .before .before .before .before .before .before .before .before .before .before .before .before
+
+abbrev slack-to-start : tie.After-slack Inv-loop μ-loop → tie.Start Inv-loop μ-loop
+slack-to-start c =
+    loop-to-start (c .before .before .before .before .before .before .before .before .before .before .before .before
+    .before)
+
+abbrev greater2-to-row-at : tie.After-greater2 Inv-loop μ-loop → tie.After-row-at Inv-loop μ-loop
+greater2-to-row-at c =
+    c .before .before .before .before .before .before .before .before .before .before .before .before .before
+    .before .before
+
+abbrev greater2-to-greater : tie.After-greater2 Inv-loop μ-loop → tie.After-greater Inv-loop μ-loop
+greater2-to-greater c = c .before .before .before .before .before .before .before .before .before .before
+
 entry-requires : tie.Need-entry-requires Inv-loop μ-loop
 entry-requires c κs =
     let pre = c .before .before .before .before .before .before .before .before .pre in
@@ -62,7 +80,7 @@ loop-holds c =
 
 row-at-requires : tie.Need-row-at-requires Inv-loop μ-loop
 row-at-requires c κs =
-    let pre = c .before .before .before .before .before .before .before .before .before .before .before .before .before .pre in
+    let pre = loop-to-start (c .before) .pre in
     let loop = c .before .loop in
     let loop-test = c .loop-test in
     reading-stands _ _ _ _ (pre .opened .sound) (pre .opened .pruned) (pre .small) (loop .inv .counted-dropping .dropping .reading) (loop .inv .cursor)
@@ -75,8 +93,8 @@ add-to-histogram-requires c κs =
     let loop-test = c .before .before .before .before .loop-test in
     let loop = c .before .before .before .before .before .loop in
     let lesser = c .before .before .before .before .before .before .lesser in
-    let args = c .before .before .before .before .before .before .before .before .before .before .before .before .before .before .before .before .before .args in
-    let pre = c .before .before .before .before .before .before .before .before .before .before .before .before .before .before .before .before .before .pre in
+    let args = loop-to-start (c .before .before .before .before .before) .args in
+    let pre = loop-to-start (c .before .before .before .before .before) .pre in
     λ h. counted-dropping-adds (args .times .now) (pre .opened) (pre .small) (pre .days) (pre .now-is) (pre .counted h .top)
     (
     counted-dropping-stop _ _ _ _ _ (pre .opened) _ (pre .times-long) (pre .small) (pre .every) (pre .days) _ _ (pre .now-is) _
@@ -87,13 +105,13 @@ add-to-histogram-requires c κs =
 same-length : tie.Need-same-length Inv-loop μ-loop
 same-length c =
     let loop = c .before .before .before .before .before .before .before .before .loop in
-    let pre = c .before .before .before .before .before .before .before .before .before .before .before .before .before .before .before .before .before .before .before .before .pre in
+    let pre = loop-to-start (c .before .before .before .before .before .before .before .before) .pre in
     loop .inv .counted-dropping .dropping .done .long ∙ sym (pre .slack-long)
 
 same-length-2 : tie.Need-same-length-2 Inv-loop μ-loop
 same-length-2 c =
     let loop = c .before .before .before .before .before .before .before .before .loop in
-    let pre = c .before .before .before .before .before .before .before .before .before .before .before .before .before .before .before .before .before .before .before .before .pre in
+    let pre = loop-to-start (c .before .before .before .before .before .before .before .before) .pre in
     loop .inv .counted-dropping .dropping .queued .long ∙ sym (pre .queue-long)
 
 same-length-3 : tie.Need-same-length-3 Inv-loop μ-loop
@@ -109,7 +127,7 @@ returns c =
     let loop-test = c .before .before .before .before .before .before .before .loop-test in
     let loop = c .before .before .before .before .before .before .before .before .loop in
     let lesser = c .before .before .before .before .before .before .before .before .before .lesser in
-    let pre = c .before .before .before .before .before .before .before .before .before .before .before .before .before .before .before .before .before .before .before .before .pre in
+    let pre = loop-to-start (c .before .before .before .before .before .before .before .before) .pre in
     let done = counted-dropping-stop _ _ _ _ _ (pre .opened) _ (pre .times-long) (pre .small) (pre .every) (pre .days) _ _ (pre .now-is)
     _ _ _ _ (loop .inv .counted-dropping) (loop .inv .cursor) (loop-test .taken) (row-at .ensures) (lesser .ensures) (if1 .taken) in
     record {
@@ -121,13 +139,13 @@ returns c =
 same-length-4 : tie.Need-same-length-4 Inv-loop μ-loop
 same-length-4 c =
     let loop = c .before .before .before .before .before .loop in
-    let pre = c .before .before .before .before .before .before .before .before .before .before .before .before .before .before .before .before .before .pre in
+    let pre = loop-to-start (c .before .before .before .before .before) .pre in
     loop .inv .counted-dropping .dropping .done .long ∙ sym (pre .slack-long)
 
 same-length-5 : tie.Need-same-length-5 Inv-loop μ-loop
 same-length-5 c =
     let loop = c .before .before .before .before .before .loop in
-    let pre = c .before .before .before .before .before .before .before .before .before .before .before .before .before .before .before .before .before .pre in
+    let pre = loop-to-start (c .before .before .before .before .before) .pre in
     loop .inv .counted-dropping .dropping .queued .long ∙ sym (pre .queue-long)
 
 same-length-6 : tie.Need-same-length-6 Inv-loop μ-loop
@@ -148,7 +166,7 @@ add-p : tie.Need-add-p Inv-loop μ-loop
 add-p c =
     let loop-test = c .before .before .before .before .loop-test in
     let loop = c .before .before .before .before .before .loop in
-    let pre = c .before .before .before .before .before .before .before .before .before .before .before .before .before .before .before .before .before .pre in
+    let pre = loop-to-start (c .before .before .before .before .before) .pre in
     omega (
       arith,
       reading-few _ _ _ _ (pre .opened .sound) (pre .opened .pruned) (pre .small) (loop .inv .counted-dropping .dropping .reading)
@@ -163,7 +181,7 @@ mul-z c =
 shared-slice-read-z : tie.Need-shared-slice-read-z Inv-loop μ-loop
 shared-slice-read-z c =
     let row-at = c .before .before .before .before .row-at in
-    let pre = c .before .before .before .before .before .before .before .before .before .before .before .before .before .before .before .before .before .before .pre in
+    let pre = loop-to-start (c .before .before .before .before .before .before) .pre in
     omega (arith, row-at .ensures .small, pre .times-long)
 
 greater-requires : tie.Need-greater-requires Inv-loop μ-loop
@@ -187,20 +205,20 @@ greater-requires-2 c κs = search needs
 take-from-histogram-requires : tie.Need-take-from-histogram-requires Inv-loop μ-loop
 take-from-histogram-requires c κs =
     let greater2 = c .before .greater2 in
-    let greater = c .before .before .before .before .before .before .before .before .before .before .before .greater in
-    let if1 = c .before .before .before .before .before .before .before .before .before .before .before .before .before .before .if1 in
-    let row-at = c .before .before .before .before .before .before .before .before .before .before .before .before .before .before .before .before .row-at in
-    let loop-test = c .before .before .before .before .before .before .before .before .before .before .before .before .before .before .before .before .before .loop-test in
-    let loop = c .before .before .before .before .before .before .before .before .before .before .before .before .before .before .before .before .before .before .loop in
-    let lesser = c .before .before .before .before .before .before .before .before .before .before .before .before .before .before .before .before .before .before .before .lesser in
-    let pre = c .before .before .before .before .before .before .before .before .before .before .before .before .before .before .before .before .before .before .before .before .before .before .before .before .before .before .before .before .before .before .pre in
+    let greater = greater2-to-greater (c .before) .greater in
+    let if1 = greater2-to-greater (c .before) .before .before .before .if1 in
+    let row-at = greater2-to-row-at (c .before) .row-at in
+    let loop-test = greater2-to-row-at (c .before) .before .loop-test in
+    let loop = greater2-to-row-at (c .before) .before .before .loop in
+    let lesser = greater2-to-row-at (c .before) .before .before .before .lesser in
+    let pre = slack-to-start (c .before .before .before .before .before) .pre in
     λ h. counted-dropping-asks _ _ _ _ _ (pre .opened) _ (pre .times-long) (pre .small) (pre .every) (pre .days) _ _ (pre .now-is)
     _ _ _ _ (loop .inv .counted-dropping) (loop .inv .cursor) (loop-test .taken) (row-at .ensures) (lesser .ensures) (if1 .left) refl
     (greater .ensures) (greater2 .ensures) refl h
 
 loop-less : tie.Need-loop-less Inv-loop μ-loop
 loop-less c =
-    let loop-test = c .before .before .before .before .before .before .before .before .before .before .before .before .before .before .before .before .before .before .before .before .loop-test in
+    let loop-test = greater2-to-row-at (c .before .before .before .before) .before .loop-test in
     omega (arith, loop-test .taken)
 
 loop-again : tie.Need-loop-again Inv-loop μ-loop
@@ -208,14 +226,14 @@ loop-again c =
     let take-from-histogram = c .before .before .take-from-histogram in
     let greater2 = c .before .before .before .before .greater2 in
     let drop-supporter = c .before .before .before .before .before .before .before .before .before .drop-supporter in
-    let greater = c .before .before .before .before .before .before .before .before .before .before .before .before .before .before .greater in
-    let if2 = c .before .before .before .before .before .before .before .before .before .before .before .before .before .before .before .before .if2 in
-    let if1 = c .before .before .before .before .before .before .before .before .before .before .before .before .before .before .before .before .before .if1 in
-    let row-at = c .before .before .before .before .before .before .before .before .before .before .before .before .before .before .before .before .before .before .before .row-at in
-    let loop-test = c .before .before .before .before .before .before .before .before .before .before .before .before .before .before .before .before .before .before .before .before .loop-test in
-    let loop = c .before .before .before .before .before .before .before .before .before .before .before .before .before .before .before .before .before .before .before .before .before .loop in
-    let lesser = c .before .before .before .before .before .before .before .before .before .before .before .before .before .before .before .before .before .before .before .before .before .before .lesser in
-    let pre = c .before .before .before .before .before .before .before .before .before .before .before .before .before .before .before .before .before .before .before .before .before .before .before .before .before .before .before .before .before .before .before .before .before .pre in
+    let greater = greater2-to-greater (c .before .before .before .before) .greater in
+    let if2 = greater2-to-greater (c .before .before .before .before) .before .before .if2 in
+    let if1 = greater2-to-greater (c .before .before .before .before) .before .before .before .if1 in
+    let row-at = greater2-to-row-at (c .before .before .before .before) .row-at in
+    let loop-test = greater2-to-row-at (c .before .before .before .before) .before .loop-test in
+    let loop = greater2-to-row-at (c .before .before .before .before) .before .before .loop in
+    let lesser = greater2-to-row-at (c .before .before .before .before) .before .before .before .lesser in
+    let pre = slack-to-start (c .before .before .before .before .before .before .before .before) .pre in
     record {
       cursor = loop .inv .cursor;
       counts-long = search (needs, loop .inv .counts-long);
@@ -228,8 +246,8 @@ add-to-histogram-requires-2 : tie.Need-add-to-histogram-requires-2 Inv-loop μ-l
 add-to-histogram-requires-2 c κs =
     let loop-test = c .before .loop-test in
     let loop = c .before .before .loop in
-    let args = c .before .before .before .before .before .before .before .before .before .before .before .before .before .before .args in
-    let pre = c .before .before .before .before .before .before .before .before .before .before .before .before .before .before .pre in
+    let args = loop-to-start (c .before .before) .args in
+    let pre = loop-to-start (c .before .before) .pre in
     λ h. counted-dropping-adds (args .times .now) (pre .opened) (pre .small) (pre .days) (pre .now-is) (pre .counted h .top)
     (
     counted-dropping-out _ _ _ _ _ (pre .opened) _ (pre .times-long) (pre .small) (pre .every) (pre .days) _ _ (pre .now-is) _
@@ -239,13 +257,13 @@ add-to-histogram-requires-2 c κs =
 same-length-7 : tie.Need-same-length-7 Inv-loop μ-loop
 same-length-7 c =
     let loop = c .before .before .before .before .before .loop in
-    let pre = c .before .before .before .before .before .before .before .before .before .before .before .before .before .before .before .before .before .pre in
+    let pre = loop-to-start (c .before .before .before .before .before) .pre in
     loop .inv .counted-dropping .dropping .done .long ∙ sym (pre .slack-long)
 
 same-length-8 : tie.Need-same-length-8 Inv-loop μ-loop
 same-length-8 c =
     let loop = c .before .before .before .before .before .loop in
-    let pre = c .before .before .before .before .before .before .before .before .before .before .before .before .before .before .before .before .before .pre in
+    let pre = loop-to-start (c .before .before .before .before .before) .pre in
     loop .inv .counted-dropping .dropping .queued .long ∙ sym (pre .queue-long)
 
 same-length-9 : tie.Need-same-length-9 Inv-loop μ-loop
@@ -258,7 +276,7 @@ returns-3 c =
     let add-to-histogram2 = c .before .before .add-to-histogram2 in
     let loop-test = c .before .before .before .before .loop-test in
     let loop = c .before .before .before .before .before .loop in
-    let pre = c .before .before .before .before .before .before .before .before .before .before .before .before .before .before .before .before .before .pre in
+    let pre = loop-to-start (c .before .before .before .before .before) .pre in
     let done = counted-dropping-out _ _ _ _ _ (pre .opened) _ (pre .times-long) (pre .small) (pre .every) (pre .days) _ _ (pre .now-is)
     _ _ _ _ (loop .inv .counted-dropping) (loop .inv .cursor) (loop-test .left) in
     record {

@@ -16,6 +16,21 @@ use Rattle.rings.proofs.peel.peel.Reads as peel-reads
 use Rattle.rings.proofs.table.rows_before.Reads as rows-before-reads
 use Rattle.rings.proofs.times.time_rows.Reads as time-rows-reads
 
+-- ---- the ways back, from a place of the code to an earlier one
+
+abbrev left-to-start : tie.After-left → tie.Start
+left-to-start c =
+    c .before .before .before .before .before .before .before .before .before .before .before .before .before
+    .before .before .before .before .before .before
+
+abbrev queue2-to-prepare-adjacency : tie.After-queue2 → tie.After-prepare-adjacency
+queue2-to-prepare-adjacency c =
+    c .before .before .before .before .before .before .before .before .before .before .before .before .before
+    .before .before
+
+abbrev queue2-to-move-heads : tie.After-queue2 → tie.After-move-heads
+queue2-to-move-heads c = c .before .before .before .before .before .before .before .before .before .before .before
+
 rows-before-requires : tie.Need-rows-before-requires
 rows-before-requires c κs = search needs
 
@@ -53,8 +68,7 @@ peel-requires c κs =
     c .before .before .before .before .before .before .before .before .before .before .before .before
     .before .rows-before in
     let pre =
-    c .before .before .before .before .before .before .before .before .before .before .before .before .before
-    .before .before .before .before .before .before .before .pre in
+    left-to-start (c .before) .pre in
     let sound = pre .0 in
     let asked = pre .1 .0 in
     let buffers = pre .1 .1 in (
@@ -69,15 +83,11 @@ time-rows-requires : tie.Need-time-rows-requires
 time-rows-requires c κs =
     let peel = c .before .before .before .before .before .before .peel in
     let rows-before2 =
-    c .before .before .before .before .before .before .before .before .before .before .before .before .before
-    .before .before .before .before .before .before .rows-before2 in
+    queue2-to-prepare-adjacency (c .before .before) .before .before .rows-before2 in
     let rows-before =
-    c .before .before .before .before .before .before .before .before .before .before .before .before .before
-    .before .before .before .before .before .before .before .rows-before in
+    queue2-to-prepare-adjacency (c .before .before) .before .before .before .rows-before in
     let pre =
-    c .before .before .before .before .before .before .before .before .before .before .before .before .before
-    .before .before .before .before .before .before .before .before .before .before .before .before .before
-    .before .pre in
+    left-to-start (c .before .before .before .before .before .before .before .before) .pre in
     let sound = pre .0 in
     let asked = pre .1 .0 in
     let buffers = pre .1 .1 in (
@@ -109,11 +119,9 @@ returns c =
     c .before .before .before .before .before .before .before .before .before .before .before .before
     .before .peel in
     let move-heads =
-    c .before .before .before .before .before .before .before .before .before .before .before .before .before
-    .before .before .before .before .before .before .before .move-heads in
+    queue2-to-move-heads (c .before .before .before .before .before .before .before .before .before) .move-heads in
     let prepare-adjacency =
-    c .before .before .before .before .before .before .before .before .before .before .before .before .before
-    .before .before .before .before .before .before .before .before .before .before .before .prepare-adjacency in
+    queue2-to-prepare-adjacency (c .before .before .before .before .before .before .before .before .before) .prepare-adjacency in
     record {
       accounts = accounts-are (peel .ensures);
       rows = time-rows .ensures;
