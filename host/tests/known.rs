@@ -451,6 +451,93 @@ fn one_vocabulary() {
     assert_eq!(of_readme, ours);
 }
 
+/// The variants of an enum of a Rattle source: the number that the comment
+/// above each begins with, if it does, and the name.
+fn variants(source: &str, name: &str) -> Vec<(Option<u32>, String)> {
+    let head = format!("pub enum {name} {{\n");
+    let (_, body) = source.split_once(&head).expect(name);
+    let (body, _) = body.split_once("\n}").expect(name);
+    let mut found = Vec::new();
+    let mut number = None;
+    for line in body.lines().map(str::trim) {
+        if let Some(comment) = line.strip_prefix("// ") {
+            let digits = comment.split(':').next().unwrap();
+            number = number.or(digits.parse().ok());
+        } else {
+            let word = line.split(|c: char| !c.is_alphanumeric()).next();
+            found.push((number.take(), word.unwrap().to_string()));
+        }
+    }
+    found
+}
+
+/// The same vocabulary in Rattle: rings and text, each as its enum declares its
+/// refusals and as its one function tells their numbers, have between them
+/// every number, and none by another word.
+#[test]
+fn one_vocabulary_in_rattle() {
+    let read = |path: &str| std::fs::read_to_string(path).expect(path);
+    let refusal = read("../crates/rings/src/refusal.rt");
+    let table = read("../crates/text/src/table.rt");
+    let report = read("../crates/text/src/report.rt");
+    let word = |line: &str, prefix: &str| {
+        let (_, rest) = line.split_once(prefix)?;
+        let word = rest.split(|c: char| !c.is_alphanumeric()).next()?;
+        Some(word.to_string())
+    };
+
+    // As declared. A reader's answer that is no refusal has no number.
+    let of_rings = variants(&refusal, "Refusal");
+    let of_text = variants(&table, "TableRead");
+    assert_eq!(of_text[0], (None, "Rows".to_string()));
+    let mut declared = Vec::new();
+    for (number, name) in of_rings.iter().chain(&of_text[1..]) {
+        let number = number.unwrap_or_else(|| panic!("{name} has no number above it"));
+        declared.push((number, name.clone()));
+    }
+
+    // As told: in rings by `Refusal::NAME .. => Told {`, `number: NUMBER,`; in
+    // text by `const CONSTANT: u32 = NUMBER;` and `TableRead::NAME .. => refused(CONSTANT, ..`.
+    let mut told = Vec::new();
+    let mut arm = None;
+    for line in refusal.lines().map(str::trim) {
+        if line.ends_with("=> Told {") {
+            arm = word(line, "Refusal::");
+        } else if let (Some(name), Some(number)) = (&arm, line.strip_prefix("number: ")) {
+            told.push((number.trim_end_matches(',').parse().unwrap(), name.clone()));
+            arm = None;
+        }
+    }
+    assert_eq!(told.len(), of_rings.len());
+    for line in report.lines().map(str::trim) {
+        let Some((arm, rest)) = line.split_once(" => refused(") else {
+            continue;
+        };
+        let Some(name) = word(arm, "Read::").filter(|name| name != "Query") else {
+            continue;
+        };
+        let constant = rest.split(',').next().unwrap();
+        let said = format!("const {constant}: u32 = ");
+        let number = report.lines().find_map(|line| line.strip_prefix(&said));
+        let number = number.unwrap().trim_end_matches(';').parse().unwrap();
+        assert!(
+            NAMES.contains(&(number, constant, &name)),
+            "{constant} for {name}"
+        );
+        told.push((number, name));
+    }
+
+    for mut of_rattle in [declared, told] {
+        of_rattle.sort();
+        of_rattle.dedup();
+        let ours: Vec<(u32, String)> = NAMES
+            .iter()
+            .map(|&(number, _, name)| (number, name.to_string()))
+            .collect();
+        assert_eq!(of_rattle, ours);
+    }
+}
+
 /// The C host's expected listings are those of the brute-force version.
 #[test]
 fn examples_listed() {

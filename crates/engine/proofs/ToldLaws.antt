@@ -48,17 +48,30 @@ refusal-told r {t} e l = ap (row (t .number)) l ∙ ap (λ (x : RingsTold). row 
 
 pub ring-told : (t : Table) (q : Query) (s e : ℕ) (old before : List ℕ) {v a : Counted} {n : Numbers} {marks scratch : List ℕ}
     → v ≡ a → marks ≡ ringMarks v t q s e old → scratch ≡ countedScratch v before → n ≡ numbers (countedReport v)
-    → (n .number ≡ countedReport a .number) × (n .place ≡ countedReport a .place) × (n .count ≡ countedReport a .count) × (marks ≡ ringMarks a t q s e old) × (scratch ≡ countedScratch a before)
+    → (n .number ≡ countedReport a .number)
+    × (n .place ≡ countedReport a .place)
+    × (n .count ≡ countedReport a .count)
+    × (marks ≡ ringMarks a t q s e old)
+    × (scratch ≡ countedScratch a before)
 ring-told t q s e old before answer marks scratch h =
     let n = told countedReport answer h in
     (n .number, n .place, n .count, marks ∙ ap (λ v. ringMarks v t q s e old) answer, scratch ∙ ap (λ v. countedScratch v before) answer)
 
 pub times-told : (t : Table) (q : Query) (te s : ℕ) (old old′ before : List ℕ) {v a : Verdict} {n : Numbers} {accounts rows scratch : List ℕ}
     → v ≡ a → accounts ≡ accountColumn v t q te s old → rows ≡ rowColumn v t q te s old′ → scratch ≡ verdictScratch v before → n ≡ numbers (verdictReport v)
-    → (n .number ≡ verdictReport a .number) × (n .place ≡ verdictReport a .place) × (accounts ≡ accountColumn a t q te s old) × (rows ≡ rowColumn a t q te s old′) × (scratch ≡ verdictScratch a before)
+    → (n .number ≡ verdictReport a .number)
+    × (n .place ≡ verdictReport a .place)
+    × (accounts ≡ accountColumn a t q te s old)
+    × (rows ≡ rowColumn a t q te s old′)
+    × (scratch ≡ verdictScratch a before)
 times-told t q te s old old′ before answer accounts rows scratch h =
-    let n = told verdictReport answer h in
-    (n .number, n .place, accounts ∙ ap (λ v. accountColumn v t q te s old) answer, rows ∙ ap (λ v. rowColumn v t q te s old′) answer, scratch ∙ ap (λ v. verdictScratch v before) answer)
+    let n = told verdictReport answer h in (
+      n .number,
+      n .place,
+      accounts ∙ ap (λ v. accountColumn v t q te s old) answer,
+      rows ∙ ap (λ v. rowColumn v t q te s old′) answer,
+      scratch ∙ ap (λ v. verdictScratch v before) answer,
+    )
 
 pub recall-told : (t : Table) (l : Columns) (s e : ℕ) (old : List ℕ) {v a : Verdict} {n : Numbers} {marks : List ℕ}
     → v ≡ a → marks ≡ recallMarks v t l s e old → n ≡ numbers (verdictReport v)
@@ -69,25 +82,55 @@ recall-told t l s e old answer marks h =
 
 pub read-told : (new new′ new″ old old′ old″ : List ℕ) {v a : TableRead} {n : Numbers} {x x′ x″ : List ℕ}
     → v ≡ a → x ≡ filled v new old → x′ ≡ filled v new′ old′ → x″ ≡ filled v new″ old″ → n ≡ numbers (readReport v)
-    → (n .number ≡ readReport a .number) × (n .place ≡ readReport a .place) × (n .count ≡ readReport a .count) × (x ≡ filled a new old) × (x′ ≡ filled a new′ old′) × (x″ ≡ filled a new″ old″)
+    → (n .number ≡ readReport a .number)
+    × (n .place ≡ readReport a .place)
+    × (n .count ≡ readReport a .count)
+    × (x ≡ filled a new old)
+    × (x′ ≡ filled a new′ old′)
+    × (x″ ≡ filled a new″ old″)
 read-told new new′ new″ old old′ old″ answer x x′ x″ h =
     let n = told readReport answer h in
     (n .number, n .place, n .count, x ∙ ap (λ v. filled v new old) answer, x′ ∙ ap (λ v. filled v new′ old′) answer, x″ ∙ ap (λ v. filled v new″ old″) answer)
 
 pub minimal-told : (t : Table) (q : Query) (ts te : ℕ) (old old′ old″ before : List ℕ) {v a : Counted} {n : Numbers} {rows starts ends scratch : List ℕ}
-    → v ≡ a → rows ≡ minimalRows v t q ts te old → starts ≡ minimalStarts v t q ts te old′ → ends ≡ minimalEnds v t q ts te old″ → scratch ≡ countedScratch v before → n ≡ numbers (countedReport v)
-    → (n .number ≡ countedReport a .number) × (n .place ≡ countedReport a .place) × (n .count ≡ countedReport a .count) × (rows ≡ minimalRows a t q ts te old) × (starts ≡ minimalStarts a t q ts te old′) × (ends ≡ minimalEnds a t q ts te old″) × (scratch ≡ countedScratch a before)
+    → v ≡ a
+    → rows ≡ minimalRows v t q ts te old
+    → starts ≡ minimalStarts v t q ts te old′
+    → ends ≡ minimalEnds v t q ts te old″
+    → scratch ≡ countedScratch v before
+    → n ≡ numbers (countedReport v)
+    → (n .number ≡ countedReport a .number)
+    × (n .place ≡ countedReport a .place)
+    × (n .count ≡ countedReport a .count)
+    × (rows ≡ minimalRows a t q ts te old)
+    × (starts ≡ minimalStarts a t q ts te old′)
+    × (ends ≡ minimalEnds a t q ts te old″)
+    × (scratch ≡ countedScratch a before)
 minimal-told t q ts te old old′ old″ before answer rows starts ends scratch h =
-    let n = told countedReport answer h in
-    (n .number, n .place, n .count, rows ∙ ap (λ v. minimalRows v t q ts te old) answer, starts ∙ ap (λ v. minimalStarts v t q ts te old′) answer, ends ∙ ap (λ v. minimalEnds v t q ts te old″) answer, scratch ∙ ap (λ v. countedScratch v before) answer)
+    let n = told countedReport answer h in (
+      n .number,
+      n .place,
+      n .count,
+      rows ∙ ap (λ v. minimalRows v t q ts te old) answer,
+      starts ∙ ap (λ v. minimalStarts v t q ts te old′) answer,
+      ends ∙ ap (λ v. minimalEnds v t q ts te old″) answer,
+      scratch ∙ ap (λ v. countedScratch v before) answer,
+    )
 
-pub listing-told : (t : Table) (q : Query) (ts te : ℕ) (old : RingColumns (List ℕ)) (before : List ℕ) {v a : Listed} {n : Numbers} {sum : ℕ} {columns : RingColumns (List ℕ)} {scratch : List ℕ}
+pub listing-told : (t : Table) (q : Query) (ts te : ℕ) (old : RingColumns (List ℕ)) (before : List ℕ) {v a : Listed}
+    {n : Numbers} {sum : ℕ} {columns : RingColumns (List ℕ)} {scratch : List ℕ}
     → v ≡ a → columns ≡ listingColumns v t q ts te old → scratch ≡ listingScratch v before → n ≡ numbers (listingReport v) → sum ≡ listingSum v
     → (n .number ≡ listingReport a .number) × (n .place ≡ listingReport a .place) × (n .count ≡ listingReport a .count)
     × (sum ≡ listingSum a) × (columns ≡ listingColumns a t q ts te old) × (scratch ≡ listingScratch a before)
 listing-told t q ts te old before answer columns scratch h sum =
-    let n = told listingReport answer h in
-    (n .number, n .place, n .count, sum ∙ ap listingSum answer, columns ∙ ap (λ v. listingColumns v t q ts te old) answer, scratch ∙ ap (λ v. listingScratch v before) answer)
+    let n = told listingReport answer h in (
+      n .number,
+      n .place,
+      n .count,
+      sum ∙ ap listingSum answer,
+      columns ∙ ap (λ v. listingColumns v t q ts te old) answer,
+      scratch ∙ ap (λ v. listingScratch v before) answer,
+    )
 
 pub list-told : (o : Outcome) (old : List ℕ) {v a : Printed} {n : Numbers} {output : List ℕ}
     → v ≡ a → output ≡ listOutput v o old → n ≡ numbers (printedReport v)

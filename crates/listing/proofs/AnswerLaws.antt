@@ -21,7 +21,8 @@ use Rattle.rings.specs.TableCheck.{dayBefore, rowFaults, rowCheck, tableCheck}
 use Rattle.rings.specs.Buffers.{over}
 use Rattle.rings.specs.declared.Query.{Query}
 use Rattle.rings.specs.declared.refusal.Refusal.{Refusal}
-use Rattle.rings.specs.declared.refusal.Refusal.the-variants.{ColumnsDiffer, TooLarge, BadDay, BadAccounts, DayFalls, BadK, BadRange, BadLength, Scratch, NoRoom}
+use Rattle.rings.specs.declared.refusal.Refusal.the-variants.{ColumnsDiffer, TooLarge, BadDay, BadAccounts, DayFalls}
+use Rattle.rings.specs.declared.refusal.Refusal.the-variants.{BadK, BadRange, BadLength, Scratch, NoRoom}
 use Rattle.rings.specs.declared.refusal.Told.{Told}
 use Rattle.rings.specs.declared.refusal.Verdict.{Verdict}
 use Rattle.rings.specs.declared.refusal.Verdict.the-variants.{Accepted, Refused}
@@ -81,14 +82,18 @@ unfolding rowFaults placeOf
 low-row n j before day a b h =
     low-then n (BadDay j when no (leb 1 day and leb day 1024)) (BadAccounts j when ltb 4095 b or no (ltb a b) then DayFalls j when ltb day before)
     (low-when n (BadDay j) (no (leb 1 day and leb day 1024)) (omega arith))
-    (low-then n (BadAccounts j when ltb 4095 b or no (ltb a b)) (DayFalls j when ltb day before) (low-when n (BadAccounts j) (ltb 4095 b or no (ltb a b)) (omega arith)) (low-when n (DayFalls j) (ltb day before) (omega arith)))
+    (low-then n (BadAccounts j when ltb 4095 b or no (ltb a b)) (DayFalls j when ltb day before)
+    (low-when n (BadAccounts j) (ltb 4095 b or no (ltb a b)) (omega arith))
+    (low-when n (DayFalls j) (ltb day before) (omega arith)))
 
 low-table : (t : Table) → Low (size t) (tableCheck t)
 unfolding tableCheck rowCheck placeOf
 low-table t =
-    low-then (size t) (ColumnsDiffer when no (eqb (length (t .first)) (size t) and eqb (length (t .second)) (size t))) (TooLarge when ltb 16384 (size t) then inOrder (tabulate (rowCheck t) 0 (size t)))
+    low-then (size t) (ColumnsDiffer when no (eqb (length (t .first)) (size t) and eqb (length (t .second)) (size t)))
+    (TooLarge when ltb 16384 (size t) then inOrder (tabulate (rowCheck t) 0 (size t)))
     (low-when (size t) ColumnsDiffer (no (eqb (length (t .first)) (size t) and eqb (length (t .second)) (size t))) (omega arith))
-    (low-then (size t) (TooLarge when ltb 16384 (size t)) (inOrder (tabulate (rowCheck t) 0 (size t))) (low-when (size t) TooLarge (ltb 16384 (size t)) (omega arith))
+    (low-then (size t) (TooLarge when ltb 16384 (size t)) (inOrder (tabulate (rowCheck t) 0 (size t)))
+    (low-when (size t) TooLarge (ltb 16384 (size t)) (omega arith))
     (low-order (size t) (rowCheck t) 0 (size t) (omega arith) (λ j h. low-row (size t) j (dayBefore t j) (dayOf t j) (firstOf t j) (secondOf t j) h)))
 
 low-query : (n : ℕ) (q : Query) → Low n (queryCheck q)
@@ -121,14 +126,18 @@ low-checks t q lo hi places scratch =
     (low-then n _ _ (low-lengths n (no (eqb (places .ends) (places .starts) and eqb (places .rows) (places .starts))))
     (low-then n _ _ (low-scratch n n scratch) (low-room n (ltb (places .starts) (length (listing t q lo hi))))))))
 
-pub refused-place : (t : Table) (q : Query) (lo hi : ℕ) (places : Columns ℕ) (scratch : ℕ) {r : Refusal} → listingAnswer t q lo hi places scratch ≡ Listed.Refused r → placeOf r ≤ size t
+pub refused-place : (t : Table) (q : Query) (lo hi : ℕ) (places : Columns ℕ) (scratch : ℕ) {r : Refusal}
+    → listingAnswer t q lo hi places scratch ≡ Listed.Refused r
+    → placeOf r ≤ size t
 unfolding listingAnswer
 refused-place t q lo hi places scratch {r} e =
     low-checks t q lo hi places scratch .low r (summed-refused (listingChecks t q lo hi places scratch) (listing t q lo hi) e)
 
 -- ---- a listing that is answered
 
-rings-room : (t : Table) (q : Query) (lo hi : ℕ) (places : Columns ℕ) (scratch : ℕ) → listingChecks t q lo hi places scratch ≡ Accepted → length (listing t q lo hi) ≤ places .starts
+rings-room : (t : Table) (q : Query) (lo hi : ℕ) (places : Columns ℕ) (scratch : ℕ)
+    → listingChecks t q lo hi places scratch ≡ Accepted
+    → length (listing t q lo hi) ≤ places .starts
 unfolding listingChecks
 rings-room t q lo hi places scratch e =
     let e₁ = accepted-right (tableCheck t) _ e in

@@ -64,7 +64,11 @@ lengths-on x y = record { starts = y .starts ∙ x .starts; ends = y .ends ∙ x
 
 pub entering-places : {room n : ℕ} {x : ListedRing} {old new : Columns (List ℕ)} → Entering room n x old new → SameLengths old new
 entering-places (Entering.pass h e) =
-    record { starts = ap (λ (c : Columns (List ℕ)). length (c .starts)) e; ends = ap (λ (c : Columns (List ℕ)). length (c .ends)) e; rows = ap (λ (c : Columns (List ℕ)). length (c .rows)) e }
+    record {
+      starts = ap (λ (c : Columns (List ℕ)). length (c .starts)) e;
+      ends = ap (λ (c : Columns (List ℕ)). length (c .ends)) e;
+      rows = ap (λ (c : Columns (List ℕ)). length (c .rows)) e;
+    }
 entering-places {n = n} {x} {old} (Entering.one h e) =
     record {
       starts = ap (λ (c : Columns (List ℕ)). length (c .starts)) e ∙ length-set (old .starts) n (x .start);
@@ -75,20 +79,29 @@ entering-places {n = n} {x} {old} (Entering.one h e) =
 -- room stays where lengths do
 pub room-kept : {room : ℕ} {old new : Columns (List ℕ)} → Room room old → SameLengths old new → Room room new
 room-kept R S =
-    record { starts = omega (arith, R .starts, S .starts); alike = record { ends = omega (arith, R .alike .ends, S .ends, S .starts); rows = omega (arith, R .alike .rows, S .rows, S .starts) } }
+    record {
+      starts = omega (arith, R .starts, S .starts);
+      alike = record { ends = omega (arith, R .alike .ends, S .ends, S .starts); rows = omega (arith, R .alike .rows, S .rows, S .starts) };
+    }
 
 pub written-none : (c : Columns (List ℕ)) → withEntries [] c ≡ c
 written-none c = λ i. columnsOf (over-none (c .starts) i) (over-none (c .ends) i) (over-none (c .rows) i)
 
-pub written-full : (room : ℕ) (ls : List ListedRing) (lent : Columns (List ℕ)) {now : Columns (List ℕ)} → length ls ≤ room → now ≡ withEntries (take room ls) lent → now ≡ withEntries ls lent
+pub written-full : (room : ℕ) (ls : List ListedRing) (lent : Columns (List ℕ)) {now : Columns (List ℕ)}
+    → length ls ≤ room
+    → now ≡ withEntries (take room ls) lent
+    → now ≡ withEntries ls lent
 written-full room ls lent h e = e ∙ ap (λ (xs : List ListedRing). withEntries xs lent) (take-all room ls h)
 
-module _ {room : ℕ} (done : List ListedRing) (lent : Columns (List ℕ)) {now : Columns (List ℕ)} (x : ListedRing) (R : Room room now) (e : now ≡ withEntries (take room done) lent) where
+module _ {room : ℕ} (done : List ListedRing) (lent : Columns (List ℕ)) {now : Columns (List ℕ)} (x : ListedRing)
+    (R : Room room now) (e : now ≡ withEntries (take room done) lent) where
   -- behind the last entry
   put-next : length done < room → put (length done) x now ≡ withEntries (done ++ x ∷ []) lent
   put-next h =
       ap (put (length done) x) whole
-      ∙ (λ i. columnsOf (column-next (λ y. y .start) done (lent .starts) x fits i) (column-next (λ y. y .end) done (lent .ends) x fits-ends i) (column-next (λ y. y .rows) done (lent .rows) x fits-rows i))
+      ∙ (λ i. columnsOf (column-next (λ y. y .start) done (lent .starts) x fits i)
+      (column-next (λ y. y .end) done (lent .ends) x fits-ends i)
+      (column-next (λ y. y .rows) done (lent .rows) x fits-rows i))
     where
       whole : now ≡ withEntries done lent
       whole = written-full room done lent (omega arith) e

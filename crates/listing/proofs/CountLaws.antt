@@ -1,8 +1,6 @@
 -- What a listing lists, and how many rings a range has.
 --     windows-length           the windows of a range number n(n+1)/2
 --     listing-most, rings-most no listing has more entries, and no range has more rings
---     same-length, same-total  two lists of different members have one length and one sum where they have the same members
---     same-rows-e, same-rows-i sameRows says that two row sets are equal
 --     distinct-listed          a listing has as many entries as the range has distinct rings that are not empty
 --     distinct-are, rings-counted    `distinctRings` holds exactly these rings, each once; any list that does has as many
 --     distinct-sum, sum-most   its sum is the sum of their rows, and at most n(n+1)/2 times the rows of the table
@@ -11,31 +9,35 @@
 --     ring-listed              each window's ring, if not empty, is listed once and only once, by its tightest window
 -- Assumes nothing.
 use Prim.Native.Nat.{ℕ, zero, suc, _+_, _*_, _-_, _/_, _≤_, _<_, zero-le}
-use native.Mathlib.Nat.{le-refl, le-trans, le-antisymm, suc-mul, mul-suc, mul-le-mul-right, add-mul-div-right}
+use native.Mathlib.Nat.{le-refl, le-trans, suc-mul, mul-suc, mul-le-mul-right, add-mul-div-right}
 use native.Mathlib.Omega.{arith}
 use mathlib.Core.Path.{_≡_, refl, sym, _∙_, ap, subst}
 use mathlib.Core.Logic.{_⊎_, ⊎-elim}
-use mathlib.Core.Bool.{Bool, true, false}
-use mathlib.Core.List.{List, [], _∷_, map, List·Memᴰ as Mem, List·Memᴰ·head as here, List·Memᴰ·tail as there, List·Memᴰ·not-nil as not-nil, List·Memᴰ·cases-cons as cases-cons, Memᴰ·cast as mem-cast, flatten}
+use mathlib.Core.Bool.{Bool, true}
+use mathlib.Core.List.{List, [], _∷_, map, List·Memᴰ as Mem, List·Memᴰ·head as here, List·Memᴰ·tail as there}
+use mathlib.Core.List.{List·Memᴰ·not-nil as not-nil, List·Memᴰ·cases-cons as cases-cons, Memᴰ·cast as mem-cast, flatten}
 use lib.ListN.{length, length-map, length-append}
-use Rattle.rings.specs.Words.{_and_, no, tabulate, consIf, filterBy, any, Pairwise}
+use Rattle.rings.specs.Words.{tabulate, filterBy, Pairwise}
 use Rattle.rings.specs.Words.Pairwise.{none, more}
 use Rattle.rings.specs.Table.{Table, size}
 use Rattle.rings.specs.Ring.{ring, members}
 use Rattle.rings.specs.CoreTimes.{never}
 use Rattle.rings.specs.Windows.{Window, windowsFrom, windows}
 use Rattle.rings.specs.declared.Query.{Query}
-use Rattle.rings.proofs.WordLaws.{true-or-false, clash, and-i, and-l, and-r, length-tabulate}
-use Rattle.rings.proofs.ListLaws.{filterBy-yes, filterBy-no, mem-filterBy, filterBy-mem, mem-map, map-mem, any-i, any-e, pair-filterBy, pair-map, pair-weaken, pair-unique}
+use Rattle.rings.proofs.WordLaws.{true-or-false, length-tabulate}
+use Rattle.rings.proofs.ListLaws.{filterBy-yes, filterBy-no, mem-filterBy, filterBy-mem, mem-map, map-mem}
+use Rattle.rings.proofs.ListLaws.{pair-filterBy, pair-map, pair-weaken, pair-unique}
 use Rattle.rings.proofs.PeelLaws.{members-length}
 use Rattle.rings.proofs.RingLaws.{ring-sized}
 use Rattle.rings.proofs.WindowLaws.{OfRange, Earlier, windows-e, windows-i, windows-order}
 use Rattle.listing.specs.Tight.{nonempty, tightest, tight}
 use Rattle.listing.specs.Listing.{ListedRing, entryOf, listing, rowSum}
-use Rattle.listing.specs.Distinct.{sameMark, sameRows, distinct, ringsOf, distinctRings}
+use Rattle.listing.specs.Distinct.{sameRows, distinct, ringsOf, distinctRings}
 use Rattle.listing.specs.EachRing.{Sooner, EntryOf, IsListing, ofRing, ListedOnce, AreRings, RingOf, ringSum}
 use Rattle.listing.specs.LongestList.{longest, daysOf}
 use Rattle.listing.proofs.TightLaws.{nonempty-e, nonempty-i, tight-e, tightest-ring, tight-one}
+use Rattle.listing.proofs.DistinctLaws.{Apart, total, Same, same-total, same-length, same-rows-e, same-rows-i}
+use Rattle.listing.proofs.DistinctLaws.{distinct-mem, mem-distinct, distinct-apart}
 
 -- ---- the most rings that there can be
 
@@ -58,7 +60,8 @@ windows-length lo hi = from (suc hi - lo) lo refl
     from (suc n) i e =
         let a : length (windowsFrom hi i) ≡ suc n = length-tabulate (λ d. record { start = i; end = d }) i (suc hi - i) ∙ sym e in
         let b : length (flatten (tabulate (windowsFrom hi) (suc i) n)) ≡ longest n = from n (suc i) (omega arith) in
-        length-append (windowsFrom hi i) (flatten (tabulate (windowsFrom hi) (suc i) n)) ∙ (ap (λ (m : ℕ). m + length (flatten (tabulate (windowsFrom hi) (suc i) n))) a ∙ (ap (λ (m : ℕ). suc n + m) b ∙ sym (longest-suc n)))
+        length-append (windowsFrom hi i) (flatten (tabulate (windowsFrom hi) (suc i) n))
+        ∙ (ap (λ (m : ℕ). m + length (flatten (tabulate (windowsFrom hi) (suc i) n))) a ∙ (ap (λ (m : ℕ). suc n + m) b ∙ sym (longest-suc n)))
 
 filterBy-length : {A : Type 0} (p : A → Bool) (xs : List A) → length (filterBy p xs) ≤ length xs
 unfolding filterBy
@@ -72,113 +75,11 @@ pub listing-most : (t : Table) (q : Query) (lo hi : ℕ) → length (listing t q
 unfolding listing
 listing-most t q lo hi =
     let test : Window → Bool = λ w. tight t q (w .start) (w .end) in
-    let a : length (map (entryOf t q) (filterBy test (windows lo hi))) ≡ length (filterBy test (windows lo hi)) = length-map (filterBy test (windows lo hi)) (entryOf t q) in
+    let a : length (map (entryOf t q) (filterBy test (windows lo hi))) ≡ length (filterBy test (windows lo hi)) =
+    length-map (filterBy test (windows lo hi)) (entryOf t q) in
     let b : length (filterBy test (windows lo hi)) ≤ length (windows lo hi) = filterBy-length test (windows lo hi) in
     let c : length (windows lo hi) ≡ longest (daysOf lo hi) = windows-length lo hi in
     omega arith
-
--- ---- lists of different members
-
-abbrev pub Apart : {A : Type 0} → A → A → Type 0
-Apart x y = x ≡ y → ⊥
-
-abbrev total : {A : Type 0} → (A → ℕ) → List A → ℕ
-total f [] = 0
-total f (x ∷ xs) = f x + total f xs
-
-module _ {A : Type 0} where
-  -- a list with one place of x taken out
-  record Without (x : A) (ys : List A) : Type 0 where
-    rest : List A
-    less : (f : A → ℕ) → total f ys ≡ f x + total f rest
-    others : (z : A) → Mem z ys → Apart z x → Mem z rest
-
-  without : (x : A) (ys : List A) → Mem x ys → Without x ys
-  without x [] m = absurd (not-nil m)
-  without x (y ∷ ys) m =
-      ⊎-elim (λ e. record { rest = ys; less = λ f. ap (λ (z : A). f z + total f ys) (sym e); others = λ z n a. ⊎-elim (λ r. absurd (a (r ∙ sym e))) (λ r. r) (cases-cons n) })
-      (λ h.
-      let w = without x ys h in
-      record { rest = y ∷ w .rest; less = λ f. let e : total f ys ≡ f x + total f (w .rest) = w .less f in omega arith; others = λ z n a. ⊎-elim (λ r. here r) (λ r. there (w .others z r a)) (cases-cons n) }) (cases-cons m)
-
-  -- different members sum up to no more than a list that has them all
-  no-more : (f : A → ℕ) (xs ys : List A) → Pairwise Apart xs → ((x : A) → Mem x xs → Mem x ys) → total f xs ≤ total f ys
-  no-more f [] ys p h = zero-le
-  no-more f (x ∷ xs) ys (more g p) h =
-      let w = without x ys (h x (here refl)) in
-      let l : total f xs ≤ total f (w .rest) = no-more f xs (w .rest) p (λ z m. w .others z (h z (there m)) (λ e. g z m (sym e))) in
-      let e : total f ys ≡ f x + total f (w .rest) = w .less f in omega arith
-
-  -- two lists of different members with the same members
-  record Same (xs ys : List A) : Type 0 where
-    left-apart : Pairwise Apart xs
-    right-apart : Pairwise Apart ys
-    to : (x : A) → Mem x xs → Mem x ys
-    back : (x : A) → Mem x ys → Mem x xs
-
-  same-total : (f : A → ℕ) (xs ys : List A) → Same xs ys → total f xs ≡ total f ys
-  same-total f xs ys s = le-antisymm (no-more f xs ys (s .left-apart) (s .to)) (no-more f ys xs (s .right-apart) (s .back))
-
-  length-total : (xs : List A) → length xs ≡ total (λ x. 1) xs
-  length-total [] = refl
-  length-total (x ∷ xs) = let e : length xs ≡ total (λ x. 1) xs = length-total xs in omega arith
-
-  same-length : (xs ys : List A) → Same xs ys → length xs ≡ length ys
-  same-length xs ys s = length-total xs ∙ (same-total (λ x. 1) xs ys s ∙ sym (length-total ys))
-
--- ---- distinct row sets
-
-pub same-rows-e : (m m′ : List Bool) → sameRows m m′ ≡ true → m ≡ m′
-unfolding sameRows sameMark no
-same-rows-e [] [] h = refl
-same-rows-e [] (b ∷ m′) h = clash refl (sym h)
-same-rows-e (a ∷ m) [] h = clash refl (sym h)
-same-rows-e (a ∷ m) (b ∷ m′) h = let e : m ≡ m′ = same-rows-e m m′ (and-r (sameMark a b) (sameRows m m′) h) in let f : a ≡ b = marks-e a b (and-l (sameMark a b) (sameRows m m′) h) in cc
-  where
-    marks-e : (x y : Bool) → sameMark x y ≡ true → x ≡ y
-    marks-e true y k = sym k
-    marks-e false true k = k
-    marks-e false false k = refl
-
-pub same-rows-i : (m : List Bool) → sameRows m m ≡ true
-unfolding sameRows sameMark no
-same-rows-i [] = refl
-same-rows-i (true ∷ m) = and-i refl (same-rows-i m)
-same-rows-i (false ∷ m) = and-i refl (same-rows-i m)
-
-distinct-again : (m : List Bool) (ms : List (List Bool)) → any (sameRows m) ms ≡ true → distinct (m ∷ ms) ≡ distinct ms
-unfolding distinct consIf no
-distinct-again m ms h = ap (λ (b : Bool). consIf (no b) m (distinct ms)) h
-
-distinct-new : (m : List Bool) (ms : List (List Bool)) → any (sameRows m) ms ≡ false → distinct (m ∷ ms) ≡ m ∷ distinct ms
-unfolding distinct consIf no
-distinct-new m ms h = ap (λ (b : Bool). consIf (no b) m (distinct ms)) h
-
-distinct-nil : distinct [] ≡ []
-unfolding distinct
-distinct-nil = refl
-
-distinct-mem : (ms : List (List Bool)) {z : List Bool} → Mem z (distinct ms) → Mem z ms
-distinct-mem [] {z} h = subst (Mem z) distinct-nil h
-distinct-mem (m ∷ ms) {z} h =
-    ⊎-elim (λ a. there (distinct-mem ms (subst (Mem z) (distinct-again m ms a) h)))
-    (λ a. ⊎-elim (λ e. here e) (λ r. there (distinct-mem ms r)) (cases-cons (subst (Mem z) (distinct-new m ms a) h))) (true-or-false (any (sameRows m) ms))
-
-mem-distinct : (ms : List (List Bool)) {z : List Bool} → Mem z ms → Mem z (distinct ms)
-mem-distinct [] h = absurd (not-nil h)
-mem-distinct (m ∷ ms) {z} h =
-    ⊎-elim (λ a. subst (Mem z) (sym (distinct-again m ms a)) (mem-distinct ms (later a)))
-    (λ a. subst (Mem z) (sym (distinct-new m ms a)) (⊎-elim (λ e. here e) (λ r. there (mem-distinct ms r)) (cases-cons h))) (true-or-false (any (sameRows m) ms))
-  where
-    -- a row set that comes again stands at a later place too
-    later : any (sameRows m) ms ≡ true → Mem z ms
-    later a = let w = any-e (sameRows m) ms a in ⊎-elim (λ e. mem-cast (e ∙ same-rows-e m (w .it) (w .has)) (w .member)) (λ r. r) (cases-cons h)
-
-distinct-apart : (ms : List (List Bool)) → Pairwise Apart (distinct ms)
-distinct-apart [] = subst (Pairwise Apart) (sym distinct-nil) none
-distinct-apart (m ∷ ms) =
-    ⊎-elim (λ a. subst (Pairwise Apart) (sym (distinct-again m ms a)) (distinct-apart ms))
-    (λ a. subst (Pairwise Apart) (sym (distinct-new m ms a)) (more (λ y h e. clash (any-i (sameRows m) ms y (distinct-mem ms h) (subst (λ (z : List Bool). sameRows m z ≡ true) e (same-rows-i m))) a) (distinct-apart ms))) (true-or-false (any (sameRows m) ms))
 
 -- ---- the rings of a range
 
@@ -219,7 +120,14 @@ module _ (t : Table) (q : Query) (lo hi : ℕ) where
       let j = nonempty-e t q s e h in
       let g = tightest-ring t q s e (omega arith) (j .0) (j .1) in
       let f′ = g .from in let l′ = g .to in
-      record { it = record { start = g .start; end = g .end }; of-range = record { from = omega arith; order = g .order; to = omega arith }; is-tight = g .is-tight; same = g .same; from = f′; to = l′ }
+      record {
+        it = record { start = g .start; end = g .end };
+        of-range = record { from = omega arith; order = g .order; to = omega arith };
+        is-tight = g .is-tight;
+        same = g .same;
+        from = f′;
+        to = l′;
+      }
 
   tight-ring : {s e : ℕ} → Tightened s e → Mem (ring t q s e) (map ringOf (filterBy test (windows lo hi)))
   tight-ring g = mem-cast (sym (g .same)) (mem-map ringOf (filterBy test (windows lo hi)) (tights-i (g .it) (g .of-range) (g .is-tight)))
@@ -248,7 +156,8 @@ module _ (t : Table) (q : Query) (lo hi : ℕ) where
           let a = filterBy-mem nonempty (map ringOf (windows lo hi)) (distinct-mem rings h) in
           let b = map-mem ringOf (windows lo hi) (a .0) in
           let o = windows-e lo hi (b .it) (b .member) in
-          mem-cast (b .is) (tight-ring (tighten fits (b .it .start) (b .it .end) (o .from) (o .to) (subst (λ (x : List Bool). nonempty x ≡ true) (b .is) (a .1))))
+          mem-cast (b .is)
+          (tight-ring (tighten fits (b .it .start) (b .it .end) (o .from) (o .to) (subst (λ (x : List Bool). nonempty x ≡ true) (b .is) (a .1))))
 
       -- the ring of a tight window is not empty
       back : (m : List Bool) → Mem m (map ringOf tights) → Mem m (distinct rings)
@@ -259,7 +168,9 @@ module _ (t : Table) (q : Query) (lo hi : ℕ) where
           let f = b .0 .order in let l = b .0 .to in
           let r = tight-e t q (w .start) (w .end) (omega arith) (b .1) .first in
           mem-distinct rings
-          (mem-cast (a .is) (mem-filterBy nonempty (map ringOf (windows lo hi)) (mem-map ringOf (windows lo hi) (windows-i lo hi w (b .0))) (nonempty-i t q (w .start) (w .end) (r .row) (r .in-ring))))
+          (mem-cast (a .is)
+          (mem-filterBy nonempty (map ringOf (windows lo hi)) (mem-map ringOf (windows lo hi) (windows-i lo hi w (b .0)))
+          (nonempty-i t q (w .start) (w .end) (r .row) (r .in-ring))))
 
   -- as many entries as distinct rings that are not empty
   pub distinct-listed : hi < never → length (distinctRings t q lo hi) ≡ length (listing t q lo hi)
@@ -293,13 +204,19 @@ module _ (t : Table) (q : Query) (lo hi : ℕ) where
       whole-list : (m : List Bool) → RingOf t q lo hi m → Mem m (distinct (filterBy nonempty (map ringOf (windows lo hi))))
       whole-list m r =
           mem-distinct (filterBy nonempty (map ringOf (windows lo hi)))
-          (mem-filterBy nonempty (map ringOf (windows lo hi)) (mem-cast (r .is) (mem-map ringOf (windows lo hi) (windows-i lo hi (record { start = r .start; end = r .end }) (record { from = r .from; order = r .order; to = r .to })))) (r .has-row))
+          (mem-filterBy nonempty (map ringOf (windows lo hi))
+          (mem-cast (r .is)
+          (mem-map ringOf (windows lo hi)
+          (windows-i lo hi (record { start = r .start; end = r .end }) (record { from = r .from; order = r .order; to = r .to }))))
+          (r .has-row))
 
   -- the same of any list of the distinct rings
   pub rings-counted : hi < never → (ms : List (List Bool)) → AreRings t q lo hi ms → length ms ≡ length (listing t q lo hi)
   rings-counted fits ms a =
       let b = distinct-are in
-      same-length ms (distinctRings t q lo hi) (record { left-apart = a .apart; right-apart = b .apart; to = λ m h. b .whole m (a .each m h); back = λ m h. a .whole m (b .each m h) }) ∙ distinct-listed fits
+      same-length ms (distinctRings t q lo hi)
+      (record { left-apart = a .apart; right-apart = b .apart; to = λ m h. b .whole m (a .each m h); back = λ m h. a .whole m (b .each m h) })
+      ∙ distinct-listed fits
 
   -- no range has more rings than n(n+1)/2
   pub rings-most : hi < never → length (distinctRings t q lo hi) ≤ longest (daysOf lo hi)
@@ -308,7 +225,10 @@ module _ (t : Table) (q : Query) (lo hi : ℕ) where
   -- no ring has more rows than the table
   pub sum-most : rowSum (listing t q lo hi) ≤ longest (daysOf lo hi) * size t
   unfolding listing rowSum entryOf
-  sum-most = le-trans (of-entries (filterBy test (windows lo hi))) (mul-le-mul-right (size t) (subst (λ (n : ℕ). n ≤ longest (daysOf lo hi)) (length-map (filterBy test (windows lo hi)) (entryOf t q)) (listing-most t q lo hi)))
+  sum-most =
+      le-trans (of-entries (filterBy test (windows lo hi)))
+      (mul-le-mul-right (size t)
+      (subst (λ (n : ℕ). n ≤ longest (daysOf lo hi)) (length-map (filterBy test (windows lo hi)) (entryOf t q)) (listing-most t q lo hi)))
     where
       of-entries : (ws : List Window) → rowSum (map (entryOf t q) ws) ≤ length ws * size t
       of-entries [] = zero-le
@@ -330,7 +250,8 @@ module _ (t : Table) (q : Query) (lo hi : ℕ) where
   unfolding listing entryOf tight
   listing-i x o =
       mem-cast (λ i. record { start = x .start; end = x .end; rows = o .counts i })
-      (mem-map (entryOf t q) (filterBy test (windows lo hi)) (tights-i (record { start = x .start; end = x .end }) (record { from = o .from; order = o .order; to = o .to }) (o .is-tightest)))
+      (mem-map (entryOf t q) (filterBy test (windows lo hi))
+      (tights-i (record { start = x .start; end = x .end }) (record { from = o .from; order = o .order; to = o .to }) (o .is-tightest)))
 
   pub listing-order : Pairwise Sooner (listing t q lo hi)
   unfolding listing entryOf
@@ -346,7 +267,9 @@ module _ (t : Table) (q : Query) (lo hi : ℕ) where
   strict x y (_⊎_.inr a) (_⊎_.inr b) = let c = a .1 in let d = b .1 in omega arith
 
   pub listing-only : (xs : List ListedRing) → IsListing t q lo hi xs → xs ≡ listing t q lo hi
-  listing-only xs l = pair-unique Sooner strict xs (listing t q lo hi) (l .in-order) listing-order (λ x m. listing-i x (l .each x m)) (λ x m. l .whole x (listing-e x m))
+  listing-only xs l =
+      pair-unique Sooner strict xs (listing t q lo hi) (l .in-order) listing-order (λ x m. listing-i x (l .each x m))
+      (λ x m. l .whole x (listing-e x m))
 
   -- two entries with one ring are one
   entry-one : (x y : ListedRing) → EntryOf t q lo hi x → EntryOf t q lo hi y → ring t q (x .start) (x .end) ≡ ring t q (y .start) (y .end) → x ≡ y
@@ -362,7 +285,10 @@ module _ (t : Table) (q : Query) (lo hi : ℕ) where
   ring-listed fits s e f l h =
       record {
         entry = x;
-        once = pair-unique Sooner strict (filterBy (ofRing t q (ring t q s e)) (listing t q lo hi)) (x ∷ []) (pair-filterBy Sooner (ofRing t q (ring t q s e)) (listing t q lo hi) listing-order) (more (λ y m. absurd (not-nil m)) none) to back;
+        once =
+            pair-unique Sooner strict (filterBy (ofRing t q (ring t q s e)) (listing t q lo hi)) (x ∷ [])
+            (pair-filterBy Sooner (ofRing t q (ring t q s e)) (listing t q lo hi) listing-order)
+            (more (λ y m. absurd (not-nil m)) none) to back;
         is-listed = listing-i x is-entry;
         only = only-x;
         is-tightest = subst (λ (m : List Bool). tightest t m (x .start) (x .end) ≡ true) (g .same) (g .is-tight);
@@ -385,8 +311,13 @@ module _ (t : Table) (q : Query) (lo hi : ℕ) where
       only-x y m r = entry-one y x (listing-e y m) is-entry (r ∙ sym (g .same))
 
       to : (y : ListedRing) → Mem y (filterBy (ofRing t q (ring t q s e)) (listing t q lo hi)) → Mem y (x ∷ [])
-      to y m = let a = filterBy-mem (ofRing t q (ring t q s e)) (listing t q lo hi) m in here (only-x y (a .0) (same-rows-e (ring t q (y .start) (y .end)) (ring t q s e) (a .1)))
+      to y m =
+          let a = filterBy-mem (ofRing t q (ring t q s e)) (listing t q lo hi) m in
+          here (only-x y (a .0) (same-rows-e (ring t q (y .start) (y .end)) (ring t q s e) (a .1)))
 
       back : (y : ListedRing) → Mem y (x ∷ []) → Mem y (filterBy (ofRing t q (ring t q s e)) (listing t q lo hi))
       back y m =
-          ⊎-elim (λ r. mem-cast r (mem-filterBy (ofRing t q (ring t q s e)) (listing t q lo hi) (listing-i x is-entry) (subst (λ (n : List Bool). sameRows (ringOf (g .it)) n ≡ true) (g .same) (same-rows-i (ringOf (g .it)))))) (λ r. absurd (not-nil r)) (cases-cons m)
+          ⊎-elim (λ r. mem-cast r
+          (mem-filterBy (ofRing t q (ring t q s e)) (listing t q lo hi) (listing-i x is-entry)
+          (subst (λ (n : List Bool). sameRows (ringOf (g .it)) n ≡ true) (g .same) (same-rows-i (ringOf (g .it))))))
+          (λ r. absurd (not-nil r)) (cases-cons m)

@@ -1,4 +1,6 @@
--- Demand 3, one statement (01, condition 4): Listing, Minimal windows and Recall together, for every accepted table and query, every window and every column length. It speaks of what the calls return and leave in their buffers, by the definitions that stand in their contracts.
+-- Demand 3, one statement (01, condition 4): Listing, Minimal windows and Recall together, for every accepted table and query,
+-- every window and every column length. It speaks of what the calls return and leave in their buffers, by the definitions that
+-- stand in their contracts.
 --     ListingLeft    what Listing returns and leaves where there are places enough
 --     Demand3        the statement
 --     demand-3       it holds
@@ -56,18 +58,24 @@ pub record Demand3 (t : Table) (q : Query) (lo hi : ℕ) : Type 0 where
   pub are-rings : AreRings t q lo hi rings
   pub as-long : (ms : List (List Bool)) → AreRings t q lo hi ms → length ms ≡ length rings
   -- Listing with places in each column: 10 exactly when the rings are more
-  pub full : (places scratch : ℕ) → scratchCheck (size t) scratch ≡ Accepted → (listingAnswer t q lo hi (each places) scratch ≡ Listed.Refused NoRoom) ↔ (places < length rings)
+  pub full : (places scratch : ℕ)
+      → scratchCheck (size t) scratch ≡ Accepted
+      → (listingAnswer t q lo hi (each places) scratch ≡ Listed.Refused NoRoom) ↔ (places < length rings)
   -- else the whole listing
   pub listed : (scratch : ℕ) (old : Columns (List ℕ)) → scratchCheck (size t) scratch ≡ Accepted → OneLength old → length rings ≤ length (old .starts)
       → (let answer = listingAnswer t q lo hi (placesOf old) scratch in ListingLeft t q lo hi rings answer old (listingColumns answer t q lo hi old))
   -- in which the ring of each window, if not empty, stands once and only once, by its tightest window, with the number of its rows
   pub each-ring : (s e : ℕ) → lo ≤ s → e ≤ hi → nonempty (ring t q s e) ≡ true → ListedOnce t q lo hi s e
   -- what Minimal windows writes, cut at its count, holds exactly the query's minimal windows, each once, by row, then start
-  pub written : (rowPlaces startPlaces endPlaces scratch count : ℕ) (rows starts ends : List ℕ) → minimalAnswer t q lo hi rowPlaces startPlaces endPlaces scratch ≡ Counted.Count count
-      → Archive t q lo hi (take count (minimalRows (Counted.Count count) t q lo hi rows)) (take count (minimalStarts (Counted.Count count) t q lo hi starts)) (take count (minimalEnds (Counted.Count count) t q lo hi ends))
+  pub written : (rowPlaces startPlaces endPlaces scratch count : ℕ) (rows starts ends : List ℕ)
+      → minimalAnswer t q lo hi rowPlaces startPlaces endPlaces scratch ≡ Counted.Count count
+      → Archive t q lo hi (take count (minimalRows (Counted.Count count) t q lo hi rows))
+      (take count (minimalStarts (Counted.Count count) t q lo hi starts))
+      (take count (minimalEnds (Counted.Count count) t q lo hi ends))
   -- Recall accepts every such list, for every window of the range, and marks exactly that window's ring
   pub recalls : (rows starts ends old : List ℕ) (s e : ℕ) → Archive t q lo hi rows starts ends → length old ≡ size t → lo ≤ s → s ≤ e → e ≤ hi
-      → (let answer = recallAnswer t (columnsOf rows starts ends) s e (length old) in (answer ≡ Accepted) × (recallMarks answer t (columnsOf rows starts ends) s e old ≡ marks (ring t q s e)))
+      → (let answer = recallAnswer t (columnsOf rows starts ends) s e (length old) in
+      (answer ≡ Accepted) × (recallMarks answer t (columnsOf rows starts ends) s e old ≡ marks (ring t q s e)))
 
 -- ---- the proof
 
@@ -90,7 +98,8 @@ module _ (t : Table) (q : Query) (lo hi : ℕ) (table : tableCheck t ≡ Accepte
       then-accepted (queryCheck q then (rangeCheck lo hi then (lengths then (scratchCheck (size t) scratch then room)))) table
       ∙ (then-accepted (rangeCheck lo hi then (lengths then (scratchCheck (size t) scratch then room))) query
       ∙ (then-accepted (lengths then (scratchCheck (size t) scratch then room)) range
-      ∙ (then-accepted (scratchCheck (size t) scratch then room) (passes BadLength (and-i (eq-eqb (places .ends) (places .starts) ee) (eq-eqb (places .rows) (places .starts) er)))
+      ∙ (then-accepted (scratchCheck (size t) scratch then room)
+      (passes BadLength (and-i (eq-eqb (places .ends) (places .starts) ee) (eq-eqb (places .rows) (places .starts) er)))
       ∙ then-accepted room es)))
     where
       lengths : Verdict
@@ -99,21 +108,32 @@ module _ (t : Table) (q : Query) (lo hi : ℕ) (table : tableCheck t ≡ Accepte
       room : Verdict
       room = NoRoom when ltb (places .starts) (length list)
 
-  refused : (places scratch : ℕ) → scratchCheck (size t) scratch ≡ Accepted → places < length list → listingAnswer t q lo hi (each places) scratch ≡ Listed.Refused NoRoom
+  refused : (places scratch : ℕ)
+      → scratchCheck (size t) scratch ≡ Accepted
+      → places < length list
+      → listingAnswer t q lo hi (each places) scratch ≡ Listed.Refused NoRoom
   unfolding listingAnswer summed _when_
   refused places scratch es h =
       ap (λ (v : Verdict). summed v list) (checks (each places) scratch refl refl es ∙ ap (λ (b : Bool). NoRoom when b) (lt-ltb places (length list) h))
 
-  found : (places : Columns ℕ) (scratch : ℕ) → places .ends ≡ places .starts → places .rows ≡ places .starts → scratchCheck (size t) scratch ≡ Accepted → length list ≤ places .starts
+  found : (places : Columns ℕ) (scratch : ℕ)
+      → places .ends ≡ places .starts
+      → places .rows ≡ places .starts
+      → scratchCheck (size t) scratch ≡ Accepted
+      → length list ≤ places .starts
       → listingAnswer t q lo hi places scratch ≡ Listed.Rings (length list) (rowSum list)
   unfolding listingAnswer summed _when_
   found places scratch ee er es h =
       ap (λ (v : Verdict). summed v list) (checks places scratch ee er es ∙ ap (λ (b : Bool). NoRoom when b) (le-ltb (places .starts) (length list) h))
 
-  only-full : (places scratch : ℕ) → scratchCheck (size t) scratch ≡ Accepted → listingAnswer t q lo hi (each places) scratch ≡ Listed.Refused NoRoom → places < length list
+  only-full : (places scratch : ℕ)
+      → scratchCheck (size t) scratch ≡ Accepted
+      → listingAnswer t q lo hi (each places) scratch ≡ Listed.Refused NoRoom
+      → places < length list
   unfolding isRings
   only-full places scratch es h =
-      ⊎-elim (λ y. ltb-true places (length list) y) (λ y. absurd (subst isRings (sym (found (each places) scratch refl refl es (ltb-false places (length list) y)) ∙ h) tt))
+      ⊎-elim (λ y. ltb-true places (length list) y)
+      (λ y. absurd (subst isRings (sym (found (each places) scratch refl refl es (ltb-false places (length list) y)) ∙ h) tt))
       (true-or-false (ltb places (length list)))
 
   pub demand-3 : Demand3 t q lo hi
@@ -123,7 +143,11 @@ module _ (t : Table) (q : Query) (lo hi : ℕ) (table : tableCheck t ≡ Accepte
         rings = distinctRings t q lo hi;
         are-rings = distinct-are t q lo hi;
         as-long = λ ms A. rings-counted t q lo hi fits ms A ∙ sym many;
-        full = λ places scratch es. (λ h. subst (λ (n : ℕ). places < n) (sym many) (only-full places scratch es h), λ h. refused places scratch es (subst (λ (n : ℕ). places < n) many h));
+        full =
+            λ places scratch es. (
+              λ h. subst (λ (n : ℕ). places < n) (sym many) (only-full places scratch es h),
+              λ h. refused places scratch es (subst (λ (n : ℕ). places < n) many h),
+            );
         listed = λ scratch old es alike h.
             let e = found (placesOf old) scratch (alike .ends) (alike .rows) es (subst (λ (n : ℕ). n ≤ length (old .starts)) many h) in
             record {
@@ -133,10 +157,14 @@ module _ (t : Table) (q : Query) (lo hi : ℕ) (table : tableCheck t ≡ Accepte
               as-many = sym many;
             };
         each-ring = ring-listed t q lo hi fits;
-        written = λ rowPlaces startPlaces endPlaces scratch count rows starts ends h. archive-written t q lo hi rows starts ends rowPlaces startPlaces endPlaces scratch h;
+        written =
+            λ rowPlaces startPlaces endPlaces scratch count rows starts ends h. archive-written t q lo hi rows starts ends
+            rowPlaces startPlaces endPlaces scratch h;
         recalls = λ rows starts ends old s e A l from order to.
             let w = range-e lo hi range in
-            let a = ap (recallAnswer t (columnsOf rows starts ends) s e) l ∙ archive-accepted t q lo hi (w .0) (w .2) rows starts ends A s e from order to table in (
+            let a =
+            ap (recallAnswer t (columnsOf rows starts ends) s e) l
+            ∙ archive-accepted t q lo hi (w .0) (w .2) rows starts ends A s e from order to table in (
               a,
               ap (λ (v : Verdict). recallMarks v t (columnsOf rows starts ends) s e old) a
                   ∙ archive-marks t q lo hi rows starts ends A s e (omega (arith, w .2)) from to old,

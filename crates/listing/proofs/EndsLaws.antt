@@ -23,7 +23,8 @@ use Rattle.rings.specs.declared.Query.{Query}
 use Rattle.rings.proofs.WordLaws.{true-or-false, and-r}
 use Rattle.listing.specs.Listing.{ListedRing}
 use Rattle.listing.specs.ListingCall.{Columns, columnsOf}
-use Rattle.listing.specs.Inner.{startEntries, sumOf, countEntries, Uncounted, FirstCounted, Room, Entering, Progress, dayPlaces, mostRows, EndsAhead, EndsListed}
+use Rattle.listing.specs.Inner.{startEntries, sumOf, countEntries, Uncounted, FirstCounted, Room}
+use Rattle.listing.specs.Inner.{Entering, Progress, dayPlaces, mostRows, EndsAhead, EndsListed}
 use Rattle.listing.specs.declared.list.Passed.{Passed}
 use Rattle.listing.proofs.StartLaws.{listed-no, entries-are}
 use Rattle.listing.proofs.ColumnLaws.{SameLengths, same-places, lengths-on, entering-places, room-kept}
@@ -36,7 +37,10 @@ uncounted-start xs low = record { order = le-refl low; none = λ e a b. absurd (
 
 pub uncounted-next : {xs : List ℕ} {low day : ℕ} → Uncounted xs low day → getD xs day 0 ≡ 0 → Uncounted xs low (day + 1)
 uncounted-next {xs} {low} {day} U z =
-    record { order = let o = U .order in omega arith; none = λ e a b. ⊎-elim (λ y. ap (λ (d : ℕ). getD xs d 0) y ∙ z) (λ l. U .none e a l) (eq-or-lt-of-le (omega arith)) }
+    record {
+      order = let o = U .order in omega arith;
+      none = λ e a b. ⊎-elim (λ y. ap (λ (d : ℕ). getD xs d 0) y ∙ z) (λ l. U .none e a l) (eq-or-lt-of-le (omega arith));
+    }
 
 pub counted-one : {xs : List ℕ} {low hi day : ℕ} → Uncounted xs low day → day ≤ hi → (getD xs day 0 ≡ 0 → ⊥) → FirstCounted xs low hi day
 counted-one U o h = record { before = U; to = omega arith; counted = λ a z. h z }
@@ -125,7 +129,8 @@ module _ {xs : List ℕ} {least s low hi room : ℕ} {p : Passed} {old : Columns
   -- no row of the first day has a core time in the range
   pub ends-none : hi < least → EndsListed xs least s hi room p p old old
   ends-none h =
-      let none : countEntries xs least s s 0 (hi + 1 - s) ≡ [] = none-listed xs least s s 0 (hi + 1 - s) (omega (arith, A .counts .order, A .uncounted .order)) in
+      let none : countEntries xs least s s 0 (hi + 1 - s) ≡ [] =
+      none-listed xs least s s 0 (hi + 1 - s) (omega (arith, A .counts .order, A .uncounted .order)) in
       record { few = omega arith; small = omega arith; moves = λ goal rest lent P. progress-as (ap (λ (ls : List ListedRing). ls ++ rest) none) P }
 
   pub ends-start : EndsAt xs least s low hi room p old low 0 (p .count) (p .sum) old
@@ -160,7 +165,9 @@ module _ {xs : List ℕ} {least s low hi room : ℕ} {p : Passed} {old : Columns
             small = omega (arith, E .from, E .small);
             in-table = omega (arith, E .in-table, sum-next xs hi e o);
             lengths = E .lengths;
-            moves = λ goal rest lent P. progress-as (ap (λ (ls : List ListedRing). ls ++ rest) (entries-by xs least s hi e total o eb h)) (E .moves goal rest lent P);
+            moves =
+                λ goal rest lent P. progress-as (ap (λ (ls : List ListedRing). ls ++ rest) (entries-by xs least s hi e total o eb h))
+                (E .moves goal rest lent P);
           }
 
       pub ends-one : b ≡ true → {new′ : Columns (List ℕ)} → Entering room count (record { start = s; end = e; rows = total + getD xs e 0 }) new new′
@@ -174,7 +181,10 @@ module _ {xs : List ℕ} {least s low hi room : ℕ} {p : Passed} {old : Columns
             small = omega (arith, E .from, E .small, ends-total o);
             in-table = omega (arith, E .in-table, sum-next xs hi e o);
             lengths = lengths-on (E .lengths) (entering-places N);
-            moves = λ goal rest lent P. progress-next _ ends-room (progress-as (ap (λ (ls : List ListedRing). ls ++ rest) (entries-by xs least s hi e total o eb h)) (E .moves goal rest lent P)) N;
+            moves =
+                λ goal rest lent P. progress-next _ ends-room
+                (progress-as (ap (λ (ls : List ListedRing). ls ++ rest) (entries-by xs least s hi e total o eb h)) (E .moves goal rest lent P))
+                N;
           }
 
     pub ends-end : hi < e → EndsListed xs least s hi room p (passed count sum) old new

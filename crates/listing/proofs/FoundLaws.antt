@@ -41,14 +41,20 @@ module _ (t : Table) (q : Query) (lo hi : ℕ) where
   -- ---- room
 
   -- no listing is longer than the longest
-  pub room-most : {m : ℕ} {sc : List ℕ} (c : Columns (List ℕ)) → Prepared t sc → m ≡ longest (hi + 1 - lo) → m ≤ length (c .starts) → RoomFound t q lo hi true c c sc
+  pub room-most : {m : ℕ} {sc : List ℕ} (c : Columns (List ℕ))
+      → Prepared t sc
+      → m ≡ longest (hi + 1 - lo)
+      → m ≤ length (c .starts)
+      → RoomFound t q lo hi true c c sc
   unfolding daysOf
   room-most c prepared e h =
       let d : longest (hi + 1 - lo) ≡ longest (suc hi - lo) = ap (λ (n : ℕ). longest (n - lo)) (add-one hi) in
       record { answer = sym (le-leb (length ls) (length (c .starts)) (omega (arith, listing-most t q lo hi))); unwritten = refl; prepared = prepared }
 
   -- where nothing is withEntries, the count tells
-  pub room-counted : {p : Passed} {old new : Columns (List ℕ)} {sc : List ℕ} → Passing t q lo hi 0 p old new sc → RoomFound t q lo hi (leb (p .count) (length (new .starts))) old new sc
+  pub room-counted : {p : Passed} {old new : Columns (List ℕ)} {sc : List ℕ}
+      → Passing t q lo hi 0 p old new sc
+      → RoomFound t q lo hi (leb (p .count) (length (new .starts))) old new sc
   room-counted {p} {old} {new} P =
       let W = progress-end (P .whole) in
       let kept : new ≡ old = W .columns ∙ written-none old in
@@ -65,16 +71,25 @@ module _ (t : Table) (q : Query) (lo hi : ℕ) where
     unfolding listingColumns summed _when_
     find-refused f =
         let l = leb-false (length ls) (length (old .starts)) (sym (R .answer) ∙ f) in
-        record { answer = sym (ap (λ (x : Bool). summed (NoRoom when x) ls) (lt-ltb (length (old .starts)) (length ls) l)); columns = R .unwritten; clear = clear }
+        record {
+          answer = sym (ap (λ (x : Bool). summed (NoRoom when x) ls) (lt-ltb (length (old .starts)) (length ls) l));
+          columns = R .unwritten;
+          clear = clear;
+        }
 
-    pub find-done : room ≡ true → {p : Passed} {places : ℕ} {new : Columns (List ℕ)} {sc₂ : List ℕ} → places ≡ length (mid .starts) → Passing t q lo hi places p mid new sc₂
+    pub find-done : room ≡ true
+        → {p : Passed} {places : ℕ} {new : Columns (List ℕ)} {sc₂ : List ℕ}
+        → places ≡ length (mid .starts)
+        → Passing t q lo hi places p mid new sc₂
         → Found t q lo hi (Listed.Rings (p .count) (p .sum)) old new before sc
     unfolding listingColumns summed _when_
     find-done f {p} {places} ep P =
         let W = progress-end (P .whole) in
         record {
           answer = two (W .counted) (W .summed-up) ∙ sym (ap (λ (x : Bool). summed (NoRoom when x) ls) (le-ltb (length (old .starts)) (length ls) fits));
-          columns = written-full places ls mid within (W .columns) ∙ ap (λ (c : Columns (List ℕ)). listingColumns (Listed.Rings (p .count) (p .sum)) t q lo hi c) (R .unwritten);
+          columns =
+              written-full places ls mid within (W .columns)
+              ∙ ap (λ (c : Columns (List ℕ)). listingColumns (Listed.Rings (p .count) (p .sum)) t q lo hi c) (R .unwritten);
           clear = clear;
         }
       where
@@ -110,7 +125,9 @@ module _ (t : Table) (q : Query) (lo hi : ℕ) (old : Columns (List ℕ)) (sc : 
     unfolding listingChecks rangeCheck
     checks = rw (ew, el) (sym (then-room t q _ _ (length sc) room))
 
-    answer-by : {v : Verdict} → shared t q window lengths (length sc) ≡ v → listingAnswer t q lo hi (placesOf old) (length sc) ≡ summed (v then room) (listing t q lo hi)
+    answer-by : {v : Verdict}
+        → shared t q window lengths (length sc) ≡ v
+        → listingAnswer t q lo hi (placesOf old) (length sc) ≡ summed (v then room) (listing t q lo hi)
     unfolding listingAnswer
     answer-by h = ap (λ (w : Verdict). summed w (listing t q lo hi)) (checks ∙ ap (λ (w : Verdict). w then room) h)
 
@@ -119,7 +136,9 @@ module _ (t : Table) (q : Query) (lo hi : ℕ) (old : Columns (List ℕ)) (sc : 
     list-checked h =
         let d = t .days in
         let range = window-e lo hi ew (call-window d (t .first) (t .second) q window lengths (length sc) h) in
-        let alike = lengths-e (length (old .ends)) (length (old .starts)) (length (old .rows)) (length (old .starts)) el (call-lengths d (t .first) (t .second) q window lengths (length sc) h) in
+        let alike =
+        lengths-e (length (old .ends)) (length (old .starts)) (length (old .rows)) (length (old .starts)) el
+        (call-lengths d (t .first) (t .second) q window lengths (length sc) h) in
         record {
           sound = call-sound d (t .first) (t .second) q window lengths (length sc) h;
           asked = record { some = call-k d (t .first) (t .second) q window lengths (length sc) h .0; from = range .0; order = range .1; to = range .2 };
@@ -131,9 +150,17 @@ module _ (t : Table) (q : Query) (lo hi : ℕ) (old : Columns (List ℕ)) (sc : 
     unfolding summed listingColumns listingScratch _then_
     list-refused h = (sym (answer-by h), (refl, scratch-kept t q window lengths (length sc) sc h))
 
-    pub list-done : {r : Listed} {new : Columns (List ℕ)} {sc′ : List ℕ} → shared t q window lengths (length sc) ≡ Accepted → Found t q lo hi r old new sc sc′ → Answers r new sc′
+    pub list-done : {r : Listed} {new : Columns (List ℕ)} {sc′ : List ℕ}
+        → shared t q window lengths (length sc) ≡ Accepted
+        → Found t q lo hi r old new sc sc′
+        → Answers r new sc′
     unfolding _then_
     list-done h F = (
       F .answer ∙ sym (answer-by h),
-      (F .columns, F .clear ∙ sym (ap (λ (y : Listed). listingScratch y sc) (F .answer) ∙ zeros (listing t q lo hi) sc (ltb (length (old .starts)) (length (listing t q lo hi))))),
+      (
+        F .columns,
+        F .clear
+            ∙ sym (ap (λ (y : Listed). listingScratch y sc) (F .answer)
+            ∙ zeros (listing t q lo hi) sc (ltb (length (old .starts)) (length (listing t q lo hi)))),
+      ),
     )

@@ -1,4 +1,5 @@
 pub mod TightLaws
+pub mod DistinctLaws
 pub mod CountLaws
 pub mod ReachedLaws
 pub mod StartLaws

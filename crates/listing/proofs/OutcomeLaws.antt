@@ -26,10 +26,12 @@ use Rattle.rings.specs.declared.refusal.Place.the-variants.{Nowhere, Row, Entry
 use Rattle.rings.specs.Buffers.{over}
 use Rattle.rings.specs.declared.Query.{Query}
 use Rattle.rings.specs.declared.refusal.Refusal.{Refusal}
-use Rattle.rings.specs.declared.refusal.Refusal.the-variants.{ColumnsDiffer, TooLarge, BadDay, BadAccounts, DayFalls, BadK, BadRange, BadLength, Scratch, NoRoom, BadEntry}
+use Rattle.rings.specs.declared.refusal.Refusal.the-variants.{ColumnsDiffer, TooLarge, BadDay, BadAccounts, DayFalls, BadK}
+use Rattle.rings.specs.declared.refusal.Refusal.the-variants.{BadRange, BadLength, Scratch, NoRoom, BadEntry}
 use Rattle.listing.specs.Listing.{ListedRing, listing}
 use Rattle.listing.specs.ListingCall.{each, listingAnswer}
-use Rattle.listing.specs.Program.{Outcome, found, stopped, placeLine, inputLine, stoppedBy, unlessRefused, tableOf, fromList, listed, fromRows, badQuery, fromQuery, unlessLong, outcome}
+use Rattle.listing.specs.Program.{Outcome, found, stopped, placeLine, inputLine, stoppedBy, unlessRefused, tableOf}
+use Rattle.listing.specs.Program.{fromList, listed, fromRows, badQuery, fromQuery, unlessLong, outcome}
 use Rattle.listing.specs.ProgramText.{lineOf, listText, outcomeText, fitted, listAnswer, listOutput}
 use Rattle.listing.specs.declared.Listed.{Listed}
 use Rattle.listing.specs.declared.Printed.{Printed}
@@ -80,7 +82,10 @@ line-most : (r : Refusal) → inputLine r ≤ placeOf r + 2
 unfolding inputLine placeOf
 line-most r = place-most (ruleOf r .place)
 
-by-list : (t : Table) (q : Query) (lo hi : ℕ) (a : Listed) → listingAnswer t q lo hi (each 2048) 12288 ≡ a → size t ≤ mostInput → Bounded (fromList a (listing t q lo hi))
+by-list : (t : Table) (q : Query) (lo hi : ℕ) (a : Listed)
+    → listingAnswer t q lo hi (each 2048) 12288 ≡ a
+    → size t ≤ mostInput
+    → Bounded (fromList a (listing t q lo hi))
 unfolding fromList stoppedBy ringsIn numberIn lineIn
 by-list t q lo hi (Listed.Rings n sum) e h =
     record { rings = omega (arith, rings-count t q lo hi (sym e) refl, rings-most t q lo hi (sym e) refl); number = omega arith; line = omega arith }
@@ -91,7 +96,10 @@ rows-most : (text : List ℕ) → size (tableOf text) ≤ length text
 unfolding tableOf daysOf
 rows-most text = omega (arith, lines-most text, length-map (linesOf text) (λ (l : List ℕ). dayOf (rowOf l)))
 
-by-rows : (text : List ℕ) (q : Query) (lo hi : ℕ) (r : TableRead) → r ≡ tableReadOf text 1024 1024 1024 → length text ≤ mostInput → Bounded (fromRows r (tableOf text) q lo hi)
+by-rows : (text : List ℕ) (q : Query) (lo hi : ℕ) (r : TableRead)
+    → r ≡ tableReadOf text 1024 1024 1024
+    → length text ≤ mostInput
+    → Bounded (fromRows r (tableOf text) q lo hi)
 unfolding fromRows unlessRefused listed
 by-rows text q lo hi (TableRead.Rows n) e h =
     by-list (tableOf text) q lo hi (listingAnswer (tableOf text) q lo hi (each 2048) 12288) refl (omega (arith, rows-most text))
@@ -136,7 +144,13 @@ pub record RefusedAnswer (o : Outcome) (n line : ℕ) (old now : List ℕ) : Typ
   pub kept : now ≡ old
   pub is : refusedLine n line ≡ outcomeText o
 
-text-by : (o : Outcome) → Bounded o → (old : List ℕ) {n : ℕ} {now : List ℕ} → length old ≡ 45078 → Printed.Text n ≡ listAnswer o (length old) → now ≡ listOutput (Printed.Text n) o old → TextAnswer o n now
+text-by : (o : Outcome)
+    → Bounded o
+    → (old : List ℕ) {n : ℕ} {now : List ℕ}
+    → length old ≡ 45078
+    → Printed.Text n ≡ listAnswer o (length old)
+    → now ≡ listOutput (Printed.Text n) o old
+    → TextAnswer o n now
 unfolding listAnswer listOutput fitted outcomeText over
 text-by (found ls) b old {n} {now} l e w =
     let t : leb (length (listText ls)) (length old) ≡ true = le-leb (length (listText ls)) (length old) (omega (arith, fits ls b)) in
@@ -148,7 +162,13 @@ text-by (found ls) b old {n} {now} l e w =
     }
 text-by (stopped k line) b old l e w = let z : _≡_ {A = ℕ} 0 1 = cc in absurd (omega arith)
 
-refused-by : (o : Outcome) → Bounded o → (old : List ℕ) {n line : ℕ} {now : List ℕ} → length old ≡ 45078 → Printed.Refused n line ≡ listAnswer o (length old) → now ≡ listOutput (Printed.Refused n line) o old → RefusedAnswer o n line old now
+refused-by : (o : Outcome)
+    → Bounded o
+    → (old : List ℕ) {n line : ℕ} {now : List ℕ}
+    → length old ≡ 45078
+    → Printed.Refused n line ≡ listAnswer o (length old)
+    → now ≡ listOutput (Printed.Refused n line) o old
+    → RefusedAnswer o n line old now
 unfolding listAnswer listOutput fitted outcomeText numberIn lineIn
 refused-by (found ls) b old {n} {line} l e w =
     let t : leb (length (listText ls)) (length old) ≡ true = le-leb (length (listText ls)) (length old) (omega (arith, fits ls b)) in
@@ -160,7 +180,8 @@ refused-by (stopped k at) b old {n} {line} l e w =
     record { number = omega (arith, b .number); place = omega (arith, b .line); kept = w; is = λ i. refusedLine (p i) (q i) }
 
 -- by the answer a of the list call
-module _ (input old : List ℕ) {a : Printed} {now : List ℕ} (l : length old ≡ 45078) (e : a ≡ listAnswer (outcome input) (length old)) (w : now ≡ listOutput a (outcome input) old) where
+module _ (input old : List ℕ) {a : Printed} {now : List ℕ} (l : length old ≡ 45078)
+    (e : a ≡ listAnswer (outcome input) (length old)) (w : now ≡ listOutput a (outcome input) old) where
   pub text-answer : {n : ℕ} → a ≡ Printed.Text n → TextAnswer (outcome input) n now
   text-answer q = text-by (outcome input) (bounded input) old l (sym q ∙ e) (w ∙ ap (λ (x : Printed). listOutput x (outcome input) old) q)
 

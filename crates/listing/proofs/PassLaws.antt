@@ -58,7 +58,8 @@ module _ (t : Table) (q : Query) (lo hi room : ℕ) (old : Columns (List ℕ)) (
           times-from = from-start t q hi lo (R .to) (R .order);
         }
 
-    module _ {s row low : ℕ} {p : Passed} {new : Columns (List ℕ)} {scratch times slack queue counts : List ℕ} (P : PassAt s row low p new scratch times slack queue counts) where
+    module _ {s row low : ℕ} {p : Passed} {new : Columns (List ℕ)} {scratch times slack queue counts : List ℕ}
+        (P : PassAt s row low p new scratch times slack queue counts) where
       pub pass-counting : Counting counts low hi
       pass-counting = record { long = start-counts (P .start) .long; order = P .low-to; last = R .to }
 
@@ -85,7 +86,10 @@ module _ (t : Table) (q : Query) (lo hi room : ℕ) (old : Columns (List ℕ)) (
               }
 
           pub pass-next : {least row′ : ℕ} {p′ : Passed} {new′ : Columns (List ℕ)} {scratch′ times′ slack′ queue′ counts′ : List ℕ} → Earliest t q hi s least
-              → EndsListed counts least s hi room p p′ new new′ → SameLengths new new′ → Split (t .days) (s + 1) row′ → AtStart t q hi (s + 1) row′ scratch′ times′ slack′ counts′
+              → EndsListed counts least s hi room p p′ new new′
+              → SameLengths new new′
+              → Split (t .days) (s + 1) row′
+              → AtStart t q hi (s + 1) row′ scratch′ times′ slack′ counts′
               → length scratch′ ≡ length scratch → length queue′ ≡ length queue → PassAt (s + 1) row′ r p′ new′ scratch′ times′ slack′ queue′ counts′
           pass-next least E same split start scratch-same queue-same =
               record {

@@ -34,7 +34,8 @@ use Rattle.listing.specs.declared.Printed.{Printed}
 tabulate-more : {A : Type 0} (f : ℕ → A) (i n : ℕ) → tabulate f i (suc n) ≡ tabulate f i n ++ f (i + n) ∷ []
 unfolding tabulate
 tabulate-more f i zero = ap (λ (k : ℕ). f k ∷ []) (sym (add-zero i))
-tabulate-more f i (suc n) = ap (λ (l : List _). f i ∷ l) (tabulate-more f (suc i) n ∙ ap (λ (k : ℕ). tabulate f (suc i) n ++ f k ∷ []) (suc-add i n ∙ sym (add-suc i n)))
+tabulate-more f i (suc n) =
+    ap (λ (l : List _). f i ∷ l) (tabulate-more f (suc i) n ∙ ap (λ (k : ℕ). tabulate f (suc i) n ++ f k ∷ []) (suc-add i n ∙ sym (add-suc i n)))
 
 abbrev pub line : ListedRing → List ℕ
 line x = listingLine (x .start) (x .end) (span x) (x .rows)
@@ -69,7 +70,11 @@ pub record Printing (c : Columns (List ℕ)) (old now : List ℕ) (at i : ℕ) :
   pub long : length now ≡ length old
   pub is : now ≡ pasted old 22 (ringLines (entriesAt c i))
 
-pub put-wrote : (out : List ℕ) (at : ℕ) (bytes : List ℕ) {r : Put} {now : List ℕ} → at + length bytes ≤ length out → r ≡ putOf out at bytes → now ≡ written r out at bytes → now ≡ pasted out at bytes
+pub put-wrote : (out : List ℕ) (at : ℕ) (bytes : List ℕ) {r : Put} {now : List ℕ}
+    → at + length bytes ≤ length out
+    → r ≡ putOf out at bytes
+    → now ≡ written r out at bytes
+    → now ≡ pasted out at bytes
 unfolding putOf
 put-wrote out at bytes {r} h e q =
     q ∙ ap (λ (p : Put). written p out at bytes) (e ∙ pick-true _ _ _ (le-leb (at + length bytes) (length out) h))
@@ -93,7 +98,12 @@ module _ (c : Columns (List ℕ)) where
       record {
         next = omega (arith, p .next);
         long = ap length w ∙ pasted-length now at (line x) fits ∙ p .long;
-        is = w ∙ ap (λ (b : List ℕ). pasted b at (line x)) (p .is) ∙ ap (λ (k : ℕ). pasted (pasted old 22 (ringLines es)) k (line x)) place ∙ pasted-pasted old 22 (ringLines es) (line x) (omega arith) ∙ ap (pasted old 22) (sym (lines-next c i));
+        is =
+            w
+            ∙ ap (λ (b : List ℕ). pasted b at (line x)) (p .is)
+            ∙ ap (λ (k : ℕ). pasted (pasted old 22 (ringLines es)) k (line x)) place
+            ∙ pasted-pasted old 22 (ringLines es) (line x) (omega arith)
+            ∙ ap (pasted old 22) (sym (lines-next c i));
       }
 
   pub print-end : {old now : List ℕ} {at i n : ℕ} → Printing c old now at i → i ≤ n → n ≤ i → now ≡ pasted old 22 (ringLines (entriesAt c n))
@@ -118,7 +128,8 @@ module _ (c : Columns (List ℕ)) where
   text-done output n {r} {o₁} {o₂} h e q w =
       let es = entriesAt c n in
       let a : o₁ ≡ pasted output 0 header = put-wrote output 0 header (omega arith) e q in
-      let b : o₂ ≡ pasted output 0 (listText es) = w ∙ ap (λ (x : List ℕ). pasted x 22 (ringLines es)) a ∙ pasted-pasted output 0 header (ringLines es) (omega arith) in
+      let b : o₂ ≡ pasted output 0 (listText es) =
+      w ∙ ap (λ (x : List ℕ). pasted x 22 (ringLines es)) a ∙ pasted-pasted output 0 header (ringLines es) (omega arith) in
       record { answer = rw (text-size n, le-leb (22 * (n + 1)) (length output) h); output = b ∙ pasted-start output (listText es) (length (listText es)) refl }
 
 -- ---- the columns that Listing wrote
@@ -134,7 +145,11 @@ tabulate-list f d i (x ∷ ls) h =
 nothing : ListedRing
 nothing = record { start = 0; end = 0; rows = 0 }
 
-cell : (part : ListedRing → ℕ) → part nothing ≡ 0 → (ls : List ListedRing) (old : List ℕ) (j : ℕ) → j < length ls → getD (over (map part ls) old) j 0 ≡ part (getD ls j nothing)
+cell : (part : ListedRing → ℕ)
+    → part nothing ≡ 0
+    → (ls : List ListedRing) (old : List ℕ) (j : ℕ)
+    → j < length ls
+    → getD (over (map part ls) old) j 0 ≡ part (getD ls j nothing)
 unfolding over
 cell part z ls old j h =
     let l : length (map part ls) ≡ length ls = length-map ls part in
@@ -151,7 +166,11 @@ module _ (ls : List ListedRing) (old : Columns (List ℕ)) {c : Columns (List �
   unfolding entryAt nothing
   entry-is j h =
       ap (λ (x : Columns (List ℕ)). entryAt x j) e
-      ∙ (λ i. record { start = cell (λ x. x .start) refl ls (old .starts) j h i; end = cell (λ x. x .end) refl ls (old .ends) j h i; rows = cell (λ x. x .rows) refl ls (old .rows) j h i })
+      ∙ (λ i. record {
+        start = cell (λ x. x .start) refl ls (old .starts) j h i;
+        end = cell (λ x. x .end) refl ls (old .ends) j h i;
+        rows = cell (λ x. x .rows) refl ls (old .rows) j h i;
+      })
 
   pub entries-are : {n : ℕ} → n ≡ length ls → entriesAt c n ≡ ls
   unfolding entriesAt

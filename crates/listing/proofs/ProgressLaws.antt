@@ -35,7 +35,10 @@ progress-start room goal lent =
     }
 
 module _ {room : ℕ} {goal rest : List ListedRing} {p : Passed} {lent now : Columns (List ℕ)} where
-  pub progress-next : (x : ListedRing) {now′ : Columns (List ℕ)} → Room room now → Progress room goal (x ∷ rest) p lent now → Entering room (p .count) x now now′
+  pub progress-next : (x : ListedRing) {now′ : Columns (List ℕ)}
+      → Room room now
+      → Progress room goal (x ∷ rest) p lent now
+      → Entering room (p .count) x now now′
       → Progress room goal rest (passed (p .count + 1) (p .sum + x .rows)) lent now′
   progress-next x {now′} R P E =
       record {
@@ -56,6 +59,9 @@ pub record Whole (room : ℕ) (goal : List ListedRing) (p : Passed) (lent now : 
   pub summed-up : p .sum ≡ rowSum goal
   pub columns : now ≡ withEntries (take room goal) lent
 
-pub progress-end : {room : ℕ} {goal : List ListedRing} {p : Passed} {lent now : Columns (List ℕ)} → Progress room goal [] p lent now → Whole room goal p lent now
+pub progress-end : {room : ℕ} {goal : List ListedRing} {p : Passed} {lent now : Columns (List ℕ)}
+    → Progress room goal [] p lent now
+    → Whole room goal p lent now
 progress-end {room} {goal} {p} {lent} {now} P =
-    subst (λ (ls : List ListedRing). Whole room ls p lent now) (sym (append-nil (P .done)) ∙ P .split) (record { counted = P .counted; summed-up = P .summed-up; columns = P .columns })
+    subst (λ (ls : List ListedRing). Whole room ls p lent now) (sym (append-nil (P .done)) ∙ P .split)
+    (record { counted = P .counted; summed-up = P .summed-up; columns = P .columns })

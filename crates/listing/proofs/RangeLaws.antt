@@ -51,7 +51,8 @@ module _ (t : Table) (q : Query) where
   starts-from hi zero i = refl
   starts-from hi (suc n) i =
       ap (map (entryOf t q)) (filterBy-append test (windowsFrom hi i) (flatten (tabulate (windowsFrom hi) (suc i) n)))
-      ∙ (map-append (entryOf t q) (filterBy test (windowsFrom hi i)) (filterBy test (flatten (tabulate (windowsFrom hi) (suc i) n))) ∙ ap (λ (r : List ListedRing). startEntries t q hi i ++ r) (starts-from hi n (suc i)))
+      ∙ (map-append (entryOf t q) (filterBy test (windowsFrom hi i)) (filterBy test (flatten (tabulate (windowsFrom hi) (suc i) n)))
+      ∙ ap (λ (r : List ListedRing). startEntries t q hi i ++ r) (starts-from hi n (suc i)))
 
   pub rest-first : (lo hi : ℕ) → listing t q lo hi ≡ restFrom t q hi lo
   unfolding listing restFrom windows
@@ -61,7 +62,8 @@ module _ (t : Table) (q : Query) where
   unfolding restFrom flatten tabulate
   rest-next hi s h =
       let m : suc hi - s ≡ suc (suc hi - (s + 1)) = omega arith in
-      ap (λ (n : ℕ). flatten (tabulate (startEntries t q hi) s n)) m ∙ ap (λ (i : ℕ). startEntries t q hi s ++ flatten (tabulate (startEntries t q hi) i (suc hi - (s + 1)))) (sym (add-one s))
+      ap (λ (n : ℕ). flatten (tabulate (startEntries t q hi) s n)) m
+      ∙ ap (λ (i : ℕ). startEntries t q hi s ++ flatten (tabulate (startEntries t q hi) i (suc hi - (s + 1)))) (sym (add-one s))
 
   pub rest-end : (hi s : ℕ) → hi < s → restFrom t q hi s ≡ []
   unfolding restFrom flatten tabulate
@@ -84,7 +86,12 @@ module _ (t : Table) (q : Query) where
     time-counted : (j : ℕ) → rowTime t q hi s j < 1025 → getD xs (rowTime t q hi s j) 0 ≡ 0 → ⊥
     time-counted j l z =
         ⊎-elim (λ y. let n = row-past t q hi s j (leb-true (size t) j y) in omega arith)
-        (λ y. let a = T .each (rowTime t q hi s j) l in let c = count-pos (λ i. eqb (rowTime t q hi s i) (rowTime t q hi s j)) (size t) j (leb-false (size t) j y) (eq-eqb (rowTime t q hi s j) (rowTime t q hi s j) refl) in omega arith) (true-or-false (leb (size t) j))
+        (λ y. let a = T .each (rowTime t q hi s j) l in
+        let c =
+        count-pos (λ i. eqb (rowTime t q hi s i) (rowTime t q hi s j)) (size t) j (leb-false (size t) j y)
+        (eq-eqb (rowTime t q hi s j) (rowTime t q hi s j) refl) in
+        omega arith)
+        (true-or-false (leb (size t) j))
 
     no-time : (e : ℕ) → e < 1025 → ((j : ℕ) → rowTime t q hi s j ≡ e → ⊥) → getD xs e 0 ≡ 0
     no-time e l h = T .each e l ∙ count-none (λ j. eqb (rowTime t q hi s j) e) (size t) (λ j k. ne-eqb (rowTime t q hi s j) e (h j))
@@ -93,13 +100,24 @@ module _ (t : Table) (q : Query) where
       -- nor before the first counted day from low on
       pub from-counted : TimesFrom hi s r
       from-counted =
-          record { each = λ j. ⊎-elim (λ y. leb-true r (rowTime t q hi s j) y) (λ y. let l = leb-false r (rowTime t q hi s j) y in let o = C .to in absurd (time-counted j (omega arith) (C .before .none (rowTime t q hi s j) (F .each j) l))) (true-or-false (leb r (rowTime t q hi s j))) }
+          record {
+            each =
+                λ j. ⊎-elim (λ y. leb-true r (rowTime t q hi s j) y)
+                (λ y. let l = leb-false r (rowTime t q hi s j) y in
+                let o = C .to in
+                absurd (time-counted j (omega arith) (C .before .none (rowTime t q hi s j) (F .each j) l)))
+                (true-or-false (leb r (rowTime t q hi s j)));
+          }
 
       -- which is not before s, where core times begin
       pub from-uncounted : s ≤ hi → r ≤ hi → Uncounted xs s r
       from-uncounted h o =
           record {
-            order = ⊎-elim (λ y. leb-true s r y) (λ y. let l = leb-false s r y in absurd (C .counted o (no-time r (omega arith) (λ j e. let a = from-start hi s top h .each j in omega arith)))) (true-or-false (leb s r));
+            order =
+                ⊎-elim (λ y. leb-true s r y)
+                (λ y. let l = leb-false s r y in
+                absurd (C .counted o (no-time r (omega arith) (λ j e. let a = from-start hi s top h .each j in omega arith))))
+                (true-or-false (leb s r));
             none = λ e a b. no-time e (omega arith) (λ j y. let c = from-counted .each j in omega arith);
           }
 
@@ -112,14 +130,24 @@ module _ (t : Table) (q : Query) where
     quiet-start o = sym (entries-are t q hi s top counts least o) ∙ none-listed (replicate 1025 0) never s s 0 (hi + 1 - s) (omega arith)
       where
         counts : CountsAt t q hi s (replicate 1025 0)
-        counts = record { long = length-replicate {A = ℕ} 1025 0; each = λ e h. getD-replicate {A = ℕ} 1025 e 0 0 h ∙ sym (count-none (λ j. eqb (rowTime t q hi s j) e) (size t) (λ j l. ne-eqb (rowTime t q hi s j) e (λ y. let n = quiet j in omega arith))) }
+        counts =
+            record {
+              long = length-replicate {A = ℕ} 1025 0;
+              each =
+                  λ e h. getD-replicate {A = ℕ} 1025 e 0 0 h
+                  ∙ sym (count-none (λ j. eqb (rowTime t q hi s j) e) (size t)
+                  (λ j l. ne-eqb (rowTime t q hi s j) e (λ y. let n = quiet j in omega arith)));
+            }
 
         least : Earliest t q hi s never
         least = record { lower = λ j h. let n = quiet j in omega arith; reached = _⊎_.inl refl }
 
   rest-none : (m : ℕ) {hi s low : ℕ} → hi ≤ 1024 → hi < low → suc hi - s ≡ m → TimesFrom hi s low → restFrom t q hi s ≡ []
   rest-none zero {hi} {s} top past e F = rest-end hi s (omega arith)
-  rest-none (suc m) {hi} {s} top past e F = rest-next hi s (omega arith) ∙ (ap (λ (ls : List ListedRing). ls ++ restFrom t q hi (s + 1)) (quiet-start top past F (omega arith)) ∙ rest-none m top past (omega arith) (from-next top F))
+  rest-none (suc m) {hi} {s} top past e F =
+      rest-next hi s (omega arith)
+      ∙ (ap (λ (ls : List ListedRing). ls ++ restFrom t q hi (s + 1)) (quiet-start top past F (omega arith))
+      ∙ rest-none m top past (omega arith) (from-next top F))
 
   -- where no row has a core time, no start from s on has an entry
   pub rest-quiet : {hi s low : ℕ} → hi ≤ 1024 → hi < low → TimesFrom hi s low → restFrom t q hi s ≡ []

@@ -46,7 +46,12 @@ at-greatest (x ∷ xs) (suc i) = let h : getD xs i 0 ≤ greatest xs = at-greate
 module _ (t : Table) (q : Query) (low : q .k ≤ 1) where
   all-good : (m : List Bool) → Good t q m
   unfolding degree joins firstOf secondOf names
-  all-good m = record { neighbours = λ u h. let w = met-e t m u h in ⊎-elim (first u (w .row) (w .below) (w .has)) (second u (w .row) (w .below) (w .has)) (touch-cases t (w .row) u (w .touch)) }
+  all-good m =
+      record {
+        neighbours =
+            λ u h. let w = met-e t m u h in
+            ⊎-elim (first u (w .row) (w .below) (w .has)) (second u (w .row) (w .below) (w .has)) (touch-cases t (w .row) u (w .touch));
+      }
     where
       more : (u v j : ℕ) → v < names t → neighbour t m u v ≡ true → q .k ≤ degree t m u
       more u v j l h = le-trans low (count-pos (neighbour t m u) (names t) v l h)
@@ -55,15 +60,23 @@ module _ (t : Table) (q : Query) (low : q .k ≤ 1) where
       first : (u j : ℕ) → j < size t → marked m j ≡ true → firstOf t j ≡ u → q .k ≤ degree t m u
       first u j b h e =
           more u (secondOf t j) j (let g = at-greatest (t .second) j in omega arith)
-          (neighbour-i t m j u (secondOf t j) b h (or-l (eqb (firstOf t j) u and eqb (secondOf t j) (secondOf t j)) (eqb (firstOf t j) (secondOf t j) and eqb (secondOf t j) u) (and-i (eq-eqb (firstOf t j) u e) (eq-eqb (secondOf t j) (secondOf t j) refl))))
+          (neighbour-i t m j u (secondOf t j) b h
+          (or-l (eqb (firstOf t j) u and eqb (secondOf t j) (secondOf t j))
+          (eqb (firstOf t j) (secondOf t j) and eqb (secondOf t j) u)
+          (and-i (eq-eqb (firstOf t j) u e) (eq-eqb (secondOf t j) (secondOf t j) refl))))
 
       second : (u j : ℕ) → j < size t → marked m j ≡ true → secondOf t j ≡ u → q .k ≤ degree t m u
       second u j b h e =
           more u (firstOf t j) j (let g = at-greatest (t .first) j in omega arith)
-          (neighbour-i t m j u (firstOf t j) b h (or-r (eqb (firstOf t j) u and eqb (secondOf t j) (firstOf t j)) (eqb (firstOf t j) (firstOf t j) and eqb (secondOf t j) u) (and-i (eq-eqb (firstOf t j) (firstOf t j) refl) (eq-eqb (secondOf t j) u e))))
+          (neighbour-i t m j u (firstOf t j) b h
+          (or-r (eqb (firstOf t j) u and eqb (secondOf t j) (firstOf t j))
+          (eqb (firstOf t j) (firstOf t j) and eqb (secondOf t j) u)
+          (and-i (eq-eqb (firstOf t j) (firstOf t j) refl) (eq-eqb (secondOf t j) u e))))
 
   ring-all : (s e j : ℕ) → Inside t s e j → inRing t q s e j ≡ true
-  ring-all s e j w = in-marked t q s e j (ring-holds t q s e (windowRows t s e) (within-refl (windowRows t s e)) (all-good (windowRows t s e)) .all j (window-i t s e j w))
+  ring-all s e j w =
+      in-marked t q s e j
+      (ring-holds t q s e (windowRows t s e) (within-refl (windowRows t s e)) (all-good (windowRows t s e)) .all j (window-i t s e j w))
 
 -- ---- a payment on each day
 
@@ -117,14 +130,21 @@ module _ (lo hi : ℕ) where
   all-tight : hi < never → (w : Window) → OfRange lo hi w → tight (daily lo hi) (record { k = 1 }) (w .start) (w .end) ≡ true
   all-tight fits w o =
       let f = o .from in let c = o .order in let l = o .to in
-      tight-i (daily lo hi) (record { k = 1 }) (w .start) (w .end) (omega arith) (record { first = on (w .start) f (le-refl (w .start)) c; last = on (w .end) (le-trans f c) c (le-refl (w .end)) })
+      tight-i (daily lo hi) (record { k = 1 }) (w .start) (w .end) (omega arith)
+      (record { first = on (w .start) f (le-refl (w .start)) c; last = on (w .end) (le-trans f c) c (le-refl (w .end)) })
     where
       on : (d : ℕ) → lo ≤ d → w .start ≤ d → d ≤ w .end → DatedRow (daily lo hi) (record { k = 1 }) (w .start) (w .end) d
       on d a b c =
           let l = o .to in
           let n = daily-size in
           let e : dayOf (daily lo hi) (d - lo) ≡ d = daily-day (d - lo) (omega arith) ∙ omega arith in
-          record { row = d - lo; in-ring = ring-all (daily lo hi) (record { k = 1 }) (le-refl 1) (w .start) (w .end) (d - lo) (record { row = omega arith; from = omega arith; to = omega arith }); dated = e }
+          record {
+            row = d - lo;
+            in-ring =
+                ring-all (daily lo hi) (record { k = 1 }) (le-refl 1) (w .start) (w .end) (d - lo)
+                (record { row = omega arith; from = omega arith; to = omega arith });
+            dated = e;
+          }
 
 filterBy-all : {A : Type 0} (p : A → Bool) (xs : List A) → ((x : A) → Mem x xs → p x ≡ true) → length (filterBy p xs) ≡ length xs
 unfolding filterBy
@@ -135,4 +155,5 @@ pub longest-reached : (lo hi : ℕ) → hi < never → length (listing (daily lo
 unfolding listing
 longest-reached lo hi fits =
     let test : Window → Bool = λ w. tight (daily lo hi) (record { k = 1 }) (w .start) (w .end) in
-    length-map (filterBy test (windows lo hi)) (entryOf (daily lo hi) (record { k = 1 })) ∙ (filterBy-all test (windows lo hi) (λ w m. all-tight lo hi fits w (windows-e lo hi w m)) ∙ windows-length lo hi)
+    length-map (filterBy test (windows lo hi)) (entryOf (daily lo hi) (record { k = 1 }))
+    ∙ (filterBy-all test (windows lo hi) (λ w m. all-tight lo hi fits w (windows-e lo hi w m)) ∙ windows-length lo hi)

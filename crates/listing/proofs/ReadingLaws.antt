@@ -32,7 +32,8 @@ use Rattle.text.proofs.LineLaws.{step-none, step-short, whole-fits}
 use Rattle.text.proofs.RowsLaws.{column-length}
 use Rattle.rings.specs.Table.{tableOf as columns}
 use Rattle.rings.specs.declared.refusal.Refusal.the-variants.{TooLarge}
-use Rattle.listing.specs.Program.{Outcome, stopped, readerLine, stoppedBy, unlessRefused, tableOf, listed, fromRows, badQuery, fromQuery, unlessLong, outcome}
+use Rattle.listing.specs.Program.{Outcome, stopped, readerLine, stoppedBy, unlessRefused, tableOf}
+use Rattle.listing.specs.Program.{listed, fromRows, badQuery, fromQuery, unlessLong, outcome}
 use Rattle.rings.specs.Ring.{query}
 use Rattle.listing.specs.ProgramSteps.{Readable, askedBy, rowsOf, asked, Asks}
 use Rattle.listing.specs.declared.program.Asked.{Asked}
@@ -148,7 +149,11 @@ front : (values column : List ℕ) {now : List ℕ} (n : ℕ) → length values 
 front values column n e q = ap (take n) q ∙ take-at values (drop n column) n e
 
 module _ (text : List ℕ) (k lo hi : ℕ) (days first second : List ℕ) {days′ first′ second′ : List ℕ} where
-  by-answer : (r : TableRead) → tableReadOf text 1024 1024 1024 ≡ r → days′ ≡ filled r (daysOf text) days → first′ ≡ filled r (firstsOf text) first → second′ ≡ filled r (secondsOf text) second
+  by-answer : (r : TableRead)
+      → tableReadOf text 1024 1024 1024 ≡ r
+      → days′ ≡ filled r (daysOf text) days
+      → first′ ≡ filled r (firstsOf text) first
+      → second′ ≡ filled r (secondsOf text) second
       → Asks (fromRows r (tableOf text) (query k) lo hi) (askedBy r k lo hi) days′ first′ second′
   unfolding rowsOf asked askedBy unlessRefused fromRows listed tableReadOf tableOf daysOf firstsOf secondsOf
   by-answer (TableRead.Rows n) e d f s =
@@ -195,10 +200,16 @@ module _ (input : List ℕ) (short : length input ≤ mostInput) where
   rest-is = ap (λ (k : ℕ). take k (drop queryBytes input)) (sym (length-drop queryBytes input)) ∙ take-length (drop queryBytes input)
 
   pub asks-query : {r : QueryRead} {k lo hi : ℕ} {a : Asked} {d f s : List ℕ} → r ≡ queryOf input → r ≡ QueryRead.Query k lo hi
-      → Asks (fromRows (tableReadOf (take (length input - queryBytes) (drop queryBytes input)) 1024 1024 1024) (tableOf (take (length input - queryBytes) (drop queryBytes input))) (query k) lo hi) a d f s → Asks (outcome input) a d f s
+      → Asks (fromRows (tableReadOf (take (length input - queryBytes) (drop queryBytes input)) 1024 1024 1024)
+      (tableOf (take (length input - queryBytes) (drop queryBytes input))) (query k) lo hi)
+      a d f s
+      → Asks (outcome input) a d f s
   unfolding fromQuery rest
   asks-query {r} {k} {lo} {hi} e q h =
-      record { most = h .most; is = by-query (sym q ∙ e) ∙ ap (λ (l : List ℕ). fromRows (tableReadOf l 1024 1024 1024) (tableOf l) (query k) lo hi) (sym rest-is) ∙ h .is }
+      record {
+        most = h .most;
+        is = by-query (sym q ∙ e) ∙ ap (λ (l : List ℕ). fromRows (tableReadOf l 1024 1024 1024) (tableOf l) (query k) lo hi) (sym rest-is) ∙ h .is;
+      }
 
   pub asks-none : {r : QueryRead} (q : QueryRead) {a : Asked} {d f s : List ℕ} → r ≡ queryOf input → r ≡ q → fromQuery q (drop queryBytes input) ≡ badQuery q
       → a ≡ Asked.Refused (queryNumber r) (queryPlace r) → Asks (outcome input) a d f s

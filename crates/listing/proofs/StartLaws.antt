@@ -52,17 +52,29 @@ module _ (f : ℕ → ℕ) where
   by-next e (suc n) =
       let h = by-next e n in
       ⊎-elim
-      (λ a. let l = ltb-true (f n) e a in let x = one-more (λ j. leb (f j) e) n (le-leb (f n) e (omega arith)) in let y = one-more (λ j. ltb (f j) e) n a in let z = no-more (λ j. eqb (f j) e) n (ne-eqb (f n) e (λ i. omega arith)) in omega arith)
+      (λ a. let l = ltb-true (f n) e a in
+      let x = one-more (λ j. leb (f j) e) n (le-leb (f n) e (omega arith)) in
+      let y = one-more (λ j. ltb (f j) e) n a in
+      let z = no-more (λ j. eqb (f j) e) n (ne-eqb (f n) e (λ i. omega arith)) in
+      omega arith)
       (λ a.
       let l = ltb-false (f n) e a in
       let y = no-more (λ j. ltb (f j) e) n a in
-      ⊎-elim (λ i. let x = one-more (λ j. leb (f j) e) n (le-leb (f n) e (omega arith)) in let z = one-more (λ j. eqb (f j) e) n (eq-eqb (f n) e (sym i)) in omega arith)
-      (λ i. let x = no-more (λ j. leb (f j) e) n (lt-leb (f n) e i) in let z = no-more (λ j. eqb (f j) e) n (ne-eqb (f n) e (λ k. omega arith)) in omega arith) (eq-or-lt-of-le l)) (true-or-false (ltb (f n) e))
+      ⊎-elim (λ i. let x = one-more (λ j. leb (f j) e) n (le-leb (f n) e (omega arith)) in
+      let z = one-more (λ j. eqb (f j) e) n (eq-eqb (f n) e (sym i)) in
+      omega arith)
+      (λ i. let x = no-more (λ j. leb (f j) e) n (lt-leb (f n) e i) in
+      let z = no-more (λ j. eqb (f j) e) n (ne-eqb (f n) e (λ k. omega arith)) in
+      omega arith)
+      (eq-or-lt-of-le l))
+      (true-or-false (ltb (f n) e))
 
   by-suc : (e n : ℕ) → count (λ j. ltb (f j) (suc e)) n ≡ count (λ j. leb (f j) e) n
   by-suc e n =
       count-same (λ j. ltb (f j) (suc e)) (λ j. leb (f j) e) n
-      (λ j l. same-truth (ltb (f j) (suc e)) (leb (f j) e) (λ y. let k = ltb-true (f j) (suc e) y in le-leb (f j) e (omega arith)) (λ y. let k = leb-true (f j) e y in lt-ltb (f j) (suc e) (omega arith)))
+      (λ j l. same-truth (ltb (f j) (suc e)) (leb (f j) e)
+      (λ y. let k = ltb-true (f j) (suc e) y in le-leb (f j) e (omega arith))
+      (λ y. let k = leb-true (f j) e y in lt-ltb (f j) (suc e) (omega arith)))
 
 module _ (t : Table) (q : Query) (hi s : ℕ) (top : hi ≤ 1024) {xs : List ℕ} (T : CountsAt t q hi s xs) where
   abbrev time : ℕ → ℕ
@@ -76,7 +88,8 @@ module _ (t : Table) (q : Query) (hi s : ℕ) (top : hi ≤ 1024) {xs : List ℕ
   -- no row has a time before the start
   none-before : s ≤ hi → 0 ≡ count (λ j. ltb (time j) s) (size t)
   none-before o =
-      sym (count-none (λ j. ltb (time j) s) (size t) (λ j l. ⊎-elim (λ n. le-ltb (time j) s (omega arith)) (λ d. le-ltb (time j) s (d .0)) (row-time t q hi s j)))
+      sym (count-none (λ j. ltb (time j) s) (size t)
+      (λ j l. ⊎-elim (λ n. le-ltb (time j) s (omega arith)) (λ d. le-ltb (time j) s (d .0)) (row-time t q hi s j)))
 
   pub sum-small : size t ≤ 16384 → (e : ℕ) → e ≤ hi → sumOf xs e (hi + 1 - e) ≤ 16384
   unfolding sumOf
@@ -100,7 +113,15 @@ module _ (t : Table) (q : Query) (hi s : ℕ) (top : hi ≤ 1024) {xs : List ℕ
             let b = leb-true least e (and-r (ltb 0 (getD xs e 0)) (leb least e) y) in
             let w = count-some (λ j. eqb (time j) e) (size t) (let g = at-e in omega arith) in
             ⊎-elim (λ n. absurd (omega arith))
-            (λ r. times-tight t q hi (omega arith) s e o h (record { first = r .row; first-day-is = r .dated; first-time = let g = r .time-is in omega arith; last = w .it; last-time = eqb-true (time (w .it)) e (w .has) })) (E .reached)
+            (λ r. times-tight t q hi (omega arith) s e o h
+            (record {
+              first = r .row;
+              first-day-is = r .dated;
+              first-time = let g = r .time-is in omega arith;
+              last = w .it;
+              last-time = eqb-true (time (w .it)) e (w .has);
+            }))
+            (E .reached)
 
         back : tight t q s e ≡ true → (ltb 0 (getD xs e 0) and leb least e) ≡ true
         back y =
@@ -112,7 +133,9 @@ module _ (t : Table) (q : Query) (hi s : ℕ) (top : hi ≤ 1024) {xs : List ℕ
             and-i (lt-ltb 0 (getD xs e 0) (omega arith)) (le-leb least e (omega arith))
           where
             inside : (j : ℕ) → time j ≡ e → j < size t
-            inside j i = ⊎-elim (λ y. let k = row-past t q hi s j (leb-true (size t) j y) in absurd (omega arith)) (λ y. leb-false (size t) j y) (true-or-false (leb (size t) j))
+            inside j i =
+                ⊎-elim (λ y. let k = row-past t q hi s j (leb-true (size t) j y) in absurd (omega arith)) (λ y. leb-false (size t) j y)
+                (true-or-false (leb (size t) j))
 
     abbrev test : Window → Bool
     test w = tight t q (w .start) (w .end)
@@ -125,17 +148,30 @@ module _ (t : Table) (q : Query) (hi s : ℕ) (top : hi ≤ 1024) {xs : List ℕ
     map-kept true w ws = refl
     map-kept false w ws = refl
 
-    entry-is : (e total : ℕ) → s ≤ e → e ≤ hi → total ≡ count (λ j. ltb (time j) e) (size t) → record { start = s; end = e; rows = total + at xs e } ≡ entryOf t q (window e)
+    entry-is : (e total : ℕ)
+        → s ≤ e
+        → e ≤ hi
+        → total ≡ count (λ j. ltb (time j) e) (size t)
+        → record { start = s; end = e; rows = total + at xs e } ≡ entryOf t q (window e)
     unfolding entryOf
-    entry-is e total o h et = let r : total + at xs e ≡ members (ring t q s e) = step e total h et ∙ (by-suc time e (size t) ∙ sym (ring-size t q hi s (omega arith) e o h)) in λ i. record { start = s; end = e; rows = r i }
+    entry-is e total o h et =
+        let r : total + at xs e ≡ members (ring t q s e) =
+        step e total h et ∙ (by-suc time e (size t) ∙ sym (ring-size t q hi s (omega arith) e o h)) in
+        λ i. record { start = s; end = e; rows = r i }
 
-    entries-from : (m e total : ℕ) → e + m ≡ suc hi → s ≤ e → total ≡ count (λ j. ltb (time j) e) (size t) → countEntries xs least s e total m ≡ map (entryOf t q) (filterBy test (tabulate window e m))
+    entries-from : (m e total : ℕ)
+        → e + m ≡ suc hi
+        → s ≤ e
+        → total ≡ count (λ j. ltb (time j) e) (size t)
+        → countEntries xs least s e total m ≡ map (entryOf t q) (filterBy test (tabulate window e m))
     unfolding countEntries filterBy tabulate
     entries-from zero e total h o et = refl
     entries-from (suc m) e total h o et =
-        ap (λ (b : Bool). consIf b (record { start = s; end = e; rows = total + at xs e }) (countEntries xs least s (suc e) (total + at xs e) m)) (listed-is e o (omega arith))
+        ap (λ (b : Bool). consIf b (record { start = s; end = e; rows = total + at xs e }) (countEntries xs least s (suc e) (total + at xs e) m))
+        (listed-is e o (omega arith))
         ∙ (ap (λ (x : ListedRing). consIf (tight t q s e) x (countEntries xs least s (suc e) (total + at xs e) m)) (entry-is e total o (omega arith) et)
-        ∙ (ap (consIf (tight t q s e) (entryOf t q (window e))) (entries-from m (suc e) (total + at xs e) (omega arith) (omega arith) (step e total (omega arith) et))
+        ∙ (ap (consIf (tight t q s e) (entryOf t q (window e)))
+        (entries-from m (suc e) (total + at xs e) (omega arith) (omega arith) (step e total (omega arith) et))
         ∙ sym (map-kept (tight t q s e) (window e) (filterBy test (tabulate window (suc e) m)))))
 
     pub entries-are : s ≤ hi → countEntries xs least s s 0 (hi + 1 - s) ≡ startEntries t q hi s

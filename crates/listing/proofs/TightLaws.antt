@@ -11,7 +11,8 @@ use native.Mathlib.Omega.{arith}
 use mathlib.Core.Path.{_≡_, refl, sym, _∙_, ap, subst}
 use mathlib.Core.Logic.{_⊎_, ⊎-elim}
 use mathlib.Core.Bool.{Bool, true, false}
-use mathlib.Core.List.{List, [], _∷_, List·Memᴰ as Mem, List·Memᴰ·head as here, List·Memᴰ·tail as there, List·Memᴰ·not-nil as not-nil, List·Memᴰ·cases-cons as cases-cons, Memᴰ·cast as mem-cast}
+use mathlib.Core.List.{List, [], _∷_, List·Memᴰ as Mem, List·Memᴰ·head as here, List·Memᴰ·tail as there}
+use mathlib.Core.List.{List·Memᴰ·not-nil as not-nil, List·Memᴰ·cases-cons as cases-cons, Memᴰ·cast as mem-cast}
 use lib.ListN.{length}
 use lib.Dec.{leb, eqb}
 use borrow.Author.Tests.{leb-true, leb-false, eqb-true, eq-eqb}
@@ -44,7 +45,9 @@ lowest-mem [] h = absurd (omega arith)
 lowest-mem (x ∷ xs) h = ⊎-elim (λ e. here e) (λ e. there (mem-cast e (lowest-mem xs (omega arith)))) which
   where
     which : (min x (lowest xs) ≡ x) ⊎ (min x (lowest xs) ≡ lowest xs)
-    which = ⊎-elim (λ l. _⊎_.inl (let l′ = leb-true x (lowest xs) l in omega arith)) (λ l. _⊎_.inr (let l′ = leb-false x (lowest xs) l in omega arith)) (true-or-false (leb x (lowest xs)))
+    which =
+        ⊎-elim (λ l. _⊎_.inl (let l′ = leb-true x (lowest xs) l in omega arith))
+        (λ l. _⊎_.inr (let l′ = leb-false x (lowest xs) l in omega arith)) (true-or-false (leb x (lowest xs)))
 
 le-greatest : (xs : List ℕ) {d : ℕ} → Mem d xs → d ≤ greatest xs
 unfolding greatest
@@ -62,7 +65,9 @@ greatest-mem x [] = let e : max x 0 ≡ x = omega arith in here e
 greatest-mem x (y ∷ ys) = ⊎-elim (λ e. here e) (λ e. there (mem-cast e (greatest-mem y ys))) which
   where
     which : (max x (greatest (y ∷ ys)) ≡ x) ⊎ (max x (greatest (y ∷ ys)) ≡ greatest (y ∷ ys))
-    which = ⊎-elim (λ l. _⊎_.inr (let l′ = leb-true x (greatest (y ∷ ys)) l in omega arith)) (λ l. _⊎_.inl (let l′ = leb-false x (greatest (y ∷ ys)) l in omega arith)) (true-or-false (leb x (greatest (y ∷ ys))))
+    which =
+        ⊎-elim (λ l. _⊎_.inr (let l′ = leb-true x (greatest (y ∷ ys)) l in omega arith))
+        (λ l. _⊎_.inl (let l′ = leb-false x (greatest (y ∷ ys)) l in omega arith)) (true-or-false (leb x (greatest (y ∷ ys))))
 
 -- ---- the days of a row set
 
@@ -83,7 +88,9 @@ days-e t m h =
 
 days-i : (t : Table) (m : List Bool) (j : ℕ) → j < size t → marked m j ≡ true → Mem (dayOf t j) (memberDays t m)
 unfolding memberDays
-days-i t m j l h = mem-map (dayOf t) (filterBy (marked m) (tabulate (λ j. j) 0 (size t))) (mem-filterBy (marked m) (tabulate (λ j. j) 0 (size t)) (mem-tabulate (λ j. j) 0 (size t) j (omega arith) (omega arith)) h)
+days-i t m j l h =
+    mem-map (dayOf t) (filterBy (marked m) (tabulate (λ j. j) 0 (size t)))
+    (mem-filterBy (marked m) (tabulate (λ j. j) 0 (size t)) (mem-tabulate (λ j. j) 0 (size t) j (omega arith) (omega arith)) h)
 
 -- a set with a row has a first and a last day
 first-day : (t : Table) (m : List Bool) → firstDay t m < never → DayRow t m (firstDay t m)
@@ -120,14 +127,20 @@ module _ (t : Table) (q : Query) where
   first-is : (s e d : ℕ) → s ≤ never → ((j : ℕ) → inRing t q s e j ≡ true → d ≤ dayOf t j) → d ≤ never → DatedRow s e d → firstDay t (ring t q s e) ≡ d
   unfolding firstDay
   first-is s e d h f g w =
-      le-antisymm (subst (λ (x : ℕ). firstDay t (ring t q s e) ≤ x) (w .dated) (first-le t (ring t q s e) (w .row) (in-window t q s e (w .row) (w .in-ring) .row) (marked-in t q s e (w .row) (w .in-ring))))
-      (le-lowest (memberDays t (ring t q s e)) d g (λ x m. let y = days-e t (ring t q s e) m in subst (λ (z : ℕ). d ≤ z) (sym (y .is)) (f (y .row) (in-marked t q s e (y .row) (y .has)))))
+      le-antisymm
+      (subst (λ (x : ℕ). firstDay t (ring t q s e) ≤ x) (w .dated)
+      (first-le t (ring t q s e) (w .row) (in-window t q s e (w .row) (w .in-ring) .row) (marked-in t q s e (w .row) (w .in-ring))))
+      (le-lowest (memberDays t (ring t q s e)) d g
+      (λ x m. let y = days-e t (ring t q s e) m in subst (λ (z : ℕ). d ≤ z) (sym (y .is)) (f (y .row) (in-marked t q s e (y .row) (y .has)))))
 
   last-is : (s e d : ℕ) → ((j : ℕ) → inRing t q s e j ≡ true → dayOf t j ≤ d) → DatedRow s e d → lastDay t (ring t q s e) ≡ d
   unfolding lastDay
   last-is s e d f w =
-      le-antisymm (greatest-le (memberDays t (ring t q s e)) d (λ x m. let y = days-e t (ring t q s e) m in subst (λ (z : ℕ). z ≤ d) (sym (y .is)) (f (y .row) (in-marked t q s e (y .row) (y .has)))))
-      (subst (λ (x : ℕ). x ≤ lastDay t (ring t q s e)) (w .dated) (le-last t (ring t q s e) (w .row) (in-window t q s e (w .row) (w .in-ring) .row) (marked-in t q s e (w .row) (w .in-ring))))
+      le-antisymm
+      (greatest-le (memberDays t (ring t q s e)) d
+      (λ x m. let y = days-e t (ring t q s e) m in subst (λ (z : ℕ). z ≤ d) (sym (y .is)) (f (y .row) (in-marked t q s e (y .row) (y .has)))))
+      (subst (λ (x : ℕ). x ≤ lastDay t (ring t q s e)) (w .dated)
+      (le-last t (ring t q s e) (w .row) (in-window t q s e (w .row) (w .in-ring) .row) (marked-in t q s e (w .row) (w .in-ring))))
 
   pub nonempty-e : (s e : ℕ) → nonempty (ring t q s e) ≡ true → (j : ℕ) × (inRing t q s e j ≡ true)
   unfolding nonempty
@@ -157,7 +170,10 @@ module _ (t : Table) (q : Query) where
       let a = p .1 in
       record {
         first = dated s e s (subst (DayRow t (ring t q s e)) (p .1) (first-day t (ring t q s e) (omega arith)));
-        last = dated s e e (subst (DayRow t (ring t q s e)) (p .2) (last-day t (ring t q s e) (j .0) (in-window t q s e (j .0) (j .1) .row) (marked-in t q s e (j .0) (j .1))));
+        last =
+            dated s e e
+            (subst (DayRow t (ring t q s e)) (p .2)
+            (last-day t (ring t q s e) (j .0) (in-window t q s e (j .0) (j .1) .row) (marked-in t q s e (j .0) (j .1))));
       }
 
   pub tight-i : (s e : ℕ) → s ≤ never → Tight s e → tight t q s e ≡ true
@@ -204,7 +220,11 @@ module _ (t : Table) (q : Query) where
     shrunk : Within (ring t q s e) (ring t q a b)
     shrunk =
         ring-holds t q a b (ring t q s e)
-        (record { all = λ i h. let k = in-marked t q s e i h in window-i t a b i (record { row = in-window t q s e i k .row; from = a-le i k; to = le-b i k }) }) (ring-good t q s e)
+        (record {
+          all =
+              λ i h. let k = in-marked t q s e i h in window-i t a b i (record { row = in-window t q s e i k .row; from = a-le i k; to = le-b i k });
+        })
+        (ring-good t q s e)
 
     same-ring : ring t q a b ≡ ring t q s e
     same-ring = same-marks (ring t q a b) (ring t q s e) (ring-sized t q a b ∙ sym (ring-sized t q s e)) (ring-grows t q s-le-a b-le-e .all) (shrunk .all)
@@ -233,7 +253,9 @@ module _ (t : Table) (q : Query) where
         from = s-le-a s e fits j h;
         order = le-trans f l;
         to = k;
-        is-tight = tight-i (a s e fits j h) (b s e fits j h) (omega arith) (record { first = moved s e fits j h (first-row s e fits j h); last = moved s e fits j h (last-row s e fits j h) });
+        is-tight =
+            tight-i (a s e fits j h) (b s e fits j h) (omega arith)
+            (record { first = moved s e fits j h (first-row s e fits j h); last = moved s e fits j h (last-row s e fits j h) });
         same = same-ring s e fits j h;
       }
 
@@ -261,10 +283,21 @@ module _ (t : Table) (q : Query) where
         let r : rowTime t q hi s j ≤ e = row-reach-i t q hi s j e o h (w .last .in-ring) in
         let d : dayOf t j ≤ rowTime t q hi s j = row-day t q hi s fits j (le-trans r h) in
         let g = w .last .dated in
-        record { first = w .first .row; first-day-is = w .first .dated; first-time = row-reach-i t q hi s (w .first .row) e o h (w .first .in-ring); last = j; last-time = omega arith }
+        record {
+          first = w .first .row;
+          first-day-is = w .first .dated;
+          first-time = row-reach-i t q hi s (w .first .row) e o h (w .first .in-ring);
+          last = j;
+          last-time = omega arith;
+        }
 
     pub times-tight : ByTimes hi s e → tight t q s e ≡ true
-    times-tight w = tight-i s e (omega arith) (record { first = record { row = w .first; in-ring = row-reach-e t q hi s fits (w .first) e h (w .first-time); dated = w .first-day-is }; last = ended })
+    times-tight w =
+        tight-i s e (omega arith)
+        (record {
+          first = record { row = w .first; in-ring = row-reach-e t q hi s fits (w .first) e h (w .first-time); dated = w .first-day-is };
+          last = ended;
+        })
       where
         -- a row whose core time is e and no ring row dated e: the ring would be that of [s, e - 1]
         on : ℕ → Bool
@@ -274,11 +307,18 @@ module _ (t : Table) (q : Query) where
         last-in = row-reach-e t q hi s fits (w .last) e h (let x = w .last-time in omega arith)
 
         found : some on (size t) ≡ true → DatedRow s e e
-        found y = let z = some-e on (size t) y in record { row = z .it; in-ring = and-l (inRing t q s e (z .it)) (eqb (dayOf t (z .it)) e) (z .has); dated = eqb-true (dayOf t (z .it)) e (and-r (inRing t q s e (z .it)) (eqb (dayOf t (z .it)) e) (z .has)) }
+        found y =
+            let z = some-e on (size t) y in
+            record {
+              row = z .it;
+              in-ring = and-l (inRing t q s e (z .it)) (eqb (dayOf t (z .it)) e) (z .has);
+              dated = eqb-true (dayOf t (z .it)) e (and-r (inRing t q s e (z .it)) (eqb (dayOf t (z .it)) e) (z .has));
+            }
 
         sooner : some on (size t) ≡ false → (j : ℕ) → inRing t q s e j ≡ true → dayOf t j < e
         sooner n j y =
-            ⊎-elim (λ p. clash (and-i y (eq-eqb (dayOf t j) e p)) (some-none on (size t) n j (in-window t q s e j y .row))) (λ l. l) (eq-or-lt-of-le (in-window t q s e j y .to))
+            ⊎-elim (λ p. clash (and-i y (eq-eqb (dayOf t j) e p)) (some-none on (size t) n j (in-window t q s e j y .row)))
+            (λ l. l) (eq-or-lt-of-le (in-window t q s e j y .to))
 
         ended : DatedRow s e e
         ended =
@@ -287,6 +327,16 @@ module _ (t : Table) (q : Query) where
             let l : dayOf t (w .last) < e = sooner n (w .last) last-in in
             let f = in-window t q s e (w .last) last-in .from in
             let x = w .last-time in
-            let within : Within (ring t q s e) (windowRows t s (pred e)) = record { all = λ i m. let k = in-marked t q s e i m in let z = in-window t q s e i k in let y : dayOf t i < e = sooner n i k in window-i t s (pred e) i (record { row = z .row; from = z .from; to = omega arith }) } in
-            let r : rowTime t q hi s (w .last) ≤ pred e = row-reach-i t q hi s (w .last) (pred e) (omega arith) (omega arith) (in-marked t q s (pred e) (w .last) (ring-holds t q s (pred e) (ring t q s e) within (ring-good t q s e) .all (w .last) (marked-in t q s e (w .last) last-in))) in
+            let within : Within (ring t q s e) (windowRows t s (pred e)) =
+            record {
+              all =
+                  λ i m. let k = in-marked t q s e i m in
+                  let z = in-window t q s e i k in
+                  let y : dayOf t i < e = sooner n i k in
+                  window-i t s (pred e) i (record { row = z .row; from = z .from; to = omega arith });
+            } in
+            let r : rowTime t q hi s (w .last) ≤ pred e =
+            row-reach-i t q hi s (w .last) (pred e) (omega arith) (omega arith)
+            (in-marked t q s (pred e) (w .last)
+            (ring-holds t q s (pred e) (ring t q s e) within (ring-good t q s e) .all (w .last) (marked-in t q s e (w .last) last-in))) in
             absurd (omega arith)) (true-or-false (some on (size t)))

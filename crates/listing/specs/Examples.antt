@@ -76,7 +76,8 @@ eightEntries = record { rows = 0 ∷ 1 ∷ 1 ∷ 2 ∷ 2 ∷ 3 ∷ 4 ∷ 5 ∷ [
 
 pub record StarredRows : Type 0 where
   -- "Start 1: accounts 1, 2, 3 have 2, account 4 has 6. Rows 0 to 5: 2, 2, 2, 4, 6, 6": every other account has no row
-  pub start-1-accounts : accountColumn (timesAnswer season two 1 6 1 4096 6 8216) season two 6 1 (replicate 4096 9) ≡ never ∷ 2 ∷ 2 ∷ 2 ∷ 6 ∷ replicate 4091 never
+  pub start-1-accounts : accountColumn (timesAnswer season two 1 6 1 4096 6 8216) season two 6 1 (replicate 4096 9)
+      ≡ never ∷ 2 ∷ 2 ∷ 2 ∷ 6 ∷ replicate 4091 never
   pub start-1-rows : rowColumn (timesAnswer season two 1 6 1 4096 6 8216) season two 6 1 (replicate 6 9) ≡ 2 ∷ 2 ∷ 2 ∷ 4 ∷ 6 ∷ 6 ∷ []
   -- "Start 2: row 0 never; rows 1 to 5: 4, 4, 4, 6, 6"
   pub start-2-rows : rowColumn (timesAnswer season two 1 6 2 4096 6 8216) season two 6 2 (replicate 6 9) ≡ never ∷ 4 ∷ 4 ∷ 4 ∷ 6 ∷ 6 ∷ []
@@ -84,7 +85,8 @@ pub record StarredRows : Type 0 where
   pub start-3-accounts : accountColumn (timesAnswer season two 1 6 3 4096 6 8216) season two 6 3 (replicate 4096 9) ≡ replicate 4096 never
   pub start-3-rows : rowColumn (timesAnswer season two 1 6 3 4096 6 8216) season two 6 3 (replicate 6 9) ≡ replicate 6 never
   -- "Minimal windows: row 0 [1,2]; rows 1 and 2 [1,2], [2,4]; row 3 [2,4]; rows 4 and 5 [2,6]. Eight entries"
-  pub minimal : minimalWindows season two 1 6 ≡ entry 0 1 2 ∷ entry 1 1 2 ∷ entry 1 2 4 ∷ entry 2 1 2 ∷ entry 2 2 4 ∷ entry 3 2 4 ∷ entry 4 2 6 ∷ entry 5 2 6 ∷ []
+  pub minimal : minimalWindows season two 1 6 ≡ entry 0 1 2 ∷ entry 1 1 2 ∷ entry 1 2 4 ∷ entry 2 1 2 ∷ entry 2 2 4
+      ∷ entry 3 2 4 ∷ entry 4 2 6 ∷ entry 5 2 6 ∷ []
   pub eight-places : minimalAnswer season two 1 6 8 8 8 8216 ≡ Counted.Count 8
   -- ten places: the two past the count keep their contents
   pub row-column : minimalRows (minimalAnswer season two 1 6 10 10 10 8216) season two 1 6 (replicate 10 9) ≡ 0 ∷ 1 ∷ 1 ∷ 2 ∷ 2 ∷ 3 ∷ 4 ∷ 5 ∷ 9 ∷ 9 ∷ []
@@ -137,7 +139,8 @@ pub record StarredRows : Type 0 where
   pub leaving-1 : tabulate (accountTime leaving two 2 1) 1 3 ≡ 2 ∷ 2 ∷ 2 ∷ []
   pub leaving-2 : tabulate (accountTime leaving two 2 2) 1 3 ≡ 2 ∷ 2 ∷ 2 ∷ []
   pub leaving-windows : minimalWindows leaving two 1 2 ≡ entry 0 1 2 ∷ entry 1 2 2 ∷ entry 2 2 2 ∷ entry 3 2 2 ∷ []
-  -- Mistake: "listing every window whose end changes, without a row on its first day". The ring of [1,2] has no row on day 1; nor has that of [3,4] for k = 1, which would make 18
+  -- Mistake: "listing every window whose end changes, without a row on its first day". The ring of [1,2] has no row on day 1; nor
+  -- has that of [3,4] for k = 1, which would make 18
   pub late-ring : ring late two 1 2 ≡ false ∷ true ∷ true ∷ true ∷ []
   pub late-rings : listing late two 1 2 ≡ listed 2 2 3 ∷ []
   pub first-day : tight season one 3 4 ≡ false

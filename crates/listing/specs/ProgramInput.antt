@@ -7,7 +7,8 @@ use mathlib.Core.List.{List}
 use lib.ListN.{length, take}
 use Rattle.listing.specs.ProgramText.{programText}
 
--- 01: "Over 18,448 bytes: refusal 2, place 0, before any line is read". So 18,449 bytes tell what is printed, and 18,448 do not (proofs/InputLaws.antt: first-bytes, not-fewer)
+-- 01: "Over 18,448 bytes: refusal 2, place 0, before any line is read". So 18,449 bytes tell what is printed, and 18,448 do not
+-- (proofs/InputLaws.antt: first-bytes, not-fewer)
 abbrev pub ByFirst : ℕ → Type 0
 ByFirst n = (input : List ℕ) → programText input ≡ programText (take n input)
 

@@ -21,7 +21,8 @@ use Rattle.rings.specs.Compute.{compute}
 use Rattle.listing.specs.Tight.{memberDays, lowest, firstDay, lastDay, nonempty, tightest, tight}
 use Rattle.listing.specs.Listing.{entryOf, listing, rowSum, span}
 use Rattle.listing.specs.ListingCall.{listingChecks, summed, listingAnswer}
-use Rattle.listing.specs.Program.{found, stopped, readerLine, inputLine, stoppedBy, unlessRefused, tableOf, fromList, listed as listedBy, fromRows, badQuery, fromQuery, unlessLong, outcome}
+use Rattle.listing.specs.Program.{found, stopped, readerLine, inputLine, stoppedBy, unlessRefused, tableOf, fromList}
+use Rattle.listing.specs.Program.{listed as listedBy, fromRows, badQuery, fromQuery, unlessLong, outcome}
 use Rattle.listing.specs.ProgramText.{lineOf, listText, outcomeText, programText, refusedOf, fitted, listAnswer, listOutput, printedReport}
 use Rattle.listing.specs.Examples.{listed}
 use Rattle.listing.specs.declared.Printed.{Printed}

@@ -12,7 +12,7 @@ pub use rings::Query;
 pub use rings::Refusal;
 pub use rings::Verdict;
 
-// Listing's answer: how many rings, and the sum of their rows. Longest list answers a `NeighbourCounts`.
+// Listing's answer: how many rings, and the sum of their rows. Longest list answers a `Counted`.
 pub enum Listed {
     Rings { count: usize, sum: u64 },
     Refused(Refusal),

@@ -22,18 +22,26 @@ use Rattle.listing.proofs.OutcomeLaws.{TextAnswer, RefusedAnswer}
 counts : (n : ℕ) (xs : List ℕ) → n ≤ length xs → Counts n xs
 counts n xs h = (h, sym (length-take-le n xs h))
 
-pub prints-refused : (out : List ℕ) (n line : ℕ) {r : Put} {now : List ℕ} → length out ≡ 45078 → r ≡ putOf out 0 (refusedLine n line) → now ≡ written r out 0 (refusedLine n line)
+pub prints-refused : (out : List ℕ) (n line : ℕ) {r : Put} {now : List ℕ}
+    → length out ≡ 45078
+    → r ≡ putOf out 0 (refusedLine n line)
+    → now ≡ written r out 0 (refusedLine n line)
     → Counts 19 now × (take 19 now ≡ refusedLine n line)
 prints-refused out n line {r} {now} l e w =
     let size : length (refusedLine n line) ≡ 19 = refused-length n line in
     let fits : 0 + length (refusedLine n line) ≤ length out = omega arith in
-    let is = put-wrote out 0 (refusedLine n line) fits e w in
-    (counts 19 now (omega (arith, ap length is, pasted-length out 0 (refusedLine n line) fits)), ap (take 19) (is ∙ pasted-start out (refusedLine n line) 19 size) ∙ take-at (refusedLine n line) (drop 19 out) 19 size)
+    let is = put-wrote out 0 (refusedLine n line) fits e w in (
+      counts 19 now (omega (arith, ap length is, pasted-length out 0 (refusedLine n line) fits)),
+      ap (take 19) (is ∙ pasted-start out (refusedLine n line) 19 size) ∙ take-at (refusedLine n line) (drop 19 out) 19 size,
+    )
 
 pub prints-found : (input : List ℕ) {n : ℕ} {now : List ℕ} → TextAnswer (outcome input) n now → Counts n now × (take n now ≡ programText input)
 unfolding programText
 prints-found input {n} {now} h = (counts n now (h .room), h .is)
 
-pub prints-stopped : (input : List ℕ) (r : ℕ) (now : List ℕ) {n line : ℕ} {old out : List ℕ} → RefusedAnswer (outcome input) n line old out → Counts r now × (take r now ≡ refusedLine n line) → Counts r now × (take r now ≡ programText input)
+pub prints-stopped : (input : List ℕ) (r : ℕ) (now : List ℕ) {n line : ℕ} {old out : List ℕ}
+    → RefusedAnswer (outcome input) n line old out
+    → Counts r now × (take r now ≡ refusedLine n line)
+    → Counts r now × (take r now ≡ programText input)
 unfolding programText
 prints-stopped input r now h p = (p .0, p .1 ∙ h .is)

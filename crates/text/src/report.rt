@@ -11,14 +11,14 @@ pub struct Report {
     pub count: usize,
 }
 
-// 01's numbers of the reader's refusals.
+// 01's numbers of the reader's refusals, by the words of the variants.
 const NO_ROOM: u32 = 10;
 
-const LINE_LENGTH: u32 = 11;
+const BAD_LINE: u32 = 11;
 
-const BROKEN_FIELD: u32 = 12;
+const BAD_FIELD: u32 = 12;
 
-const LARGE_NUMBER: u32 = 13;
+const BAD_NUMBER: u32 = 13;
 
 fn refused(number: u32, place: usize) -> Report
     ensures { λ r. ⌜ r ≡ record { number = number; place = place; count = 0 } ⌝ }
@@ -40,9 +40,9 @@ pub fn report_table(read: TableRead) -> Report
             place: 0,
             count: n,
         },
-        TableRead::BadLine(line) => refused(LINE_LENGTH, line),
-        TableRead::BadField(line) => refused(BROKEN_FIELD, line),
-        TableRead::BadNumber(line) => refused(LARGE_NUMBER, line),
+        TableRead::BadLine(line) => refused(BAD_LINE, line),
+        TableRead::BadField(line) => refused(BAD_FIELD, line),
+        TableRead::BadNumber(line) => refused(BAD_NUMBER, line),
         TableRead::NoRoom => refused(NO_ROOM, 0),
     }
 }
@@ -53,8 +53,8 @@ pub fn report_query(read: QueryRead) -> Report
 {
     match read {
         QueryRead::Query(_, _, _) => refused(0, 0),
-        QueryRead::BadLine => refused(LINE_LENGTH, 1),
-        QueryRead::BadField => refused(BROKEN_FIELD, 1),
-        QueryRead::BadNumber => refused(LARGE_NUMBER, 1),
+        QueryRead::BadLine => refused(BAD_LINE, 1),
+        QueryRead::BadField => refused(BAD_FIELD, 1),
+        QueryRead::BadNumber => refused(BAD_NUMBER, 1),
     }
 }

@@ -10,9 +10,13 @@ use crate::reader::read_line;
 // The rows read, or the refusal. A line is counted from 1.
 pub enum TableRead {
     Rows(usize),
+    // 11: a line that is not 18 bytes, at that line.
     BadLine(usize),
+    // 12: a field that is no right-justified number, at its line.
     BadField(usize),
+    // 13: a number above 65,535, at its line.
     BadNumber(usize),
+    // 10: more rows than the columns hold.
     NoRoom,
 }
 

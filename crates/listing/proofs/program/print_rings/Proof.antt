@@ -44,7 +44,8 @@ write-listing-requires : tie.Need-write-listing-requires
 write-listing-requires c κs =
     let rings′ = c .before .before .before .before .before .rings in
     let list-rings′ = c .before .before .before .before .before .before .before .before .before .before .before .list-rings in
-    let args = c .before .before .before .before .before .before .before .before .before .before .before .before .before .before .before .before .before .before .before .before .args in
+    let args = c .before .before .before .before .before .before .before .before .before
+    .before .before .before .before .before .before .before .before .before .before .before .args in
     let a = args in
     let list-rings = list-rings′ in
     let rings = rings′ in
@@ -59,7 +60,8 @@ returns c =
     let write-listing = c .before .before .write-listing in
     let rings′ = c .before .before .before .before .before .before .before .before .rings in
     let list-rings′ = c .before .before .before .before .before .before .before .before .before .before .before .before .before .before .list-rings in
-    let args = c .before .before .before .before .before .before .before .before .before .before .before .before .before .before .before .before .before .before .before .before .before .before .before .args in
+    let args = c .before .before .before .before .before .before .before .before .before
+    .before .before .before .before .before .before .before .before .before .before .before .before .before .before .args in
     let a = args in
     let list-rings = list-rings′ in
     let rings = rings′ in
@@ -99,7 +101,8 @@ returns-2 : tie.Need-returns-2
 returns-2 c =
     let rings2′ = c .before .before .rings2 in
     let list-rings′ = c .before .before .before .before .before .before .before .before .list-rings in
-    let args = c .before .before .before .before .before .before .before .before .before .before .before .before .before .before .before .before .before .args in
+    let args = c .before .before .before .before .before .before .before .before .before
+    .before .before .before .before .before .before .before .before .args in
     let a = args in
     let rings2 = rings2′ in
     let list-rings = list-rings′ in

@@ -52,8 +52,10 @@ returns c =
     let read-rows = c .before .before .before .before .before .before .read-rows in
     let line = c .before .before .before .before .before .before .before .before .before .before .before .before .line in
     let read-query = c .before .before .before .before .before .before .before .before .before .before .before .before .before .before .read-query in
-    let args = c .before .before .before .before .before .before .before .before .before .before .before .before .before .before .before .before .before .before .before .args in
-    let pre = c .before .before .before .before .before .before .before .before .before .before .before .before .before .before .before .before .before .before .before .pre in
+    let args = c .before .before .before .before .before .before .before .before .before
+    .before .before .before .before .before .before .before .before .before .before .args in
+    let pre = c .before .before .before .before .before .before .before .before .before
+    .before .before .before .before .before .before .before .before .before .before .pre in
     asks-query ((args) .input .now) ((pre) .short) ((read-query) .ensures) ((line) .given .1) ((read-rows) .ensures)
 
 enum-told : tie.Need-enum-told
