@@ -8,11 +8,11 @@ use native.Mathlib.Nat.{le-refl}
 use native.Mathlib.Omega.{arith}
 use mathlib.Core.Path.{_≡_, refl, sym, _∙_, ap, subst}
 use mathlib.Core.Logic.{_⊎_, ⊎-elim}
-use mathlib.Core.Bool.{Bool, true, false, _&&_}
+use mathlib.Core.Bool.{Bool, true, false, not, _&&_}
 use mathlib.Core.List.{List}
 use lib.ListN.{length, getD}
 use lib.Dec.{leb, ltb, eqb}
-use borrow.Author.Tests.{leb-true, ltb-true, ltb-false, eqb-true, le-leb}
+use borrow.Author.Tests.{leb-true, leb-false, ltb-true, ltb-false, eqb-true}
 use Rattle.rings.specs.Words.{sucIf}
 use Rattle.rings.specs.Table.{Table, tableOf, dayOf}
 use Rattle.rings.specs.Ring.{touches}
@@ -44,19 +44,25 @@ not-second {p} {q} h k = ap (λ (w : Bool). w && q) h ∙ k
 pub bit-is : (p y : Bool) {a : ℕ} (n : ℕ) → p ≡ true → Picked (p && y) 1 0 a → n + a ≡ sucIf y n
 bit-is p y n h A = ⊎-elim (λ k. let e = A .yes (both h k) in let v = sucIf-yes n k in omega arith) (λ k. let e = A .no (not-second h k) in let v = sucIf-no n k in omega arith) (true-or-false y)
 
-pub row-noted : (y : Bool) (z c n above more : ℕ) {a b e i m : ℕ} → c < above → Picked (leb z c && y) 1 0 a → Picked (ltb c z && ltb z above) z above b → Picked y 1 0 i → Picked (eqb z above && y) 1 0 e → Picked (ltb c z && ltb z above) i (more + e) m → RowNoted y z c n above more (n + a) b m
-row-noted y z c n above more {a} {b} {e} {i} {m} up A B I E M = ⊎-elim (λ g. late (ltb-true c z g) g) (λ g. soon (ltb-false c z g) g) (true-or-false (ltb c z))
+pub row-noted : (y : Bool) (z c n above more : ℕ) {a b e i m : ℕ} → c < above → Picked (leb z c && y) 1 0 a → Picked (not (leb z c) && ltb z above) z above b → Picked y 1 0 i → Picked (eqb z above && y) 1 0 e → Picked (not (leb z c) && ltb z above) i (more + e) m → RowNoted y z c n above more (n + a) b m
+row-noted y z c n above more {a} {b} {e} {i} {m} up A B I E M =
+    ⊎-elim (λ g. soon (leb-true z c g) g) (λ g. late (leb-false z c g) g) (true-or-false (leb z c))
   where
-    soon : z ≤ c → ltb c z ≡ false → RowNoted y z c n above more (n + a) b m
+    soon : z ≤ c → leb z c ≡ true → RowNoted y z c n above more (n + a) b m
     soon l g =
         let none : e ≡ 0 = E .no (not-first y (⊎-elim (λ h. let k = eqb-true z above h in absurd (omega arith)) (λ h. h) (true-or-false (eqb z above)))) in
-        RowNoted.back l (bit-is (leb z c) y n (le-leb z c l) A) (B .no (not-first (ltb z above) g)) (let k = M .no (not-first (ltb z above) g) in omega arith)
+        let past : (not (leb z c) && ltb z above) ≡ false = not-first (ltb z above) (ap not g) in
+        RowNoted.back l (bit-is (leb z c) y n g A) (B .no past) (let k = M .no past in omega arith)
 
-    late : c < z → ltb c z ≡ true → RowNoted y z c n above more (n + a) b m
+    late : c < z → leb z c ≡ false → RowNoted y z c n above more (n + a) b m
     late l g =
-        let none : a ≡ 0 = A .no (not-first y (⊎-elim (λ h. let k = leb-true z c h in absurd (omega arith)) (λ h. h) (true-or-false (leb z c)))) in
-        ⊎-elim (λ h. RowNoted.nearer l (ltb-true z above h) (omega arith) (B .yes (both g h)) (let o = M .yes (both g h) in let v = bit-is true y 0 refl I in omega arith))
-        (λ h. ⊎-elim (λ k. RowNoted.level l (eqb-true z above k) (omega arith) (B .no (not-second g h)) (M .no (not-second g h) ∙ bit-is (eqb z above) y more k E)) (λ k. RowNoted.farther l (ltb-false z above h) (omega arith) (B .no (not-second g h)) (let o = E .no (not-first y k) in let i = M .no (not-second g h) in omega arith)) (true-or-false (eqb z above)))
+        let none : a ≡ 0 = A .no (not-first y g) in
+        let ahead : not (leb z c) ≡ true = ap not g in
+        ⊎-elim (λ h. RowNoted.nearer l (ltb-true z above h) (omega arith) (B .yes (both ahead h)) (let o = M .yes (both ahead h) in let v = bit-is true y 0 refl I in omega arith))
+        (λ h.
+        ⊎-elim (λ k. RowNoted.level l (eqb-true z above k) (omega arith) (B .no (not-second ahead h)) (M .no (not-second ahead h) ∙ bit-is (eqb z above) y more k E))
+        (λ k. RowNoted.farther l (ltb-false z above h) (omega arith) (B .no (not-second ahead h)) (let o = E .no (not-first y k) in let i = M .no (not-second ahead h) in omega arith))
+        (true-or-false (eqb z above)))
         (true-or-false (ltb z above))
 
 -- ---- a scan of u, in the adjacency

@@ -1,12 +1,13 @@
 -- A row as the code reads it, and one step of a walk over the rows of an account (src/incident.rt).
 --     lead-reads, row-ends, row-small, row-other     what the code reads of a row
---     stands-ends, row-read     what `row_at` reads and answers
+--     stands-place, stands-ends, row-read     what `day_at` and `row_at` read and answer
+--     row-known, same-day     a row of which the day alone was read, and that its day is the one that `row_at` reads
 --     row-leads      whether a row leads its pair, for a walk that begins before lo
 --     other-sum      what `other` returns
 -- Assumes nothing.
 use Prim.Native.Nat.{ℕ, _+_, _-_, _*_, _<_}
 use native.Mathlib.Omega.{arith}
-use mathlib.Core.Path.{_≡_, sym, _∙_, ap, subst}
+use mathlib.Core.Path.{_≡_, refl, sym, _∙_, ap, subst}
 use mathlib.Core.Logic.{_⊎_, ⊎-elim}
 use mathlib.Core.Bool.{Bool, true, false, _&&_}
 use mathlib.Core.List.{List}
@@ -18,7 +19,7 @@ use Rattle.rings.specs.Table.{Table, tableOf, dayOf, firstOf, secondOf}
 use Rattle.rings.specs.Ring.{touches}
 use Rattle.rings.specs.Sound.{Sound}
 use Rattle.rings.specs.Inner.Adjacency.{AccountEnds, pickOther, otherOf, leads, Pairs}
-use Rattle.rings.specs.Inner.Incident.{RowStands, RowRead}
+use Rattle.rings.specs.Inner.Incident.{PlaceStands, RowStands, RowRead}
 use Rattle.rings.specs.declared.incident.Incident.{Incident}
 use Rattle.rings.proofs.WordLaws.{true-or-false}
 use Rattle.rings.proofs.RingLaws.{touch-cases}
@@ -80,6 +81,23 @@ module _ {d f s scratch : List ℕ} {u p : ℕ} (R : RowStands d f s scratch u p
           small = row-small d f s (R .sound) at-below u at-touch ea ec ev;
           leads = λ h. lead-alone (tableOf d f s) lo j h (ee ∙ R .pairs j at-below);
         }
+
+-- what `day_at` asks
+pub stands-place : {d f s scratch : List ℕ} {u p : ℕ} → RowStands d f s scratch u p → PlaceStands d scratch p
+stands-place R = record { place = let a = R .long in let b = R .place in omega arith; row = R .row }
+
+-- the day alone was read
+pub row-known : {d f s scratch : List ℕ} {u p : ℕ} → RowStands d f s scratch u p → (lo : ℕ) {day : ℕ}
+    → day ≡ getD d (getD scratch (8192 + p) 0) 0
+    → let j = getD scratch (8192 + p) 0 in
+    RowRead (tableOf d f s) scratch lo u p
+    (record { row = j; day = day; other = pickOther (eqb (getD f j 0) u) (getD f j 0) (getD s j 0); leads = leb (getD scratch (8192 + 2 * length d + j) 0) lo })
+row-known R lo ed = row-read R refl refl refl lo ed refl refl
+
+pub same-day : {d f s scratch : List ℕ} {lo u p day : ℕ} {it : Incident} → RowRead (tableOf d f s) scratch lo u p it
+    → day ≡ getD d (getD scratch (8192 + p) 0) 0 → day ≡ it .day
+unfolding dayOf at
+same-day {d = d} I e = e ∙ (ap (λ (j : ℕ). getD d j 0) (sym (I .row)) ∙ sym (I .day))
 
 -- a walk that begins before lo asks for that too
 pub row-leads : {t : Table} {scratch : List ℕ} {lo u p : ℕ} {r : Incident} → RowRead t scratch lo u p r → (leb lo (r .row) && r .leads) ≡ leads t lo (r .row)

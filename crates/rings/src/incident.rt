@@ -1,7 +1,10 @@
 // One step of a walk over the rows of an account, for every loop that makes such a walk: what stands at a place of
 // the adjacency.
+ghost use mathlib.Core.Path.{_≡_};
+ghost use Prim.Native.Nat.{_+_};
+ghost use lib.ListN.{getD};
 ghost use Rattle.rings.specs.Table.{tableOf};
-ghost use Rattle.rings.specs.Inner.Incident.{RowStands, RowRead};
+ghost use Rattle.rings.specs.Inner.Incident.{PlaceStands, RowStands, RowRead};
 use crate::limits::ADJACENCY;
 use crate::pairs::other;
 use crate::slices::entry;
@@ -13,6 +16,16 @@ pub struct Incident {
     pub day: u16,
     pub other: usize,
     pub leads: bool,
+}
+
+// The day of the row that stands at place p of the adjacency. A walk that may end there asks for it alone: what it
+// does not read in vain keeps no register from the rest of its loop.
+pub(crate) fn day_at(days: &[u16], scratch: &[u16], p: usize) -> u16
+    requires { ⌜ PlaceStands (now days) (now scratch) p ⌝ }
+    ensures { λ r. ⌜ r ≡ getD (now (days .entry)) (getD (now (scratch .entry)) (8192 + p) 0) 0 ⌝ }
+{
+    let row = entry(scratch, ADJACENCY + p);
+    days[row]
 }
 
 // The row of u that stands at place p of the adjacency. It is inlined: a loop that uses some of the fields reads no

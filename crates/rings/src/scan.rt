@@ -13,6 +13,7 @@ use crate::choice::greater;
 use crate::choice::one;
 use crate::choice::pick;
 use crate::frame::Frame;
+use crate::incident::day_at;
 use crate::incident::row_at;
 use crate::slices::entry;
 use crate::slices::put;
@@ -87,7 +88,7 @@ fn note_row(z: u16, leading: bool, c: u16, count: u16, above: u16, more: u16) ->
     ensures { λ r. ⌜ RowNoted leading z c count above more (r .count) (r .above) (r .more) ⌝ }
 {
     let within = z <= c;
-    let nearer = (c < z) & (z < above);
+    let nearer = !within & (z < above);
     let level = z == above;
     ScanCounts {
         count: count + one(within & leading),
@@ -117,8 +118,8 @@ fn scan_on_day(
     let mut above = 65535;
     let mut more = 0;
     while p < last {
-        let here = row_at(days, first, second, scratch, frame.lo, scan.account, p);
-        if is_over(here.day, scan.day, frame.stop, above, frame.query.k, count) {
+        let day = day_at(days, scratch, p);
+        if is_over(day, scan.day, frame.stop, above, frame.query.k, count) {
             return DayScan {
                 count: count,
                 above: above,
@@ -126,6 +127,7 @@ fn scan_on_day(
                 walked: p - scan.from,
             };
         }
+        let here = row_at(days, first, second, scratch, frame.lo, scan.account, p);
         p += 1;
         let v = here.other;
         let z = greater(times[v], here.day);
@@ -178,8 +180,8 @@ pub(crate) fn scan_for_rise(
     let mut moved = 0;
     let mut end = tail;
     while p < last {
-        let here = row_at(days, first, second, scratch, frame.lo, scan.account, p);
-        if is_over(here.day, scan.day, frame.stop, above, frame.query.k, count) {
+        let day = day_at(days, scratch, p);
+        if is_over(day, scan.day, frame.stop, above, frame.query.k, count) {
             return RiseScan {
                 count: count,
                 above: above,
@@ -189,6 +191,7 @@ pub(crate) fn scan_for_rise(
                 walked: p - scan.from,
             };
         }
+        let here = row_at(days, first, second, scratch, frame.lo, scan.account, p);
         p += 1;
         let v = here.other;
         let x = times[v];

@@ -1,4 +1,5 @@
--- One step of a walk over the rows of an account, as `row_at` of src/incident.rt reads it.
+-- One step of a walk over the rows of an account, as `day_at` and `row_at` of src/incident.rt read it.
+--     PlaceStands d scratch p      a row stands at place p of the adjacency
 --     RowStands d f s scratch u p  a row of u stands at place p of the adjacency, and each row's earlier row in its column
 --     RowRead t scratch lo u p r   r is that row, with its day and its other account; from lo on it says whether the row leads its pair
 use Prim.Native.Nat.{ℕ, _+_, _*_, _≤_, _<_}
@@ -11,6 +12,10 @@ use Rattle.rings.specs.Ring.{touches}
 use Rattle.rings.specs.Sound.{Sound}
 use Rattle.rings.specs.Inner.Adjacency.{otherOf, leads, Pairs}
 use Rattle.rings.specs.declared.incident.Incident.{Incident}
+
+pub record PlaceStands (d scratch : List ℕ) (p : ℕ) : Type 0 where
+  pub place : 8192 + p < length scratch
+  pub row : getD scratch (8192 + p) 0 < length d
 
 pub record RowStands (d f s scratch : List ℕ) (u p : ℕ) : Type 0 where
   pub sound : Sound d f s

@@ -4,6 +4,7 @@ use Rattle.rings.proofs.RiseScanLaws.{RiseScanning, as-day-scan, rise-s
 use Rattle.rings.proofs.ChoiceLaws.{picked-most, picked-as}
 use Rattle.rings.proofs.DayScanLaws.{day-scan-out, day-scan-most, day-scan-few, day-scan-over}
 use Rattle.rings.proofs.PrunedLaws.{reading-few, reading-stands}
+use Rattle.rings.proofs.IncidentLaws.{stands-place, row-known, same-day}
 use Rattle.rings.specs.declared.frame.Frame.{Frame}
 use Rattle.rings.specs.declared.scan.Scan.{Scan}
 use mathlib.Core.Logic.{⊎-elim}
@@ -17,6 +18,7 @@ use Rattle.rings.proofs.scan.scan_for_rise.Tie as tie
 use Rattle.rings.proofs.scan.scan_for_rise.Reads as reads
 use Rattle.rings.proofs.scan.scan_for_rise.Lts as lts
 use Rattle.rings.proofs.choice.one.Reads as one-reads
+use Rattle.rings.proofs.incident.day_at.Reads as day-at-reads
 use Rattle.rings.proofs.incident.row_at.Reads as row-at-reads
 use Rattle.rings.proofs.slices.entry.Reads as entry-reads
 use Rattle.rings.proofs.slices.put.Reads as put-reads
@@ -40,20 +42,6 @@ Inv-loop days first second scratch frame times scan tail queue₀ last p₀ coun
 
 abbrev μ-loop : tie.MeasureT-loop
 μ-loop days first second scratch frame times scan tail queue₀ last p₀ count₀ above₀ more₀ moved₀ end₀ queue p count above more moved end = last - p
-
--- ---- the ways back, from a place of the code to an earlier one
-
-abbrev loop-to-start : tie.At-loop Inv-loop μ-loop → tie.Start Inv-loop μ-loop
-loop-to-start c = c .before .before .before .before .before .before .before .before
-
-abbrev greater-to-start : tie.After-greater Inv-loop μ-loop → tie.Start Inv-loop μ-loop
-greater-to-start c = loop-to-start (c .before .before .before .before .before .before)
-
-abbrev wide-to-start : tie.After-wide Inv-loop μ-loop → tie.Start Inv-loop μ-loop
-wide-to-start c = greater-to-start (c .before .before .before .before .before .before .before .before .before)
-
-abbrev wide-to-else1 : tie.After-wide Inv-loop μ-loop → tie.Else1 Inv-loop μ-loop
-wide-to-else1 c = c .before .before .before .before .before .before .before .before .before .before .before
 
 entry-requires : tie.Need-entry-requires Inv-loop μ-loop
 entry-requires c κs =
@@ -80,42 +68,48 @@ loop-holds c =
       room = le-refl _;
     }
 
-row-at-requires : tie.Need-row-at-requires Inv-loop μ-loop
-row-at-requires c κs =
-    let pre = loop-to-start (c .before) .pre in
+day-at-requires : tie.Need-day-at-requires Inv-loop μ-loop
+day-at-requires c κs =
+    let pre = c .before .before .before .before .before .before .before .before .before .pre in
     let loop = c .before .loop in
     let loop-test = c .loop-test in
-    reading-stands _ _ _ _ (pre .0 .lent .opened .sound) (pre .0 .lent .opened .pruned) (pre .0 .lent .small) (loop .inv .rise-scan .reading)
-    (loop .inv .cursor) (loop-test .taken)
+    stands-place (
+    reading-stands _ _ _ _ (pre .0 .lent .opened .sound) (pre .0 .lent .opened .pruned) (pre .0 .lent .small)
+    (loop .inv .rise-scan .reading) (loop .inv .cursor) (loop-test .taken)
+    )
 
 is-over-requires : tie.Need-is-over-requires Inv-loop μ-loop
 is-over-requires c κs = search needs
 
-sub-t25 : tie.Need-sub-t25 Inv-loop μ-loop
-sub-t25 c =
+sub-t26 : tie.Need-sub-t26 Inv-loop μ-loop
+sub-t26 c =
     let loop = c .before .before .before .before .before .loop in
     omega (arith, loop .inv .from)
 
 same-length : tie.Need-same-length Inv-loop μ-loop
 same-length c =
     let loop = c .before .before .before .before .before .loop in
-    let pre = loop-to-start (c .before .before .before .before .before) .pre in
+    let pre = c .before .before .before .before .before .before .before .before .before .before .before .before .before .pre in
     loop .inv .rise-scan .behind .long ∙ sym (pre .1 .long)
 
 returns : tie.Need-returns Inv-loop μ-loop
 returns c =
     let is-over = c .before .before .is-over in
     let if1 = c .before .if1 in
-    let row-at = c .before .before .before .row-at in
+    let day-at = c .before .before .before .day-at in
     let loop-test = c .before .before .before .before .loop-test in
     let loop = c .before .before .before .before .before .loop in
-    let pre = loop-to-start (c .before .before .before .before .before) .pre in
+    let pre = c .before .before .before .before .before .before .before .before .before .before .before .before .before .pre in
+    let row =
+    row-known (reading-stands _ _ _ _ (pre .0 .lent .opened .sound) (pre .0 .lent .opened .pruned) (pre .0 .lent .small)
+    (loop .inv .rise-scan .reading) (loop .inv .cursor) (loop-test .taken)) _ (day-at .ensures)
+    in
     record {
       found =
           record {
             scanned = day-scan-over _ _ _ _ _ (pre .0 .lent .opened) _ (pre .0 .lent .long) (pre .0 .lent .days) (pre .0 .lent .small)
                 (pre .0 .in-range) (pre .0 .every)
-                (as-day-scan (loop .inv .rise-scan)) (loop .inv .cursor) (loop-test .taken) (row-at .ensures) (is-over .ensures .yes (if1 .taken));
+                (as-day-scan (loop .inv .rise-scan)) (loop .inv .cursor) (loop-test .taken) row (is-over .ensures .yes (if1 .taken));
             short-walk = omega (arith, loop .inv .few);
             few = day-scan-most _ _ _ _ _ (pre .0 .lent .opened) _ (pre .0 .lent .long) (pre .0 .lent .days) (pre .0 .lent .small)
                 (pre .0 .in-range) (pre .0 .every)
@@ -124,15 +118,23 @@ returns c =
       within = omega (arith, pre .1 .room, loop .inv .cursor, loop .inv .room, loop-test .taken);
       rise-scanned = λ few. rise-scan-over _ _ _ _ _ (pre .0 .lent .opened) _ (pre .0 .lent .long) (pre .0 .lent .days) (pre .0 .lent .small)
           (pre .0 .in-range) (pre .0 .every) _ _
-          (loop .inv .rise-scan) (loop .inv .cursor) (loop-test .taken) (row-at .ensures) (is-over .ensures .yes (if1 .taken)) few;
+          (loop .inv .rise-scan) (loop .inv .cursor) (loop-test .taken) row (is-over .ensures .yes (if1 .taken)) few;
       behind = loop .inv .rise-scan .behind;
     }
 
+row-at-requires : tie.Need-row-at-requires Inv-loop μ-loop
+row-at-requires c κs =
+    let pre = c .before .before .before .before .before .before .before .before .before .before .before .before .pre in
+    let loop = c .before .before .before .before .loop in
+    let loop-test = c .before .before .before .loop-test in
+    reading-stands _ _ _ _ (pre .0 .lent .opened .sound) (pre .0 .lent .opened .pruned) (pre .0 .lent .small)
+    (loop .inv .rise-scan .reading) (loop .inv .cursor) (loop-test .taken)
+
 add-p : tie.Need-add-p Inv-loop μ-loop
 add-p c =
-    let loop-test = c .before .before .before .loop-test in
-    let loop = c .before .before .before .before .loop in
-    let pre = loop-to-start (c .before .before .before .before) .pre in
+    let loop-test = c .before .before .before .before .loop-test in
+    let loop = c .before .before .before .before .before .loop in
+    let pre = c .before .before .before .before .before .before .before .before .before .before .before .before .before .pre in
     omega (
       arith,
       reading-few _ _ _ _ (pre .0 .lent .opened .sound) (pre .0 .lent .opened .pruned) (pre .0 .lent .small) (loop .inv .rise-scan .reading)
@@ -141,13 +143,13 @@ add-p c =
 
 mul-x : tie.Need-mul-x Inv-loop μ-loop
 mul-x c =
-    let row-at = c .before .before .row-at in
+    let row-at = c .row-at in
     omega (arith, row-at .ensures .small)
 
 shared-slice-read-x : tie.Need-shared-slice-read-x Inv-loop μ-loop
 shared-slice-read-x c =
-    let row-at = c .before .before .before .row-at in
-    let pre = loop-to-start (c .before .before .before .before .before) .pre in
+    let row-at = c .before .row-at in
+    let pre = c .before .before .before .before .before .before .before .before .before .before .before .before .before .before .pre in
     omega (arith, row-at .ensures .small, pre .0 .lent .long)
 
 greater-requires : tie.Need-greater-requires Inv-loop μ-loop
@@ -155,10 +157,10 @@ greater-requires c κs = search needs
 
 put-requires : tie.Need-put-requires Inv-loop μ-loop
 put-requires c κs =
-    let row-at = c .before .before .before .before .before .before .row-at in
-    let loop-test = c .before .before .before .before .before .before .before .loop-test in
-    let loop = c .before .before .before .before .before .before .before .before .loop in
-    let pre = greater-to-start (c .before .before) .pre in
+    let row-at = c .before .before .before .before .row-at in
+    let loop-test = c .before .before .before .before .before .before .before .before .loop-test in
+    let loop = c .before .before .before .before .before .before .before .before .before .loop in
+    let pre = c .before .before .before .before .before .before .before .before .before .before .before .before .before .before .before .before .before .pre in
     record {
       place = omega (
         arith,
@@ -182,9 +184,9 @@ add-end : tie.Need-add-end Inv-loop μ-loop
 add-end c =
     let one = c .before .one in
     let wide = c .wide in
-    let loop-test = wide-to-else1 c .before .before .before .loop-test in
-    let loop = wide-to-else1 c .before .before .before .before .loop in
-    let pre = wide-to-start c .pre in
+    let loop-test = c .before .before .before .before .before .before .before .before .before .before .before .before .before .before .before .loop-test in
+    let loop = c .before .before .before .before .before .before .before .before .before .before .before .before .before .before .before .before .loop in
+    let pre = c .before .before .before .before .before .before .before .before .before .before .before .before .before .before .before .before .before .before .before .before .before .before .before .before .pre in
     omega (arith, picked-most (one .ensures), wide .ensures, pre .1 .room, loop .inv .cursor, loop .inv .room, loop-test .taken)
 
 one-requires-2 : tie.Need-one-requires-2 Inv-loop μ-loop
@@ -193,10 +195,10 @@ one-requires-2 c κs = search needs
 add-moved : tie.Need-add-moved Inv-loop μ-loop
 add-moved c =
     let one2 = c .one2 in
-    let row-at = wide-to-else1 (c .before) .before .before .row-at in
-    let loop-test = wide-to-else1 (c .before) .before .before .before .loop-test in
-    let loop = wide-to-else1 (c .before) .before .before .before .before .loop in
-    let pre = wide-to-start (c .before) .pre in
+    let row-at = c .before .before .before .before .before .before .before .before .before .before .before .before .row-at in
+    let loop-test = c .before .before .before .before .before .before .before .before .before .before .before .before .before .before .before .before .loop-test in
+    let loop = c .before .before .before .before .before .before .before .before .before .before .before .before .before .before .before .before .before .loop in
+    let pre = c .before .before .before .before .before .before .before .before .before .before .before .before .before .before .before .before .before .before .before .before .before .before .before .before .before .pre in
     omega (
       arith,
       picked-most (one2 .ensures),
@@ -207,16 +209,16 @@ add-moved c =
 
 note-row-requires : tie.Need-note-row-requires Inv-loop μ-loop
 note-row-requires c κs =
-    let row-at = wide-to-else1 (c .before) .before .before .row-at in
-    let loop-test = wide-to-else1 (c .before) .before .before .before .loop-test in
-    let loop = wide-to-else1 (c .before) .before .before .before .before .loop in
-    let pre = wide-to-start (c .before) .pre in
+    let row-at = c .before .before .before .before .before .before .before .before .before .before .before .before .row-at in
+    let loop-test = c .before .before .before .before .before .before .before .before .before .before .before .before .before .before .before .before .loop-test in
+    let loop = c .before .before .before .before .before .before .before .before .before .before .before .before .before .before .before .before .before .loop in
+    let pre = c .before .before .before .before .before .before .before .before .before .before .before .before .before .before .before .before .before .before .before .before .before .before .before .before .before .pre in
     day-scan-few _ _ _ _ _ (pre .0 .lent .opened) _ (pre .0 .lent .long) (pre .0 .lent .days) (pre .0 .lent .small) (pre .0 .in-range) (pre .0 .every)
     (as-day-scan (loop .inv .rise-scan)) (loop .inv .cursor) (loop-test .taken) (row-at .ensures)
 
 loop-less : tie.Need-loop-less Inv-loop μ-loop
 loop-less c =
-    let loop-test = wide-to-else1 (c .before .before) .before .before .before .loop-test in
+    let loop-test = c .before .before .before .before .before .before .before .before .before .before .before .before .before .before .before .before .before .loop-test in
     omega (arith, loop-test .taken)
 
 loop-again : tie.Need-loop-again Inv-loop μ-loop
@@ -227,18 +229,20 @@ loop-again c =
     let one = c .before .before .before .one in
     let put = c .before .before .before .before .before .before .before .before .put in
     let greater = c .before .before .before .before .before .before .before .before .before .before .before .greater in
-    let if1 = wide-to-else1 (c .before .before) .if1 in
-    let is-over = wide-to-else1 (c .before .before) .before .is-over in
-    let row-at = wide-to-else1 (c .before .before) .before .before .row-at in
-    let loop-test = wide-to-else1 (c .before .before) .before .before .before .loop-test in
-    let loop = wide-to-else1 (c .before .before) .before .before .before .before .loop in
-    let pre = wide-to-start (c .before .before) .pre in
+    let if1 = c .before .before .before .before .before .before .before .before .before .before .before .before .before .before .if1 in
+    let is-over = c .before .before .before .before .before .before .before .before .before .before .before .before .before .before .before .is-over in
+    let row-at = c .before .before .before .before .before .before .before .before .before .before .before .before .before .row-at in
+    let day-at = c .before .before .before .before .before .before .before .before .before .before .before .before .before .before .before .before .day-at in
+    let loop-test = c .before .before .before .before .before .before .before .before .before .before .before .before .before .before .before .before .before .loop-test in
+    let loop = c .before .before .before .before .before .before .before .before .before .before .before .before .before .before .before .before .before .before .loop in
+    let pre = c .before .before .before .before .before .before .before .before .before .before .before .before .before .before .before .before .before .before .before .before .before .before .before .before .before .before .pre in
+    let day = same-day (row-at .ensures) (day-at .ensures) in
     record {
       cursor = loop .inv .cursor;
       rise-scan = rise-scan-next _ _ _ _ _ (pre .0 .lent .opened) _ (pre .0 .lent .long) (pre .0 .lent .days) (pre .0 .lent .small)
           (pre .0 .in-range) (pre .0 .every) _ _
           (loop .inv .rise-scan) (loop .inv .cursor) (loop-test .taken) (row-at .ensures)
-          (⊎-elim (λ h. omega (arith, h, pre .0 .in-range)) (λ h. h) (is-over .ensures .not (if1 .left))) refl
+          (⊎-elim (λ h. omega (arith, h, pre .0 .in-range, day)) (λ h. omega (arith, h, day)) (is-over .ensures .not (if1 .left))) refl
           (greater .ensures) (note-row .ensures) (one2 .ensures)
           (omega (arith, pre .1 .long, pre .1 .room, loop .inv .cursor, loop .inv .rise-scan .behind .long, loop .inv .room, loop-test .taken))
           (put .ensures) (picked-as (wide .ensures) (one .ensures));
@@ -251,22 +255,22 @@ loop-again c =
       room = omega (arith, loop .inv .room, picked-most (one .ensures), wide .ensures);
     }
 
-sub-t34 : tie.Need-sub-t34 Inv-loop μ-loop
-sub-t34 c =
+sub-t35 : tie.Need-sub-t35 Inv-loop μ-loop
+sub-t35 c =
     let loop = c .before .before .loop in
     omega (arith, loop .inv .from)
 
 same-length-2 : tie.Need-same-length-2 Inv-loop μ-loop
 same-length-2 c =
     let loop = c .before .before .loop in
-    let pre = loop-to-start (c .before .before) .pre in
+    let pre = c .before .before .before .before .before .before .before .before .before .before .pre in
     loop .inv .rise-scan .behind .long ∙ sym (pre .1 .long)
 
 returns-2 : tie.Need-returns-2 Inv-loop μ-loop
 returns-2 c =
     let loop-test = c .before .loop-test in
     let loop = c .before .before .loop in
-    let pre = loop-to-start (c .before .before) .pre in
+    let pre = c .before .before .before .before .before .before .before .before .before .before .pre in
     record {
       found =
           record {
@@ -289,6 +293,4 @@ pub scan-for-rise-spec : {M : Type 1} → statement M
 scan-for-rise-spec =
     tie.close
     (
-    tie.spec Inv-loop μ-loop entry-requires loop-holds row-at-requires is-over-requires sub-t25 same-length returns
-    add-p mul-x shared-slice-read-x greater-requires put-requires one-requires wide-requires add-end one-requires-2
-    add-moved note-row-requires loop-less loop-again sub-t34 same-length-2 returns-2)
+    tie.spec Inv-loop μ-loop entry-requires loop-holds day-at-requires is-over-requires sub-t26 same-length returns row-at-requires add-p mul-x shared-slice-read-x greater-requires put-requires one-requires wide-requires add-end one-requires-2 add-moved note-row-requires loop-less loop-again sub-t35 same-length-2 returns-2)
