@@ -30,13 +30,17 @@ use Rattle.rings.proofs.TableLaws.{table-sound}
 
 -- the shared checks
 abbrev pub shared : Table → Query → Bool → Bool → ℕ → Verdict
-shared t q window lengths scratch = tableCheck t then queryCheck q then BadRange when no window then BadLength when no lengths then scratchCheck (length (t .days)) scratch
+shared t q window lengths scratch =
+    tableCheck t then queryCheck q then BadRange when no window then BadLength when no lengths
+    then scratchCheck (length (t .days)) scratch
 
 scratch-on : (r : Refusal) (sc : List ℕ) → behindScratch r ≡ false → sc ≡ scratchOn r sc
 unfolding scratchOn clearedIf
 scratch-on r sc h = rw h
 
-pub scratch-kept : (t : Table) (q : Query) (window lengths : Bool) (n : ℕ) {r : Refusal} (sc : List ℕ) → shared t q window lengths n ≡ Refused r → sc ≡ scratchOn r sc
+pub scratch-kept : (t : Table) (q : Query) (window lengths : Bool) (n : ℕ) {r : Refusal} (sc : List ℕ)
+    → shared t q window lengths n ≡ Refused r
+    → sc ≡ scratchOn r sc
 scratch-kept t q window lengths n {r} sc e = scratch-on r sc (front-call t q window lengths (length (t .days)) n .keeps r e)
 
 -- ---- a check behind the shared ones
@@ -46,10 +50,16 @@ unfolding _then_
 then-assoc Accepted w x = refl
 then-assoc (Refused r) w x = refl
 
-pub then-room : (t : Table) (q : Query) (window lengths : Bool) (n : ℕ) (w : Verdict) → shared t q window lengths n then w ≡ (tableCheck t then queryCheck q then BadRange when no window then BadLength when no lengths then scratchCheck (length (t .days)) n then w)
+pub then-room : (t : Table) (q : Query) (window lengths : Bool) (n : ℕ) (w : Verdict)
+    → shared t q window lengths n then w
+    ≡ (tableCheck t then queryCheck q then BadRange when no window then BadLength when no lengths
+    then scratchCheck (length (t .days)) n then w)
 then-room t q window lengths n w =
     then-assoc (tableCheck t) (queryCheck q then b then c then d) w
-    ∙ ap (λ (v : Verdict). tableCheck t then v) (then-assoc (queryCheck q) (b then c then d) w ∙ ap (λ (v : Verdict). queryCheck q then v) (then-assoc b (c then d) w ∙ ap (λ (v : Verdict). b then v) (then-assoc c d w)))
+    ∙ ap (λ (v : Verdict). tableCheck t then v)
+    (then-assoc (queryCheck q) (b then c then d) w
+    ∙ ap (λ (v : Verdict). queryCheck q then v)
+    (then-assoc b (c then d) w ∙ ap (λ (v : Verdict). b then v) (then-assoc c d w)))
   where
     b : Verdict
     b = BadRange when no window
@@ -63,53 +73,62 @@ then-room t q window lengths n w =
 -- ---- what an accepted call says
 
 module _ (d f s : List ℕ) (q : Query) (window lengths : Bool) (scratch : ℕ)
-    (e : tableCheck (tableOf d f s) then queryCheck q then BadRange when no window then BadLength when no lengths then scratchCheck (length d) scratch ≡ Accepted) where
-  rest₁ : Verdict
-  rest₁ = BadRange when no window then BadLength when no lengths then scratchCheck (length d) scratch
+    (e : tableCheck (tableOf d f s) then queryCheck q then BadRange when no window then BadLength when no lengths
+    then scratchCheck (length d) scratch
+    ≡ Accepted)
+  where
+    rest₁ : Verdict
+    rest₁ = BadRange when no window then BadLength when no lengths then scratchCheck (length d) scratch
 
-  rest₂ : Verdict
-  rest₂ = BadLength when no lengths then scratchCheck (length d) scratch
+    rest₂ : Verdict
+    rest₂ = BadLength when no lengths then scratchCheck (length d) scratch
 
-  abbrev after₁ : Verdict
-  after₁ = queryCheck q then BadRange when no window then BadLength when no lengths then scratchCheck (length d) scratch
+    abbrev after₁ : Verdict
+    after₁ = queryCheck q then BadRange when no window then BadLength when no lengths then scratchCheck (length d) scratch
 
-  pub call-sound : Sound d f s
-  call-sound = table-sound d f s (accepted-left (tableCheck (tableOf d f s)) after₁ e)
+    pub call-sound : Sound d f s
+    call-sound = table-sound d f s (accepted-left (tableCheck (tableOf d f s)) after₁ e)
 
-  e₁ : after₁ ≡ Accepted
-  e₁ = accepted-right (tableCheck (tableOf d f s)) after₁ e
+    e₁ : after₁ ≡ Accepted
+    e₁ = accepted-right (tableCheck (tableOf d f s)) after₁ e
 
-  pub call-k : (1 ≤ q .k) × (q .k ≤ 4095)
-  unfolding queryCheck rest₁
-  call-k =
-      let h = passed BadK (leb 1 (q .k) and leb (q .k) 4095) (accepted-left (queryCheck q) rest₁ e₁) in
-      (leb-true 1 (q .k) (and-l (leb 1 (q .k)) (leb (q .k) 4095) h), leb-true (q .k) 4095 (and-r (leb 1 (q .k)) (leb (q .k) 4095) h))
+    pub call-k : (1 ≤ q .k) × (q .k ≤ 4095)
+    unfolding queryCheck rest₁
+    call-k =
+        let h = passed BadK (leb 1 (q .k) and leb (q .k) 4095) (accepted-left (queryCheck q) rest₁ e₁) in
+        (leb-true 1 (q .k) (and-l (leb 1 (q .k)) (leb (q .k) 4095) h), leb-true (q .k) 4095 (and-r (leb 1 (q .k)) (leb (q .k) 4095) h))
 
-  e₂ : BadRange when no window then BadLength when no lengths then scratchCheck (length d) scratch ≡ Accepted
-  unfolding rest₁
-  e₂ = accepted-right (queryCheck q) rest₁ e₁
+    e₂ : BadRange when no window then BadLength when no lengths then scratchCheck (length d) scratch ≡ Accepted
+    unfolding rest₁
+    e₂ = accepted-right (queryCheck q) rest₁ e₁
 
-  pub call-window : window ≡ true
-  unfolding rest₂
-  call-window = passed BadRange window (accepted-left (BadRange when no window) rest₂ e₂)
+    pub call-window : window ≡ true
+    unfolding rest₂
+    call-window = passed BadRange window (accepted-left (BadRange when no window) rest₂ e₂)
 
-  e₃ : BadLength when no lengths then scratchCheck (length d) scratch ≡ Accepted
-  unfolding rest₂
-  e₃ = accepted-right (BadRange when no window) rest₂ e₂
+    e₃ : BadLength when no lengths then scratchCheck (length d) scratch ≡ Accepted
+    unfolding rest₂
+    e₃ = accepted-right (BadRange when no window) rest₂ e₂
 
-  pub call-lengths : lengths ≡ true
-  call-lengths = passed BadLength lengths (accepted-left (BadLength when no lengths) (scratchCheck (length d) scratch) e₃)
+    pub call-lengths : lengths ≡ true
+    call-lengths = passed BadLength lengths (accepted-left (BadLength when no lengths) (scratchCheck (length d) scratch) e₃)
 
-  pub call-scratch : 8192 + 4 * length d ≤ scratch
-  unfolding scratchCheck
-  call-scratch = ltb-false scratch (8192 + 4 * length d) (when-accepted Scratch (ltb scratch (8192 + 4 * length d)) (accepted-right (BadLength when no lengths) (scratchCheck (length d) scratch) e₃))
+    pub call-scratch : 8192 + 4 * length d ≤ scratch
+    unfolding scratchCheck
+    call-scratch =
+        ltb-false scratch (8192 + 4 * length d)
+        (when-accepted Scratch (ltb scratch (8192 + 4 * length d))
+        (accepted-right (BadLength when no lengths) (scratchCheck (length d) scratch) e₃))
 
 -- a window that passed
 pub window-e : (s e : ℕ) {b : Bool} → b ≡ (leb 1 s and leb s e and leb e 1024) → b ≡ true → (1 ≤ s) × (s ≤ e) × (e ≤ 1024)
 window-e s e h y =
     let g = sym h ∙ y in
-    let g₂ = and-r (leb 1 s) (leb s e and leb e 1024) g in
-    (leb-true 1 s (and-l (leb 1 s) (leb s e and leb e 1024) g), leb-true s e (and-l (leb s e) (leb e 1024) g₂), leb-true e 1024 (and-r (leb s e) (leb e 1024) g₂))
+    let g₂ = and-r (leb 1 s) (leb s e and leb e 1024) g in (
+      leb-true 1 s (and-l (leb 1 s) (leb s e and leb e 1024) g),
+      leb-true s e (and-l (leb s e) (leb e 1024) g₂),
+      leb-true e 1024 (and-r (leb s e) (leb e 1024) g₂),
+    )
 
 pub range-e : (s e : ℕ) → rangeCheck s e ≡ Accepted → (1 ≤ s) × (s ≤ e) × (e ≤ 1024)
 unfolding rangeCheck

@@ -55,13 +55,17 @@ tabulate-of : {A : Type 0} (f : ℕ → A) (z : A) (xs : List A) (i : ℕ) → (
 unfolding tabulate
 tabulate-of f z [] i h = refl
 tabulate-of f z (x ∷ xs) i h =
-    λ n. (ap f (sym (plus-none i)) ∙ h 0 (omega arith)) n ∷ tabulate-of f z xs (suc i) (λ j l. let e : suc i + j ≡ i + suc j = omega arith in ap f e ∙ h (suc j) (omega arith)) n
+    λ n.
+    (ap f (sym (plus-none i)) ∙ h 0 (omega arith)) n ∷ tabulate-of f z xs (suc i)
+    (λ j l. let e : suc i + j ≡ i + suc j = omega arith in ap f e ∙ h (suc j) (omega arith)) n
 
 tabulate-pair : {A : Type 0} (R : A → A → Type 0) (f : ℕ → A) (i n a b : ℕ) → Pairwise R (tabulate f i n) → i ≤ a → a < b → b < i + n → R (f a) (f b)
 unfolding tabulate
 tabulate-pair R f i zero a b P h k l = absurd (omega arith)
 tabulate-pair R f i (suc n) a b (Pairwise.more x P) h k l =
-    ⊎-elim (λ e. subst (λ (c : ℕ). R (f c) (f b)) e (x (f b) (mem-tabulate f (suc i) n b (omega arith) (omega arith)))) (λ o. tabulate-pair R f (suc i) n a b P o k (omega arith)) (eq-or-lt-of-le h)
+    ⊎-elim
+    (λ e. subst (λ (c : ℕ). R (f c) (f b)) e (x (f b) (mem-tabulate f (suc i) n b (omega arith) (omega arith))))
+    (λ o. tabulate-pair R f (suc i) n a b P o k (omega arith)) (eq-or-lt-of-le h)
 
 pub entries-of : (es : List Entry) → entries (map (λ (x : Entry). x .row) es) (map (λ (x : Entry). x .start) es) (map (λ (x : Entry). x .end) es) ≡ es
 unfolding entries at
@@ -71,17 +75,29 @@ entries-of es = ap (tabulate f 0) (length-map es (λ (x : Entry). x .row)) ∙ t
     z = record { row = 0; start = 0; end = 0 }
 
     f : ℕ → Entry
-    f i = record { row = getD (map (λ (x : Entry). x .row) es) i 0; start = getD (map (λ (x : Entry). x .start) es) i 0; end = getD (map (λ (x : Entry). x .end) es) i 0 }
+    f i =
+        record {
+          row = getD (map (λ (x : Entry). x .row) es) i 0;
+          start = getD (map (λ (x : Entry). x .start) es) i 0;
+          end = getD (map (λ (x : Entry). x .end) es) i 0;
+        }
 
     zero-plus : (j : ℕ) → 0 + j ≡ j
     zero-plus j = omega arith
 
     same : (j : ℕ) → j < length es → f j ≡ getD es j z
-    same j l = λ n. record { row = mapped (λ (x : Entry). x .row) z es j l n; start = mapped (λ (x : Entry). x .start) z es j l n; end = mapped (λ (x : Entry). x .end) z es j l n }
+    same j l = λ n.
+        record {
+          row = mapped (λ (x : Entry). x .row) z es j l n;
+          start = mapped (λ (x : Entry). x .start) z es j l n;
+          end = mapped (λ (x : Entry). x .end) z es j l n;
+        }
 
 -- ---- written by Minimal windows
 
-module _ (t : Table) (q : Query) (lo hi : ℕ) (rows starts ends : List ℕ) (rowPlaces startPlaces endPlaces scratch : ℕ) {n : ℕ} (accepted : minimalAnswer t q lo hi rowPlaces startPlaces endPlaces scratch ≡ Counted.Count n) where
+module _ (t : Table) (q : Query) (lo hi : ℕ) (rows starts ends : List ℕ)
+    (rowPlaces startPlaces endPlaces scratch : ℕ) {n : ℕ}
+    (accepted : minimalAnswer t q lo hi rowPlaces startPlaces endPlaces scratch ≡ Counted.Count n) where
   counts : length (minimalWindows t q lo hi) ≡ n
   unfolding minimalAnswer
   counts = counted-e (minimalChecks t q lo hi rowPlaces startPlaces endPlaces scratch) (length (minimalWindows t q lo hi)) n accepted .1
@@ -90,14 +106,21 @@ module _ (t : Table) (q : Query) (lo hi : ℕ) (rows starts ends : List ℕ) (ro
   unfolding entryColumn over
   cut part old =
       let es = minimalWindows t q lo hi in
-      ap (λ (m : ℕ). take m (map part es ++ drop (length (map part es)) old)) (sym (length-map es part ∙ counts)) ∙ front-of (map part es) (drop (length (map part es)) old)
+      ap (λ (m : ℕ). take m (map part es ++ drop (length (map part es)) old)) (sym (length-map es part ∙ counts))
+      ∙ front-of (map part es) (drop (length (map part es)) old)
 
-  pub archive-written : Archive t q lo hi (take n (minimalRows (Counted.Count n) t q lo hi rows)) (take n (minimalStarts (Counted.Count n) t q lo hi starts)) (take n (minimalEnds (Counted.Count n) t q lo hi ends))
+  pub archive-written : Archive t q lo hi (take n (minimalRows (Counted.Count n) t q lo hi rows))
+      (take n (minimalStarts (Counted.Count n) t q lo hi starts))
+      (take n (minimalEnds (Counted.Count n) t q lo hi ends))
   unfolding minimalRows minimalStarts minimalEnds
   archive-written =
       let es = minimalWindows t q lo hi in
       rw (cut (λ x. x .row) rows, cut (λ x. x .start) starts, cut (λ x. x .end) ends)
-      (record { as-many-starts = length-map es (λ (x : Entry). x .start) ∙ sym (length-map es (λ (x : Entry). x .row)); as-many-ends = length-map es (λ (x : Entry). x .end) ∙ sym (length-map es (λ (x : Entry). x .row)); holds = subst (IsMinimalList t q lo hi) (sym (entries-of es)) (list-is t q lo hi) })
+      (record {
+        as-many-starts = length-map es (λ (x : Entry). x .start) ∙ sym (length-map es (λ (x : Entry). x .row));
+        as-many-ends = length-map es (λ (x : Entry). x .end) ∙ sym (length-map es (λ (x : Entry). x .row));
+        holds = subst (IsMinimalList t q lo hi) (sym (entries-of es)) (list-is t q lo hi);
+      })
 
 -- ---- read by Recall
 
@@ -116,7 +139,10 @@ module _ (t : Table) (q : Query) (lo hi : ℕ) (one : 1 ≤ lo) (top : hi ≤ 10
       let w = entry i l in
       let a = w .from in let b = w .to in
       let d = in-window t q (x .start) (x .end) (x .row) (w .is-minimal .has) in
-      and-i (lt-ltb (x .row) (size t) (w .in-table)) (and-i (le-leb 1 (x .start) (omega arith)) (and-i (le-leb (x .start) (dayOf t (x .row)) (d .from)) (and-i (le-leb (dayOf t (x .row)) (x .end) (d .to)) (le-leb (x .end) 1024 (omega arith)))))
+      and-i (lt-ltb (x .row) (size t) (w .in-table))
+      (and-i (le-leb 1 (x .start) (omega arith))
+      (and-i (le-leb (x .start) (dayOf t (x .row)) (d .from))
+      (and-i (le-leb (dayOf t (x .row)) (x .end) (d .to)) (le-leb (x .end) 1024 (omega arith)))))
 
   -- 14 asks more than the list's order: that ends rise too follows from the entries being minimal windows
   after : (x y : Entry) → Listed t q lo hi x → Listed t q lo hi y → Before x y → comesAfter x y ≡ true
@@ -142,7 +168,10 @@ module _ (t : Table) (q : Query) (lo hi : ℕ) (one : 1 ≤ lo) (top : hi ≤ 10
     unfolding recallAnswer rangeCheck
     archive-accepted h =
         then-accepted (lengths then (listed then range)) h
-        ∙ (then-accepted (listed then range) (passes BadLength (and-i (eq-eqb (length starts) (length rows) (A .as-many-starts)) (and-i (eq-eqb (length ends) (length rows) (A .as-many-ends)) (eq-eqb (size t) (size t) refl))))
+        ∙ (then-accepted (listed then range)
+        (passes BadLength
+        (and-i (eq-eqb (length starts) (length rows) (A .as-many-starts))
+        (and-i (eq-eqb (length ends) (length rows) (A .as-many-ends)) (eq-eqb (size t) (size t) refl))))
         ∙ (then-accepted range entries-pass ∙ passes BadRange (and-i (le-leb 1 s (omega arith)) (and-i (le-leb s e order) (le-leb e 1024 (omega arith))))))
       where
         lengths : Verdict

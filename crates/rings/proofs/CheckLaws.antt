@@ -62,20 +62,32 @@ passes r h = rw h refl
 pub order-accepted : (f : ℕ → Verdict) (i n : ℕ) → ((j : ℕ) → i ≤ j → j < i + n → f j ≡ Accepted) → inOrder (tabulate f i n) ≡ Accepted
 unfolding inOrder tabulate
 order-accepted f i zero h = refl
-order-accepted f i (suc n) h = then-accepted (inOrder (tabulate f (suc i) n)) (h i (le-refl i) (omega arith)) ∙ order-accepted f (suc i) n (λ j a b. h j (omega arith) (omega arith))
+order-accepted f i (suc n) h =
+    then-accepted (inOrder (tabulate f (suc i) n)) (h i (le-refl i) (omega arith))
+    ∙ order-accepted f (suc i) n (λ j a b. h j (omega arith) (omega arith))
 
-pub order-refused : (f : ℕ → Verdict) (i n j : ℕ) {r : Refusal} → i ≤ j → j < i + n → ((l : ℕ) → i ≤ l → l < j → f l ≡ Accepted) → f j ≡ Refused r → inOrder (tabulate f i n) ≡ Refused r
+pub order-refused : (f : ℕ → Verdict) (i n j : ℕ) {r : Refusal}
+    → i ≤ j
+    → j < i + n
+    → ((l : ℕ) → i ≤ l → l < j → f l ≡ Accepted)
+    → f j ≡ Refused r
+    → inOrder (tabulate f i n) ≡ Refused r
 unfolding inOrder tabulate
 order-refused f i zero j a b h e = absurd (omega arith)
 order-refused f i (suc n) j {r} a b h e =
     ⊎-elim (λ q. then-refused (inOrder (tabulate f (suc i) n)) (subst (λ (x : ℕ). f x ≡ Refused r) (sym q) e))
-    (λ q. then-accepted (inOrder (tabulate f (suc i) n)) (h i (le-refl i) q) ∙ order-refused f (suc i) n j q (omega arith) (λ l c d. h l (omega arith) d) e) (eq-or-lt-of-le a)
+    (λ q. then-accepted (inOrder (tabulate f (suc i) n)) (h i (le-refl i) q)
+    ∙ order-refused f (suc i) n j q (omega arith) (λ l c d. h l (omega arith) d) e)
+    (eq-or-lt-of-le a)
 
 pub all-accepted : (f : ℕ → Verdict) (i n : ℕ) → inOrder (tabulate f i n) ≡ Accepted → (j : ℕ) → i ≤ j → j < i + n → f j ≡ Accepted
 unfolding inOrder tabulate
 all-accepted f i zero h j a b = absurd (omega arith)
 all-accepted f i (suc n) h j a b =
-    ⊎-elim (λ q. subst (λ (x : ℕ). f x ≡ Accepted) q (accepted-left (f i) (inOrder (tabulate f (suc i) n)) h)) (λ q. all-accepted f (suc i) n (accepted-right (f i) (inOrder (tabulate f (suc i) n)) h) j q (omega arith)) (eq-or-lt-of-le a)
+    ⊎-elim
+    (λ q. subst (λ (x : ℕ). f x ≡ Accepted) q (accepted-left (f i) (inOrder (tabulate f (suc i) n)) h))
+    (λ q. all-accepted f (suc i) n (accepted-right (f i) (inOrder (tabulate f (suc i) n)) h) j q (omega arith))
+    (eq-or-lt-of-le a)
 
 -- ---- refusals that keep the scratch
 
@@ -103,22 +115,42 @@ front-order f i (suc n) h = front-then (f i) (inOrder (tabulate f (suc i) n)) (h
 front-row : (t : Table) (j : ℕ) → Front (rowCheck t j)
 unfolding rowCheck rowFaults behindScratch
 front-row t j =
-    front-then (BadDay j when no (leb 1 (dayOf t j) and leb (dayOf t j) 1024)) (BadAccounts j when ltb 4095 (secondOf t j) or no (ltb (firstOf t j) (secondOf t j)) then DayFalls j when ltb (dayOf t j) (dayBefore t j)) (front-when (BadDay j) (no (leb 1 (dayOf t j) and leb (dayOf t j) 1024)) refl)
-    (front-then (BadAccounts j when ltb 4095 (secondOf t j) or no (ltb (firstOf t j) (secondOf t j))) (DayFalls j when ltb (dayOf t j) (dayBefore t j)) (front-when (BadAccounts j) (ltb 4095 (secondOf t j) or no (ltb (firstOf t j) (secondOf t j))) refl) (front-when (DayFalls j) (ltb (dayOf t j) (dayBefore t j)) refl))
+    front-then (BadDay j when no (leb 1 (dayOf t j) and leb (dayOf t j) 1024))
+    (BadAccounts j when ltb 4095 (secondOf t j) or no (ltb (firstOf t j) (secondOf t j)) then DayFalls j
+    when ltb (dayOf t j) (dayBefore t j))
+    (front-when (BadDay j) (no (leb 1 (dayOf t j) and leb (dayOf t j) 1024)) refl)
+    (front-then (BadAccounts j when ltb 4095 (secondOf t j) or no (ltb (firstOf t j) (secondOf t j)))
+    (DayFalls j when ltb (dayOf t j) (dayBefore t j))
+    (front-when (BadAccounts j) (ltb 4095 (secondOf t j) or no (ltb (firstOf t j) (secondOf t j))) refl)
+    (front-when (DayFalls j) (ltb (dayOf t j) (dayBefore t j)) refl))
 
 pub front-table : (t : Table) → Front (tableCheck t)
 unfolding tableCheck behindScratch
 front-table t =
-    front-then (ColumnsDiffer when no (eqb (length (t .first)) (length (t .days)) and eqb (length (t .second)) (length (t .days)))) (TooLarge when ltb 16384 (length (t .days)) then inOrder (tabulate (rowCheck t) 0 (length (t .days)))) (front-when ColumnsDiffer (no (eqb (length (t .first)) (length (t .days)) and eqb (length (t .second)) (length (t .days)))) refl)
-    (front-then (TooLarge when ltb 16384 (length (t .days))) (inOrder (tabulate (rowCheck t) 0 (length (t .days)))) (front-when TooLarge (ltb 16384 (length (t .days))) refl) (front-order (rowCheck t) 0 (length (t .days)) (front-row t)))
+    front-then
+    (ColumnsDiffer
+    when no (eqb (length (t .first)) (length (t .days)) and eqb (length (t .second)) (length (t .days))))
+    (TooLarge when ltb 16384 (length (t .days)) then inOrder (tabulate (rowCheck t) 0 (length (t .days))))
+    (front-when ColumnsDiffer
+    (no (eqb (length (t .first)) (length (t .days)) and eqb (length (t .second)) (length (t .days))))
+    refl)
+    (front-then (TooLarge when ltb 16384 (length (t .days)))
+    (inOrder (tabulate (rowCheck t) 0 (length (t .days))))
+    (front-when TooLarge (ltb 16384 (length (t .days))) refl)
+    (front-order (rowCheck t) 0 (length (t .days)) (front-row t)))
 
-pub front-call : (t : Table) (q : Query) (window lengths : Bool) (rows scratch : ℕ) → Front (tableCheck t then queryCheck q then BadRange when no window then BadLength when no lengths then scratchCheck rows scratch)
+pub front-call : (t : Table) (q : Query) (window lengths : Bool) (rows scratch : ℕ)
+    → Front (tableCheck t then queryCheck q then BadRange when no window then BadLength when no lengths
+    then scratchCheck rows scratch)
 unfolding queryCheck scratchCheck behindScratch
 front-call t q window lengths rows scratch =
     front-then (tableCheck t) (queryCheck q then BadRange when no window then BadLength when no lengths then scratchCheck rows scratch) (front-table t)
-    (front-then (queryCheck q) (BadRange when no window then BadLength when no lengths then scratchCheck rows scratch) (front-when BadK (no (leb 1 (q .k) and leb (q .k) 4095)) refl)
+    (front-then (queryCheck q)
+    (BadRange when no window then BadLength when no lengths then scratchCheck rows scratch)
+    (front-when BadK (no (leb 1 (q .k) and leb (q .k) 4095)) refl)
     (front-then (BadRange when no window) (BadLength when no lengths then scratchCheck rows scratch) (front-when BadRange (no window) refl)
-    (front-then (BadLength when no lengths) (scratchCheck rows scratch) (front-when BadLength (no lengths) refl) (front-when Scratch (ltb scratch (8192 + 4 * rows)) refl))))
+    (front-then (BadLength when no lengths) (scratchCheck rows scratch) (front-when BadLength (no lengths) refl)
+    (front-when Scratch (ltb scratch (8192 + 4 * rows)) refl))))
 
 -- ---- the answer of a call that counts
 

@@ -30,7 +30,8 @@ use Rattle.rings.specs.Ring.{names, met, ring, inRing, members}
 use Rattle.rings.specs.CoreTimes.{never, least, accountTime, rowTime}
 use Rattle.rings.specs.declared.Query.{Query}
 use Rattle.rings.proofs.WordLaws.{true-or-false, clash, same-truth, count-same}
-use Rattle.rings.proofs.RingLaws.{Inside, met-e, met-mono, in-window, two-met, met-first, met-second, ring-grows, in-grows, ring-sized, in-marked, marked-in}
+use Rattle.rings.proofs.RingLaws.{Inside, met-e, met-mono, in-window, two-met, met-first, met-second}
+use Rattle.rings.proofs.RingLaws.{ring-grows, in-grows, ring-sized, in-marked, marked-in}
 use Rattle.rings.proofs.OthersLaws.{touch-named}
 
 -- ---- the least day that has a property
@@ -55,7 +56,10 @@ least-cases p s zero = _⊎_.inl refl
 least-cases p s (suc n) =
     ⊎-elim (λ h. _⊎_.inr (subst (Least p s (suc n)) (sym (least-yes p s n h)) (record { from = le-refl s; below = omega arith; has = h })))
     (λ h. subst (λ (x : ℕ). (x ≡ never) ⊎ Least p s (suc n) x) (sym (least-no p s n h))
-    (⊎-elim _⊎_.inl (λ l. _⊎_.inr (record { from = omega (arith, l .from); below = omega (arith, l .below); has = l .has })) (least-cases p (suc s) n))) (true-or-false (p s))
+    (⊎-elim _⊎_.inl
+    (λ l. _⊎_.inr (record { from = omega (arith, l .from); below = omega (arith, l .below); has = l .has }))
+    (least-cases p (suc s) n)))
+    (true-or-false (p s))
 
 least-le : (p : ℕ → Bool) (s n e : ℕ) → s ≤ e → e < s + n → p e ≡ true → least p s n ≤ e
 least-le p s zero e h l k = absurd (omega arith)
@@ -115,7 +119,10 @@ module _ (p : ℕ → Bool) (s hi : ℕ) where
   -- where no day of the range has p, the time is never
   none-never : ((e : ℕ) → s ≤ e → e ≤ hi → p e ≡ false) → least p s (suc hi - s) ≡ never
   none-never f =
-      ⊎-elim (λ n. n) (λ x. clash (x .has) (f (least p s (suc hi - s)) (x .from) (range-end s hi (least p s (suc hi - s)) (x .below) (x .from)))) (least-cases p s (suc hi - s))
+      ⊎-elim (λ n. n)
+      (λ x. clash (x .has)
+      (f (least p s (suc hi - s)) (x .from) (range-end s hi (least p s (suc hi - s)) (x .below) (x .from))))
+      (least-cases p s (suc hi - s))
 
 module _ (t : Table) (q : Query) (hi : ℕ) where
   module _ (s : ℕ) where
@@ -144,21 +151,32 @@ module _ (t : Table) (q : Query) (hi : ℕ) where
     row-reach-e fits j = reach-e (λ e. inRing t q s e j) s hi fits (λ a b l. in-grows t q j (le-refl s) l)
 
     -- 01: "it is the greatest of its two accounts' core times and its own day"
-    pub row-max : hi < never → (j : ℕ) → Inside t s hi j → rowTime t q hi s j ≡ max (max (accountTime t q hi s (firstOf t j)) (accountTime t q hi s (secondOf t j))) (dayOf t j)
+    pub row-max : hi < never
+        → (j : ℕ) → Inside t s hi j
+        → rowTime t q hi s j
+        ≡ max (max (accountTime t q hi s (firstOf t j)) (accountTime t q hi s (secondOf t j))) (dayOf t j)
     row-max fits j i =
-        same-time {s = s} {hi = hi} fits (row-time j) (time-max {s = s} {hi = hi} fits (account-time (firstOf t j)) (account-time (secondOf t j)) (i .from) (i .to))
+        same-time {s = s} {hi = hi} fits (row-time j)
+        (time-max {s = s} {hi = hi} fits (account-time (firstOf t j)) (account-time (secondOf t j)) (i .from)
+        (i .to))
         (λ e l h r. let k = row-reach-e fits j e h r in
         let a : accountTime t q hi s (firstOf t j) ≤ e = account-reach-i (firstOf t j) e l h (met-first t q s e j k) in
         let b : accountTime t q hi s (secondOf t j) ≤ e = account-reach-i (secondOf t j) e l h (met-second t q s e j k) in
         let d : dayOf t j ≤ e = in-window t q s e j k .to in omega arith)
-        (λ e l h r. row-reach-i j e l h (two-met t q s e j (record { row = i .row; from = i .from; to = omega arith }) (account-reach-e fits (firstOf t j) e h (omega arith)) (account-reach-e fits (secondOf t j) e h (omega arith))))
+        (λ e l h r. row-reach-i j e l h
+        (two-met t q s e j (record { row = i .row; from = i .from; to = omega arith })
+        (account-reach-e fits (firstOf t j) e h (omega arith))
+        (account-reach-e fits (secondOf t j) e h (omega arith))))
 
     -- 01: "A row before s or after Te has never"
     pub row-outside : (j : ℕ) → (Inside t s hi j → ⊥) → rowTime t q hi s j ≡ never
     unfolding rowTime
     row-outside j f =
         none-never (λ e. inRing t q s e j) s hi
-        (λ e l h. ⊎-elim (λ k. let w = in-window t q s e j k in absurd (f (record { row = w .row; from = w .from; to = le-trans (w .to) h }))) (λ k. k) (true-or-false (inRing t q s e j)))
+        (λ e l h. ⊎-elim
+        (λ k. let w = in-window t q s e j k in
+        absurd (f (record { row = w .row; from = w .from; to = le-trans (w .to) h })))
+        (λ k. k) (true-or-false (inRing t q s e j)))
 
     pub row-before : (j : ℕ) → dayOf t j < s → rowTime t q hi s j ≡ never
     row-before j h = row-outside j (λ i. let f = i .from in omega arith)
@@ -178,7 +196,8 @@ module _ (t : Table) (q : Query) (hi : ℕ) where
     unfolding members
     ring-size fits e l h =
         ap (count (marked (ring t q s e))) (ring-sized t q s e)
-        ∙ count-same (marked (ring t q s e)) (λ j. leb (rowTime t q hi s j) e) (size t) (λ j o. same-truth (marked (ring t q s e) j) (leb (rowTime t q hi s j) e) (in-row j) (row-in j))
+        ∙ count-same (marked (ring t q s e)) (λ j. leb (rowTime t q hi s j) e) (size t)
+        (λ j o. same-truth (marked (ring t q s e) j) (leb (rowTime t q hi s j) e) (in-row j) (row-in j))
       where
         in-row : (j : ℕ) → marked (ring t q s e) j ≡ true → leb (rowTime t q hi s j) e ≡ true
         in-row j k = le-leb (rowTime t q hi s j) e (row-reach-i j e l h (in-marked t q s e j k))
@@ -195,7 +214,8 @@ module _ (t : Table) (q : Query) (hi : ℕ) where
         go (_⊎_.inl n) = subst (λ (x : ℕ). accountTime t q hi s u ≤ x) (sym n) (time-le {s = s} {hi = hi} fits (account-time s u))
         go (_⊎_.inr r) =
             account-reach-i s u (accountTime t q hi s′ u) (le-trans later (r .0)) (r .1)
-            (met-mono t u (ring-grows t q later (le-refl (accountTime t q hi s′ u))) (account-reach-e s′ fits u (accountTime t q hi s′ u) (r .1) (le-refl (accountTime t q hi s′ u))))
+            (met-mono t u (ring-grows t q later (le-refl (accountTime t q hi s′ u)))
+            (account-reach-e s′ fits u (accountTime t q hi s′ u) (r .1) (le-refl (accountTime t q hi s′ u))))
 
     pub row-later : (j : ℕ) → rowTime t q hi s j ≤ rowTime t q hi s′ j
     row-later j = go (row-time s′ j)
@@ -214,7 +234,14 @@ module _ (t : Table) (q : Query) (hi : ℕ) where
 
   pub rows-untimed : hi < never → (s : ℕ) → ((u : ℕ) → u < 4096 → accountTime t q hi s u ≡ never) → (j : ℕ) → firstOf t j < 4096 → rowTime t q hi s j ≡ never
   rows-untimed fits s untimed j l =
-      ⊎-elim (λ n. n) (λ r. let h = r .1 in let k = row-reach-e s fits j (rowTime t q hi s j) h (le-refl (rowTime t q hi s j)) in let a = account-reach-i s (firstOf t j) (rowTime t q hi s j) (r .0) h (met-first t q s (rowTime t q hi s j) j k) in let e = untimed (firstOf t j) l in absurd (omega arith))
+      ⊎-elim (λ n. n)
+      (λ r.
+      let h = r .1 in
+      let k = row-reach-e s fits j (rowTime t q hi s j) h (le-refl (rowTime t q hi s j)) in
+      let a =
+      account-reach-i s (firstOf t j) (rowTime t q hi s j) (r .0) h (met-first t q s (rowTime t q hi s j) j k) in
+      let e = untimed (firstOf t j) l in
+      absurd (omega arith))
       (row-time s j)
 
 -- ---- accounts that no row has

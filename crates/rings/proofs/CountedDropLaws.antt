@@ -1,5 +1,7 @@
--- The loop of drop_supported (src/supporters.rt): the rows of an account that rises. Who loses a supporter by it waits (SupporterLaws.DroppingSupported), and the day counts go along (ShiftLaws.Shift).
---     CountedDropping, counted-dropping-start, counted-dropping-out, counted-dropping-stop, counted-dropping-asks, counted-dropping-next    the state of the loop, and its ways
+-- The loop of drop_supported (src/supporters.rt): the rows of an account that rises. Who loses a supporter by it
+-- waits (SupporterLaws.DroppingSupported), and the day counts go along (ShiftLaws.Shift).
+--     CountedDropping, counted-dropping-start, counted-dropping-out, counted-dropping-stop, counted-dropping-asks,
+--     counted-dropping-next    the state of the loop, and its ways
 --     StillPending, counted-dropping-adds     what is still to be counted at the end
 -- Assumes nothing.
 use Prim.Native.Nat.{ℕ, max, min, _+_, _≤_, _<_}
@@ -29,7 +31,8 @@ use Rattle.rings.proofs.CountingLaws.{counted-so, counted-then, pending
 use Rattle.rings.proofs.SupporterLaws.{DroppingSupported, new-most, dropping-start, dropping-out, dropping-stop, dropping-late, dropping-next}
 use Rattle.rings.proofs.ShiftLaws.{Shift, rise-start, rise-all, rise-asks, rise-row}
 
-pub record CountedDropping (d f g scratch : List ℕ) (r : Frame) (xs : List ℕ) (u old new tail : ℕ) (sp₀ ws₀ : List ℕ) (counting : Bool) (counts₀ : List ℕ) (p end m : ℕ) (sp ws counts : List ℕ) : Type 0 where
+pub record CountedDropping (d f g scratch : List ℕ) (r : Frame) (xs : List ℕ) (u old new tail : ℕ)
+    (sp₀ ws₀ : List ℕ) (counting : Bool) (counts₀ : List ℕ) (p end m : ℕ) (sp ws counts : List ℕ) : Type 0 where
   pub b : ℕ
   pub late : r .lo ≤ b
   pub dropping : DroppingSupported d f g scratch r xs u old new tail sp₀ ws₀ b p end sp ws
@@ -39,7 +42,10 @@ pub record CountedDropping (d f g scratch : List ℕ) (r : Frame) (xs : List ℕ
 abbrev pub StillPending : List ℕ → List ℕ → List ℕ → Frame → List ℕ → ℕ → ℕ → List ℕ → Type 0
 StillPending d f g r xs new m counts = PendingHistogram (timeBy (tableOf d f g) (estimate xs) (r .start) (r .stop)) (length d) new m counts
 
-module _ (d f g scratch : List ℕ) (r : Frame) (R : ReadyPruned d f g scratch r) (xs : List ℕ) (len : length xs ≡ 4096) {u : ℕ} (small : u < 4096) (E : Every (tableOf d f g) (estimate xs) (r .lo) u scratch) (D : Days (r .stop) xs) (old new : ℕ) (en : new ≡ getD xs u 0) (tail : ℕ) (sp₀ ws₀ : List ℕ) (counting : Bool) where
+module _ (d f g scratch : List ℕ) (r : Frame) (R : ReadyPruned d f g scratch r) (xs : List ℕ)
+    (len : length xs ≡ 4096) {u : ℕ} (small : u < 4096)
+    (E : Every (tableOf d f g) (estimate xs) (r .lo) u scratch) (D : Days (r .stop) xs) (old new : ℕ)
+    (en : new ≡ getD xs u 0) (tail : ℕ) (sp₀ ws₀ : List ℕ) (counting : Bool) where
   abbrev tt : Table
   tt = tableOf d f g
 
@@ -56,22 +62,50 @@ module _ (d f g scratch : List ℕ) (r : Frame) (R : ReadyPruned d f g scratch r
   keeps : {A : Type 0} {i : ℕ} → (i < r .lo) ⊎ (estimate xs (otherOf tt i u) ≡ never) → (i < r .lo) ⊎ ((new ≤ estimate xs (otherOf tt i u)) ⊎ A)
   keeps o = ⊎-elim _⊎_.inl (λ z. _⊎_.inr (_⊎_.inl z)) (over o)
 
-  pub counted-dropping-start : {p : ℕ} {counts₀ : List ℕ} → length sp₀ ≡ 4096 → length ws₀ ≡ 4352 → Reading scratch u (r .lo) p → (counting ≡ true → CountsBeforeRise tt (r .start) (r .stop) u old new xs counts₀) → CountedDropping d f g scratch r xs u old new tail sp₀ ws₀ counting counts₀ p tail 0 sp₀ ws₀ counts₀
-  counted-dropping-start l m A C = record { b = r .lo; late = le-refl (r .lo); dropping = dropping-start d f g scratch r R xs len small E D old new en tail sp₀ ws₀ l m A; shift = record { counted = λ h. rise-start tt q (r .start) (r .stop) (r .lo) (R .setting) u old new xs small (C h); same = λ h. refl } }
+  pub counted-dropping-start : {p : ℕ} {counts₀ : List ℕ}
+      → length sp₀ ≡ 4096
+      → length ws₀ ≡ 4352
+      → Reading scratch u (r .lo) p
+      → (counting ≡ true → CountsBeforeRise tt (r .start) (r .stop) u old new xs counts₀)
+      → CountedDropping d f g scratch r xs u old new tail sp₀ ws₀ counting counts₀ p tail 0 sp₀ ws₀ counts₀
+  counted-dropping-start l m A C =
+      record {
+        b = r .lo;
+        late = le-refl (r .lo);
+        dropping = dropping-start d f g scratch r R xs len small E D old new en tail sp₀ ws₀ l m A;
+        shift = record {
+          counted = λ h. rise-start tt q (r .start) (r .stop) (r .lo) (R .setting) u old new xs small (C h);
+          same = λ h. refl;
+        };
+      }
 
-  module _ {p end m last : ℕ} {counts₀ sp ws counts : List ℕ} (Z : CountedDropping d f g scratch r xs u old new tail sp₀ ws₀ counting counts₀ p end m sp ws counts) (ee : last ≡ getD scratch u 0) where
-    pub counted-dropping-out : last ≤ p → (DroppedSupported tt (estimate xs) (r .lo) u (length d) old new sp₀ sp × Queued tail sp₀ ws₀ end sp ws) × WhereCounted counting (StillPending d f g r xs new m counts) counts₀ counts
+  module _ {p end m last : ℕ} {counts₀ sp ws counts : List ℕ}
+      (Z : CountedDropping d f g scratch r xs u old new tail sp₀ ws₀ counting counts₀ p end m sp ws counts)
+      (ee : last ≡ getD scratch u 0) where
+    pub counted-dropping-out : last ≤ p
+        → (DroppedSupported tt (estimate xs) (r .lo) u (length d) old new sp₀ sp × Queued tail sp₀ ws₀ end sp ws)
+        × WhereCounted counting (StillPending d f g r xs new m counts) counts₀ counts
     counted-dropping-out h = (
       dropping-out d f g scratch r R xs len small E D old new en tail sp₀ ws₀ (Z .dropping) ee h,
-      counted-so (λ y. rise-all tt q (r .start) (r .stop) (r .lo) (R .setting) u old new xs small y (λ i a k o. keeps (reading-out d f g scratch (R .sound) (R .pruned) small (Z .dropping .reading) ee E h i a k o))) (Z .shift),
+      counted-so
+          (λ y. rise-all tt q (r .start) (r .stop) (r .lo) (R .setting) u old new xs small y
+          (λ i a k o. keeps
+          (reading-out d f g scratch (R .sound) (R .pruned) small (Z .dropping .reading) ee E h i a k o)))
+          (Z .shift),
     )
 
     module _ (more : p < last) {it : Incident} (I : RowRead tt scratch (r .lo) u p it) {until : ℕ} (eu : until ≡ min new (r .stop + 1)) where
       pub counted-dropping-stop : until ≤ it .day
-          → (DroppedSupported tt (estimate xs) (r .lo) u (length d) old new sp₀ sp × Queued tail sp₀ ws₀ end sp ws) × WhereCounted counting (StillPending d f g r xs new m counts) counts₀ counts
+          → (DroppedSupported tt (estimate xs) (r .lo) u (length d) old new sp₀ sp × Queued tail sp₀ ws₀ end sp ws)
+          × WhereCounted counting (StillPending d f g r xs new m counts) counts₀ counts
       counted-dropping-stop h = (
         dropping-stop d f g scratch r R xs len small E D old new en tail sp₀ ws₀ (Z .dropping) ee more I eu h,
-        counted-so (λ y. rise-all tt q (r .start) (r .stop) (r .lo) (R .setting) u old new xs small y (λ i a k o. ⊎-elim keeps (λ z. _⊎_.inr (_⊎_.inr z)) (dropping-late d f g scratch r R xs len small E D old new en tail sp₀ ws₀ (Z .dropping) ee more I eu h i a k o))) (Z .shift),
+        counted-so
+            (λ y. rise-all tt q (r .start) (r .stop) (r .lo) (R .setting) u old new xs small y
+            (λ i a k o. ⊎-elim keeps (λ z. _⊎_.inr (_⊎_.inr z))
+            (dropping-late d f g scratch r R xs len small E D old new en tail sp₀ ws₀
+            (Z .dropping) ee more I eu h i a k o)))
+            (Z .shift),
       )
 
       module _ (before : it .day < until) {z : ℕ} (ez : z ≡ getD xs (it .other) 0) {own time : ℕ} (eo : own ≡ max old (it .day)) (et : time ≡ max own z) where
@@ -100,7 +134,10 @@ module _ (d f g scratch : List ℕ) (r : Frame) (R : ReadyPruned d f g scratch r
               rise-asks tt q (r .start) (r .stop) (r .lo) (R .setting) u old new xs small (Z .shift .counted h) from (I .below)
               (I .touch) gap (omega arith) (omega arith) z-is (omega arith) yes not z-day new-day (R .sound .most)
 
-          pub counted-dropping-next : {dropped : Bool} {end′ m′ : ℕ} {sp′ ws′ counts′ : List ℕ} → end < 4352 → dropped ≡ (leb own z && ltb z new) → DroppedSupporter (it .leads && dropped) (it .other) end sp ws sp′ ws′ end′
+          pub counted-dropping-next : {dropped : Bool} {end′ m′ : ℕ} {sp′ ws′ counts′ : List ℕ}
+              → end < 4352
+              → dropped ≡ (leb own z && ltb z new)
+              → DroppedSupporter (it .leads && dropped) (it .other) end sp ws sp′ ws′ end′
               → WhereCounted counting (Taking test time m counts counts′ m′) counts counts′
               → CountedDropping d f g scratch r xs u old new tail sp₀ ws₀ counting counts₀ (p + 1) end′ m′ sp′ ws′ counts′
           counted-dropping-next room el L T =
@@ -117,5 +154,12 @@ module _ (d f g scratch : List ℕ) (r : Frame) (R : ReadyPruned d f g scratch r
               }
 
 -- what is still to be counted
-pub counted-dropping-adds : {d f g scratch : List ℕ} (xs : List ℕ) {r : Frame} {u new m : ℕ} {counts : List ℕ} → ReadyPruned d f g scratch r → u < 4096 → Days (r .stop) xs → new ≡ getD xs u 0 → r .stop ≤ 1024 → StillPending d f g r xs new m counts → AddAsks m new counts
+pub counted-dropping-adds : {d f g scratch : List ℕ} (xs : List ℕ) {r : Frame} {u new m : ℕ} {counts : List ℕ}
+    → ReadyPruned d f g scratch r
+    → u < 4096
+    → Days (r .stop) xs
+    → new ≡ getD xs u 0
+    → r .stop ≤ 1024
+    → StillPending d f g r xs new m counts
+    → AddAsks m new counts
 counted-dropping-adds xs {u = u} R small D en top O = pending-room O (R .sound .most) (⊎-elim (λ y. _⊎_.inl (omega arith)) (λ y. _⊎_.inr (en ∙ y)) (D u small))

@@ -4,7 +4,8 @@
 --     hist-start, hist-few, hist-next, hist-past, hist-same      the rows are counted one after the other
 --     hist-has, hist-drop     one row fewer: it has no time any more
 --     take-place, take-less, take-few, take-end    what `take_from_histogram` does
---     pending-start, pending-same, pending-has, pending-room, pending-move, pending-end    rows that move to one day are taken off theirs first, and counted there at last
+--     pending-start, pending-same, pending-has, pending-room, pending-move, pending-end    rows that move to one day
+--     are taken off theirs first, and counted there at last
 --     Moves, moving-asks, moving-hist, moving-room, moving-made     or they go from one day to another time at once
 --     counted-so, counted-then, counted-added      walks with the flag for counting, one after the other
 -- Assumes nothing.
@@ -25,7 +26,9 @@ use Rattle.rings.specs.Table.{Table, tableOf, dayOf, firstOf, secondOf}
 use Rattle.rings.specs.CoreTimes.{never, accountTime, rowTime}
 use Rattle.rings.specs.Inner.Adjacency.{openDay, opensBy}
 use Rattle.rings.specs.Inner.Peeling.{Setting, frameOf, estimate, CoreTimesAre}
-use Rattle.rings.specs.Inner.Counting.{timeBy, IsTime, Histogram, WhereCounted, pendingOn, PendingHistogram, Adding, Removing, Taking, Moving, RoomOn, HasOne, AddAsks, RemoveAsks, MoveAsks}
+use Rattle.rings.specs.Inner.Counting.{timeBy, IsTime, Histogram, WhereCounted, pendingOn, PendingHistogram}
+use Rattle.rings.specs.Inner.Counting.{Adding, Removing, Taking, Moving, RoomOn, HasOne, AddAsks, RemoveAsks}
+use Rattle.rings.specs.Inner.Counting.{MoveAsks}
 use Rattle.rings.specs.Inner.Choice.{Picked}
 use Rattle.rings.proofs.WordLaws.{true-or-false, sucIf-yes, sucIf-no, count-le, count-mono, count-same, count-none, count-pos, same-or}
 use Rattle.rings.proofs.ChoiceLaws.{picked-most}
@@ -48,12 +51,25 @@ module _ (t : Table) (x : ℕ → ℕ) (s hi j : ℕ) where
 
   pub by-out : (dayOf t j < s) ⊎ (hi < dayOf t j) → timeBy t x s hi j ≡ never
   by-out o =
-      ⊎-elim (λ y. let w = opens-e t s hi j y in let a = w .from in let b = w .to in let c = open-own t s j in ⊎-elim (λ h. absurd (omega arith)) (λ h. absurd (omega arith)) o) by-shut (true-or-false (opensBy t s hi j))
+      ⊎-elim
+      (λ y.
+      let w = opens-e t s hi j y in
+      let a = w .from in
+      let b = w .to in
+      let c = open-own t s j in
+      ⊎-elim (λ h. absurd (omega arith)) (λ h. absurd (omega arith)) o)
+      by-shut (true-or-false (opensBy t s hi j))
 
 -- where the times of the accounts are core times, so are those of the rows
-pub by-core : (d f g : List ℕ) (q : Query) (s te lo : ℕ) → Setting (tableOf d f g) q s te lo → {xs : List ℕ} → CoreTimesAre d f g (frameOf q s te lo) xs → (j : ℕ) → j < length d → timeBy (tableOf d f g) (estimate xs) s te j ≡ rowTime (tableOf d f g) q te s j
+pub by-core : (d f g : List ℕ) (q : Query) (s te lo : ℕ)
+    → Setting (tableOf d f g) q s te lo
+    → {xs : List ℕ} → CoreTimesAre d f g (frameOf q s te lo) xs
+    → (j : ℕ) → j < length d
+    → timeBy (tableOf d f g) (estimate xs) s te j ≡ rowTime (tableOf d f g) q te s j
 by-core d f g q s te lo S {xs} C j l =
-    ⊎-elim (λ y. inside (opens-e t s te j y)) (λ y. by-shut t (estimate xs) s te j y ∙ sym (row-shut t q te s j (opens-not t s te j y))) (true-or-false (opensBy t s te j))
+    ⊎-elim (λ y. inside (opens-e t s te j y))
+    (λ y. by-shut t (estimate xs) s te j y ∙ sym (row-shut t q te s j (opens-not t s te j y)))
+    (true-or-false (opensBy t s te j))
   where
     t : Table
     t = tableOf d f g
@@ -65,7 +81,12 @@ by-core d f g q s te lo S {xs} C j l =
     inside o =
         let x = S .accounts j l in let y = S .small j l in
         let m = at (firstOf t j) (omega arith) in let n = at (secondOf t j) y in
-        by-in t (estimate xs) s te j o ∙ ((let e : max (max (estimate xs (firstOf t j)) (estimate xs (secondOf t j))) (openDay t s j) ≡ max (max (accountTime t q te s (firstOf t j)) (accountTime t q te s (secondOf t j))) (openDay t s j) = omega arith in e) ∙ sym (row-opens t q te s (S .fits) j l o))
+        by-in t (estimate xs) s te j o
+        ∙ ((let e : max (max (estimate xs (firstOf t j)) (estimate xs (secondOf t j))) (openDay t s j)
+        ≡ max (max (accountTime t q te s (firstOf t j)) (accountTime t q te s (secondOf t j))) (openDay t s j) =
+        omega arith in
+        e)
+        ∙ sym (row-opens t q te s (S .fits) j l o))
 
 -- the day on which the window begins matters only to rows before it
 pub by-later : (t : Table) (x : ℕ → ℕ) (s hi j : ℕ) → s + 1 ≤ dayOf t j → timeBy t x (s + 1) hi j ≡ timeBy t x s hi j
@@ -74,7 +95,10 @@ by-later t x s hi j h =
     let a = leb-true (dayOf t j) hi y in
     let m = by-in t x (s + 1) hi j (day-opens t (s + 1) hi j h a) in
     let n = by-in t x s hi j (day-opens t s hi j (omega arith) a) in
-    let b = open-day t (s + 1) j in let c = open-day t s j in omega arith) (λ y. let a = leb-false (dayOf t j) hi y in by-out t x (s + 1) hi j (_⊎_.inr a) ∙ sym (by-out t x s hi j (_⊎_.inr a))) (true-or-false (leb (dayOf t j) hi))
+    let b = open-day t (s + 1) j in let c = open-day t s j in omega arith)
+    (λ y. let a = leb-false (dayOf t j) hi y in
+    by-out t x (s + 1) hi j (_⊎_.inr a) ∙ sym (by-out t x s hi j (_⊎_.inr a)))
+    (true-or-false (leb (dayOf t j) hi))
 
 pub is-time : (t : Table) (q : Query) (hi s j : ℕ) → hi ≤ 1024 → {x : ℕ} → x ≡ rowTime t q hi s j → IsTime x
 is-time t q hi s j top {x} e = ⊎-elim (λ y. _⊎_.inr (e ∙ y)) (λ y. let h = y .1 in _⊎_.inl (omega arith)) (row-time t q hi s j)
@@ -107,7 +131,9 @@ module _ (g : ℕ → ℕ) where
   hist-start n m {xs} l e none =
       record {
         long = ap length e ∙ (length-replicate {A = ℕ} m 0 ∙ l);
-        each = λ a h. ap (λ (ys : List ℕ). getD ys a 0) e ∙ (getD-replicate m a 0 0 (omega arith) ∙ sym (count-none (has a) n (λ i k. never-not a i h (none i k))));
+        each = λ a h.
+            ap (λ (ys : List ℕ). getD ys a 0) e
+            ∙ (getD-replicate m a 0 0 (omega arith) ∙ sym (count-none (has a) n (λ i k. never-not a i h (none i k))));
       }
 
   module _ {n : ℕ} {xs : List ℕ} (T : Histogram g n xs) where
@@ -115,7 +141,9 @@ module _ (g : ℕ → ℕ) where
     hist-few {v} l i =
         record {
           long = T .long;
-          room = λ h. let k : v < 1025 = ⊎-elim (λ y. y) (λ y. absurd (h y)) i in record { in-days = k; few = let a = T .each v k in let b = count-le (has v) n in omega arith };
+          room = λ h.
+              let k : v < 1025 = ⊎-elim (λ y. y) (λ y. absurd (h y)) i in
+              record { in-days = k; few = let a = T .each v k in let b = count-le (has v) n in omega arith };
         }
 
     pub hist-next : {v : ℕ} {xs′ : List ℕ} → v ≡ g n → Adding 1 v xs xs′ → Histogram g (n + 1) xs′
@@ -151,7 +179,12 @@ module _ (g : ℕ → ℕ) where
     hist-past {m} l none = record { long = T .long; each = λ e h. T .each e h ∙ sym (count-past (has e) n m l (λ i a b. never-not e i h (none i a b))) }
 
 pub hist-same : {g g′ : ℕ → ℕ} {n : ℕ} {xs : List ℕ} → ((j : ℕ) → j < n → g′ j ≡ g j) → Histogram g n xs → Histogram g′ n xs
-hist-same {g} {g′} {n} same T = record { long = T .long; each = λ e h. T .each e h ∙ sym (count-same (λ j. eqb (g′ j) e) (λ j. eqb (g j) e) n (λ j l. ap (λ (a : ℕ). eqb a e) (same j l))) }
+hist-same {g} {g′} {n} same T =
+    record {
+      long = T .long;
+      each = λ e h. T .each e h
+          ∙ sym (count-same (λ j. eqb (g′ j) e) (λ j. eqb (g j) e) n (λ j l. ap (λ (a : ℕ). eqb a e) (same j l)));
+    }
 
 -- ---- rows that move to one day
 
@@ -171,32 +204,71 @@ pending-start {new = new} T = record { long = T .long; each = λ e h. let a = T 
 
 module _ {g : ℕ → ℕ} {n new m : ℕ} {xs : List ℕ} (O : PendingHistogram g n new m xs) where
   pub pending-same : {g′ : ℕ → ℕ} → ((j : ℕ) → j < n → g′ j ≡ g j) → PendingHistogram g′ n new m xs
-  pending-same {g′} same = record { long = O .long; each = λ e h. O .each e h ∙ sym (count-same (λ j. eqb (g′ j) e) (λ j. eqb (g j) e) n (λ j l. ap (λ (a : ℕ). eqb a e) (same j l))) }
+  pending-same {g′} same =
+      record {
+        long = O .long;
+        each = λ e h. O .each e h
+            ∙ sym (count-same (λ j. eqb (g′ j) e) (λ j. eqb (g j) e) n (λ j l. ap (λ (a : ℕ). eqb a e) (same j l)));
+      }
 
   -- a row that has another time than the new one is counted there
   pub pending-has : {j time : ℕ} → j < n → g j ≡ time → time < 1025 → (new ≡ time → ⊥) → 1 ≤ getD xs time 0
-  pending-has {j} {time} l e h o = let a = O .each time h in let b = pendingOn-else new m time o in let c : 0 < count (λ i. eqb (g i) time) n = count-pos (λ i. eqb (g i) time) n j l (eq-eqb (g j) time e) in omega arith
+  pending-has {j} {time} l e h o =
+      let a = O .each time h in
+      let b = pendingOn-else new m time o in
+      let c : 0 < count (λ i. eqb (g i) time) n = count-pos (λ i. eqb (g i) time) n j l (eq-eqb (g j) time e) in
+      omega arith
 
   pub pending-room : n ≤ 16384 → (new < 1025) ⊎ (new ≡ never) → AddAsks m new xs
   pending-room most i =
       record {
         long = O .long;
         room = λ h. let k : new < 1025 = ⊎-elim (λ y. y) (λ y. absurd (h y)) i in
-            record { in-days = k; few = let a = O .each new k in let b = pendingOn-here new m new refl in let c = count-le (λ j. eqb (g j) new) n in omega arith };
+            record {
+              in-days = k;
+              few = let a = O .each new k in
+                  let b = pendingOn-here new m new refl in
+                  let c = count-le (λ j. eqb (g j) new) n in
+                  omega arith;
+            };
       }
 
   pub pending-end : {xs′ : List ℕ} → Adding m new xs xs′ → Histogram g n xs′
-  pending-end {xs′} (Adding.pass h e) = record { long = ap length e ∙ O .long; each = λ a l. let x = O .each a l in let y = pendingOn-else new m a (λ z. omega arith) in ap (λ (ys : List ℕ). getD ys a 0) e ∙ omega arith }
+  pending-end {xs′} (Adding.pass h e) =
+      record {
+        long = ap length e ∙ O .long;
+        each = λ a l.
+            let x = O .each a l in
+            let y = pendingOn-else new m a (λ z. omega arith) in
+            ap (λ (ys : List ℕ). getD ys a 0) e ∙ omega arith;
+      }
   pending-end {xs′} (Adding.some h e) =
       record {
         long = ap length e ∙ (length-set xs new (getD xs new 0 + m) ∙ O .long);
         each = λ a l. ap (λ (ys : List ℕ). getD ys a 0) e
-            ∙ ⊎-elim (λ y. let x = O .each a l in let z = pendingOn-here new m a y in let w : getD (set xs new (getD xs new 0 + m)) a 0 ≡ getD xs new 0 + m = subst (λ (c : ℕ). getD (set xs new (getD xs new 0 + m)) c 0 ≡ getD xs new 0 + m) y (getD-set-same xs new (getD xs new 0 + m) 0 (let o = O .long in omega arith)) in let v : getD xs new 0 ≡ getD xs a 0 = ap (λ (c : ℕ). getD xs c 0) y in omega arith)
-            (λ y. getD-set-other xs new a (getD xs new 0 + m) 0 (λ z. y (sym z)) ∙ (let x = O .each a l in let z = pendingOn-else new m a y in omega arith)) (same-or new a);
+            ∙ ⊎-elim (λ y.
+            let x = O .each a l in
+            let z = pendingOn-here new m a y in
+            let w : getD (set xs new (getD xs new 0 + m)) a 0 ≡ getD xs new 0 + m =
+            subst (λ (c : ℕ). getD (set xs new (getD xs new 0 + m)) c 0 ≡ getD xs new 0 + m) y
+            (getD-set-same xs new (getD xs new 0 + m) 0 (let o = O .long in omega arith)) in
+            let v : getD xs new 0 ≡ getD xs a 0 = ap (λ (c : ℕ). getD xs c 0) y in
+            omega arith)
+            (λ y. getD-set-other xs new a (getD xs new 0 + m) 0 (λ z. y (sym z))
+            ∙ (let x = O .each a l in let z = pendingOn-else new m a y in omega arith))
+            (same-or new a);
       }
 
   -- row j goes from its time to the new one
-  pub pending-move : {g′ : ℕ → ℕ} {j time : ℕ} → j < n → g j ≡ time → g′ j ≡ new → time < 1025 → (new ≡ time → ⊥) → ((i : ℕ) → (i ≡ j → ⊥) → g′ i ≡ g i) → {xs′ : List ℕ} → xs′ ≡ set xs time (getD xs time 0 - 1) → PendingHistogram g′ n new (m + 1) xs′
+  pub pending-move : {g′ : ℕ → ℕ} {j time : ℕ}
+      → j < n
+      → g j ≡ time
+      → g′ j ≡ new
+      → time < 1025
+      → (new ≡ time → ⊥)
+      → ((i : ℕ) → (i ≡ j → ⊥) → g′ i ≡ g i)
+      → {xs′ : List ℕ} → xs′ ≡ set xs time (getD xs time 0 - 1)
+      → PendingHistogram g′ n new (m + 1) xs′
   pending-move {g′} {j} {time} l e e′ small ne same {xs′} w =
       record {
         long = ap length w ∙ (length-set xs time (getD xs time 0 - 1) ∙ O .long);
@@ -208,20 +280,33 @@ module _ {g : ℕ → ℕ} {n new m : ℕ} {xs : List ℕ} (O : PendingHistogram
 
       from : (a : ℕ) → a < 1025 → a ≡ time → getD xs′ a 0 + pendingOn new (m + 1) a ≡ count (λ i. eqb (g′ i) a) n
       from a h y =
-          let c : count (λ i. eqb (g i) a) n ≡ suc (count (λ i. eqb (g′ i) a) n) = count-drop (λ i. eqb (g i) a) (λ i. eqb (g′ i) a) n j l (eq-eqb (g j) a (e ∙ sym y)) (ne-eqb (g′ j) a (λ z. ne (sym e′ ∙ (z ∙ y)))) (others a) in
-          let x : getD xs′ a 0 ≡ getD xs a 0 - 1 = subst (λ (i : ℕ). getD xs′ i 0 ≡ getD xs i 0 - 1) (sym y) (ap (λ (ys : List ℕ). getD ys time 0) w ∙ getD-set-same xs time (getD xs time 0 - 1) 0 (let o = O .long in omega arith)) in
+          let c : count (λ i. eqb (g i) a) n ≡ suc (count (λ i. eqb (g′ i) a) n) =
+          count-drop (λ i. eqb (g i) a) (λ i. eqb (g′ i) a) n j l (eq-eqb (g j) a (e ∙ sym y))
+          (ne-eqb (g′ j) a (λ z. ne (sym e′ ∙ (z ∙ y)))) (others a) in
+          let x : getD xs′ a 0 ≡ getD xs a 0 - 1 = subst
+          (λ (i : ℕ). getD xs′ i 0 ≡ getD xs i 0 - 1)
+          (sym y)
+          (ap (λ (ys : List ℕ). getD ys time 0) w
+          ∙ getD-set-same xs time (getD xs time 0 - 1) 0 (let o = O .long in omega arith)) in
           let z : new ≡ a → ⊥ = λ z. ne (z ∙ y) in
           let p = pendingOn-else new m a z in let q = pendingOn-else new (m + 1) a z in let r = O .each a h in omega arith
 
       to : (a : ℕ) → a < 1025 → new ≡ a → (a ≡ time → ⊥) → getD xs′ a 0 + pendingOn new (m + 1) a ≡ count (λ i. eqb (g′ i) a) n
       to a h y z =
-          let c : count (λ i. eqb (g′ i) a) n ≡ suc (count (λ i. eqb (g i) a) n) = count-drop (λ i. eqb (g′ i) a) (λ i. eqb (g i) a) n j l (eq-eqb (g′ j) a (e′ ∙ y)) (ne-eqb (g j) a (λ o. z (sym o ∙ e))) (λ i o. sym (others a i o)) in
+          let c : count (λ i. eqb (g′ i) a) n ≡ suc (count (λ i. eqb (g i) a) n) =
+          count-drop (λ i. eqb (g′ i) a) (λ i. eqb (g i) a) n j l (eq-eqb (g′ j) a (e′ ∙ y))
+          (ne-eqb (g j) a (λ o. z (sym o ∙ e))) (λ i o. sym (others a i o)) in
           let x : getD xs′ a 0 ≡ getD xs a 0 = ap (λ (ys : List ℕ). getD ys a 0) w ∙ getD-set-other xs time a (getD xs time 0 - 1) 0 z in
           let p = pendingOn-here new m a y in let q = pendingOn-here new (m + 1) a y in let r = O .each a h in omega arith
 
       else : (a : ℕ) → a < 1025 → (a ≡ time → ⊥) → (new ≡ a → ⊥) → getD xs′ a 0 + pendingOn new (m + 1) a ≡ count (λ i. eqb (g′ i) a) n
       else a h y z =
-          let c : count (λ i. eqb (g′ i) a) n ≡ count (λ i. eqb (g i) a) n = count-same (λ i. eqb (g′ i) a) (λ i. eqb (g i) a) n (λ i k. ⊎-elim (λ o. subst (λ (b : ℕ). eqb (g′ b) a ≡ eqb (g b) a) (sym o) (ne-eqb (g′ j) a (λ v. z (sym e′ ∙ v)) ∙ sym (ne-eqb (g j) a (λ v. y (sym v ∙ e))))) (λ o. others a i o) (same-or i j)) in
+          let c : count (λ i. eqb (g′ i) a) n ≡ count (λ i. eqb (g i) a) n =
+          count-same (λ i. eqb (g′ i) a) (λ i. eqb (g i) a) n
+          (λ i k. ⊎-elim
+          (λ o. subst (λ (b : ℕ). eqb (g′ b) a ≡ eqb (g b) a) (sym o)
+          (ne-eqb (g′ j) a (λ v. z (sym e′ ∙ v)) ∙ sym (ne-eqb (g j) a (λ v. y (sym v ∙ e)))))
+          (λ o. others a i o) (same-or i j)) in
           let x : getD xs′ a 0 ≡ getD xs a 0 = ap (λ (ys : List ℕ). getD ys a 0) w ∙ getD-set-other xs time a (getD xs time 0 - 1) 0 y in
           let p = pendingOn-else new m a z in let q = pendingOn-else new (m + 1) a z in let r = O .each a h in omega arith
 
@@ -240,8 +325,14 @@ module _ {g : ℕ → ℕ} {n : ℕ} {xs : List ℕ} (T : Histogram g n xs) {j v
 
   -- the row has no time any more
   pub hist-drop : {g′ : ℕ → ℕ} → g′ j ≡ never → ((a : ℕ) → (a ≡ j → ⊥) → g′ a ≡ g a) → {xs′ : List ℕ} → Removing v xs xs′ → Histogram g′ n xs′
-  hist-drop {g′} none same (Removing.pass h w) = hist-same (λ a k. ⊎-elim (λ o. subst (λ (c : ℕ). g′ c ≡ g c) (sym o) (none ∙ (sym h ∙ e))) (λ o. same a o) (same-or a j)) (subst (Histogram g n) (sym w) T)
-  hist-drop {g′} none same (Removing.one h w) = pending-end (pending-move (pending-start {new = never} T) l (sym e) none (day h) (λ y. h (sym y)) same w) (Adding.pass refl refl)
+  hist-drop {g′} none same (Removing.pass h w) =
+      hist-same
+      (λ a k. ⊎-elim (λ o. subst (λ (c : ℕ). g′ c ≡ g c) (sym o) (none ∙ (sym h ∙ e))) (λ o. same a o) (same-or a j))
+      (subst (Histogram g n) (sym w) T)
+  hist-drop {g′} none same (Removing.one h w) =
+      pending-end
+      (pending-move (pending-start {new = never} T) l (sym e) none (day h) (λ y. h (sym y)) same w)
+      (Adding.pass refl refl)
 
 -- ---- what `take_from_histogram` does
 
@@ -250,15 +341,29 @@ module _ (xs : List ℕ) {test : Bool} {time e more : ℕ} (w : Picked test time
   take-place l = ⊎-elim (λ y. let a = w .yes y in let b = ask y .in-days in omega arith) (λ y. let a = w .no y in omega arith) (true-or-false test)
 
   pub take-less : more ≤ getD xs e 0
-  take-less = ⊎-elim (λ y. let a : getD xs e 0 ≡ getD xs time 0 = ap (λ (c : ℕ). getD xs c 0) (w .yes y) in let b = ask y .one in let c = o .yes y in omega arith) (λ y. let c = o .no y in omega arith) (true-or-false test)
+  take-less =
+      ⊎-elim
+      (λ y.
+      let a : getD xs e 0 ≡ getD xs time 0 = ap (λ (c : ℕ). getD xs c 0) (w .yes y) in
+      let b = ask y .one in
+      let c = o .yes y in
+      omega arith)
+      (λ y. let c = o .no y in omega arith) (true-or-false test)
 
   pub take-few : more ≤ 1
   take-few = picked-most o
 
   pub take-end : {m : ℕ} → Taking test time m xs (set xs e (getD xs e 0 - more)) (m + more)
   take-end {m} =
-      ⊎-elim (λ y. Taking.one y (ap (λ (c : ℕ). set xs c (getD xs c 0 - more)) (w .yes y) ∙ ap (λ (c : ℕ). set xs time (getD xs time 0 - c)) (o .yes y)) (ap (λ (c : ℕ). m + c) (o .yes y)))
-      (λ y. Taking.none y (ap (λ (c : ℕ). set xs e (getD xs e 0 - c)) (o .no y) ∙ (ap (set xs e) (let z : getD xs e 0 - 0 ≡ getD xs e 0 = omega arith in z) ∙ set-getD xs e 0)) (let z = o .no y in omega arith)) (true-or-false test)
+      ⊎-elim (λ y. Taking.one y
+      (ap (λ (c : ℕ). set xs c (getD xs c 0 - more)) (w .yes y)
+      ∙ ap (λ (c : ℕ). set xs time (getD xs time 0 - c)) (o .yes y))
+      (ap (λ (c : ℕ). m + c) (o .yes y)))
+      (λ y. Taking.none y
+      (ap (λ (c : ℕ). set xs e (getD xs e 0 - c)) (o .no y)
+      ∙ (ap (set xs e) (let z : getD xs e 0 - 0 ≡ getD xs e 0 = omega arith in z) ∙ set-getD xs e 0))
+      (let z = o .no y in omega arith))
+      (true-or-false test)
 
 -- ---- rows that go from one day to another time at once
 
@@ -276,26 +381,52 @@ module _ (mv : ℕ → Bool) where
   one-no n h = sucIf-no (count mv n) h
 
   -- a row that moves is one more with its time, and one more that moves
-  pendingOn-one : (f : ℕ → ℕ) (d e n : ℕ) → mv n ≡ true → f n ≡ d → count (λ j. eqb (f j) e) (suc n) + pendingOn d (count mv n) e ≡ count (λ j. eqb (f j) e) n + pendingOn d (count mv (suc n)) e
+  pendingOn-one : (f : ℕ → ℕ) (d e n : ℕ)
+      → mv n ≡ true
+      → f n ≡ d
+      → count (λ j. eqb (f j) e) (suc n) + pendingOn d (count mv n) e
+      ≡ count (λ j. eqb (f j) e) n + pendingOn d (count mv (suc n)) e
   pendingOn-one f d e n h k =
       let m = one-yes n h in
-      ⊎-elim (λ y. let a = pendingOn-here d (count mv n) e y in let b = pendingOn-here d (count mv (suc n)) e y in let c = count-yes f e n (eq-eqb (f n) e (k ∙ y)) in omega arith)
-      (λ y. let a = pendingOn-else d (count mv n) e y in let b = pendingOn-else d (count mv (suc n)) e y in let c = count-no f e n (ne-eqb (f n) e (λ z. y (sym k ∙ z))) in omega arith) (same-or d e)
+      ⊎-elim (λ y.
+      let a = pendingOn-here d (count mv n) e y in
+      let b = pendingOn-here d (count mv (suc n)) e y in
+      let c = count-yes f e n (eq-eqb (f n) e (k ∙ y)) in
+      omega arith)
+      (λ y.
+      let a = pendingOn-else d (count mv n) e y in
+      let b = pendingOn-else d (count mv (suc n)) e y in
+      let c = count-no f e n (ne-eqb (f n) e (λ z. y (sym k ∙ z))) in
+      omega arith)
+      (same-or d e)
 
-  count-stays : (g g′ : ℕ → ℕ) (e n : ℕ) → g′ n ≡ g n → count (λ j. eqb (g′ j) e) (suc n) + count (λ j. eqb (g j) e) n ≡ count (λ j. eqb (g j) e) (suc n) + count (λ j. eqb (g′ j) e) n
+  count-stays : (g g′ : ℕ → ℕ) (e n : ℕ)
+      → g′ n ≡ g n
+      → count (λ j. eqb (g′ j) e) (suc n) + count (λ j. eqb (g j) e) n
+      ≡ count (λ j. eqb (g j) e) (suc n) + count (λ j. eqb (g′ j) e) n
   count-stays g g′ e n k =
       ⊎-elim (λ y. let a = count-yes g e n y in let b = count-yes g′ e n (ap (λ (c : ℕ). eqb c e) k ∙ y) in omega arith)
       (λ y. let a = count-no g e n y in let b = count-no g′ e n (ap (λ (c : ℕ). eqb c e) k ∙ y) in omega arith) (true-or-false (eqb (g n) e))
 
   module _ (g g′ : ℕ → ℕ) (old new : ℕ) where
-    count-moves : (e n : ℕ) → Moves g g′ mv old new n → count (λ j. eqb (g′ j) e) n + pendingOn old (count mv n) e ≡ count (λ j. eqb (g j) e) n + pendingOn new (count mv n) e
+    count-moves : (e n : ℕ)
+        → Moves g g′ mv old new n
+        → count (λ j. eqb (g′ j) e) n + pendingOn old (count mv n) e
+        ≡ count (λ j. eqb (g j) e) n + pendingOn new (count mv n) e
     unfolding count
     count-moves e zero h = let a = pendingOn-none old e in let b = pendingOn-none new e in omega arith
     count-moves e (suc n) h =
         let before = count-moves e n (λ j l. h j (omega arith)) in
         let w = h n (le-refl (suc n)) in
         ⊎-elim (λ y. let a = pendingOn-one g old e n y (w .0 y .0) in let b = pendingOn-one g′ new e n y (w .0 y .1) in omega arith)
-        (λ y. let a = count-stays g g′ e n (w .1 y) in let b : pendingOn old (count mv (suc n)) e ≡ pendingOn old (count mv n) e = ap (λ (m : ℕ). pendingOn old m e) (one-no n y) in let c : pendingOn new (count mv (suc n)) e ≡ pendingOn new (count mv n) e = ap (λ (m : ℕ). pendingOn new m e) (one-no n y) in omega arith) (true-or-false (mv n))
+        (λ y.
+        let a = count-stays g g′ e n (w .1 y) in
+        let b : pendingOn old (count mv (suc n)) e ≡ pendingOn old (count mv n) e =
+        ap (λ (m : ℕ). pendingOn old m e) (one-no n y) in
+        let c : pendingOn new (count mv (suc n)) e ≡ pendingOn new (count mv n) e =
+        ap (λ (m : ℕ). pendingOn new m e) (one-no n y) in
+        omega arith)
+        (true-or-false (mv n))
 
     module _ {n : ℕ} (h : Moves g g′ mv old new n) {xs : List ℕ} (T : Histogram g n xs) where
       pub moving-asks : {m : ℕ} → m ≡ count mv n → n ≤ 16384 → old < 1025 → IsTime new → MoveAsks m old new xs
@@ -314,15 +445,29 @@ module _ (mv : ℕ → Bool) where
             long = M .long;
             each = λ e l.
                 let a = count-moves e n h in let b = M .each e l in let c = T .each e l in
-                let o : pendingOn old m e ≡ pendingOn old (count mv n) e = ap (λ (i : ℕ). pendingOn old i e) em in let p : pendingOn new m e ≡ pendingOn new (count mv n) e = ap (λ (i : ℕ). pendingOn new i e) em in omega arith;
+                let o : pendingOn old m e ≡ pendingOn old (count mv n) e = ap (λ (i : ℕ). pendingOn old i e) em in
+                let p : pendingOn new m e ≡ pendingOn new (count mv n) e = ap (λ (i : ℕ). pendingOn new i e) em in
+                omega arith;
           }
 
 -- what `move_in_histogram` does
-module _ (m old new : ℕ) (xs xs₁ : List ℕ) (long : length xs ≡ 1025) (small : old < 1025) (enough : m ≤ getD xs old 0) (e₁ : xs₁ ≡ set xs old (getD xs old 0 - m)) where
+module _ (m old new : ℕ) (xs xs₁ : List ℕ) (long : length xs ≡ 1025) (small : old < 1025)
+    (enough : m ≤ getD xs old 0) (e₁ : xs₁ ≡ set xs old (getD xs old 0 - m)) where
   taken-off : (e : ℕ) → getD xs₁ e 0 + pendingOn old m e ≡ getD xs e 0
   taken-off e =
-      ⊎-elim (λ y. let a = pendingOn-here old m e y in let b : getD xs₁ e 0 ≡ getD xs old 0 - m = ap (λ (ys : List ℕ). getD ys e 0) e₁ ∙ (ap (λ (c : ℕ). getD (set xs old (getD xs old 0 - m)) c 0) (sym y) ∙ getD-set-same xs old (getD xs old 0 - m) 0 (omega arith)) in let c : getD xs old 0 ≡ getD xs e 0 = ap (λ (i : ℕ). getD xs i 0) y in omega arith)
-      (λ y. let a = pendingOn-else old m e y in let b : getD xs₁ e 0 ≡ getD xs e 0 = ap (λ (ys : List ℕ). getD ys e 0) e₁ ∙ getD-set-other xs old e (getD xs old 0 - m) 0 (λ z. y (sym z)) in omega arith) (same-or old e)
+      ⊎-elim (λ y.
+      let a = pendingOn-here old m e y in
+      let b : getD xs₁ e 0 ≡ getD xs old 0 - m = ap (λ (ys : List ℕ). getD ys e 0) e₁
+      ∙ (ap (λ (c : ℕ). getD (set xs old (getD xs old 0 - m)) c 0) (sym y)
+      ∙ getD-set-same xs old (getD xs old 0 - m) 0 (omega arith)) in
+      let c : getD xs old 0 ≡ getD xs e 0 = ap (λ (i : ℕ). getD xs i 0) y in
+      omega arith)
+      (λ y.
+      let a = pendingOn-else old m e y in
+      let b : getD xs₁ e 0 ≡ getD xs e 0 =
+      ap (λ (ys : List ℕ). getD ys e 0) e₁ ∙ getD-set-other xs old e (getD xs old 0 - m) 0 (λ z. y (sym z)) in
+      omega arith)
+      (same-or old e)
 
   pub moving-room : ((new ≡ never → ⊥) → RoomOn m new xs) → AddAsks m new xs₁
   moving-room ask =
@@ -333,14 +478,34 @@ module _ (m old new : ℕ) (xs xs₁ : List ℕ) (long : length xs ≡ 1025) (sm
 
   pub moving-made : {xs′ : List ℕ} → Adding m new xs₁ xs′ → Moving m old new xs xs′
   moving-made {xs′} (Adding.pass h w) =
-      record { long = ap length w ∙ (ap length e₁ ∙ (length-set xs old (getD xs old 0 - m) ∙ long)); each = λ e l. let a = taken-off e in let b = pendingOn-else new m e (λ z. omega arith) in let c : getD xs′ e 0 ≡ getD xs₁ e 0 = ap (λ (ys : List ℕ). getD ys e 0) w in omega arith }
+      record {
+        long = ap length w ∙ (ap length e₁ ∙ (length-set xs old (getD xs old 0 - m) ∙ long));
+        each = λ e l.
+            let a = taken-off e in
+            let b = pendingOn-else new m e (λ z. omega arith) in
+            let c : getD xs′ e 0 ≡ getD xs₁ e 0 = ap (λ (ys : List ℕ). getD ys e 0) w in
+            omega arith;
+      }
   moving-made {xs′} (Adding.some h w) =
       record {
         long = ap length w ∙ (length-set xs₁ new (getD xs₁ new 0 + m) ∙ (ap length e₁ ∙ (length-set xs old (getD xs old 0 - m) ∙ long)));
         each = λ e l.
             let a = taken-off e in
-            ⊎-elim (λ y. let b = pendingOn-here new m e y in let k : length xs₁ ≡ 1025 = ap length e₁ ∙ (length-set xs old (getD xs old 0 - m) ∙ long) in let c : getD xs′ e 0 ≡ getD xs₁ new 0 + m = ap (λ (ys : List ℕ). getD ys e 0) w ∙ (ap (λ (i : ℕ). getD (set xs₁ new (getD xs₁ new 0 + m)) i 0) (sym y) ∙ getD-set-same xs₁ new (getD xs₁ new 0 + m) 0 (omega arith)) in let d : getD xs₁ new 0 ≡ getD xs₁ e 0 = ap (λ (i : ℕ). getD xs₁ i 0) y in omega arith)
-            (λ y. let b = pendingOn-else new m e y in let c : getD xs′ e 0 ≡ getD xs₁ e 0 = ap (λ (ys : List ℕ). getD ys e 0) w ∙ getD-set-other xs₁ new e (getD xs₁ new 0 + m) 0 (λ z. y (sym z)) in omega arith) (same-or new e);
+            ⊎-elim (λ y.
+            let b = pendingOn-here new m e y in
+            let k : length xs₁ ≡ 1025 = ap length e₁ ∙ (length-set xs old (getD xs old 0 - m) ∙ long) in
+            let c : getD xs′ e 0 ≡ getD xs₁ new 0 + m =
+            ap (λ (ys : List ℕ). getD ys e 0) w
+            ∙ (ap (λ (i : ℕ). getD (set xs₁ new (getD xs₁ new 0 + m)) i 0) (sym y)
+            ∙ getD-set-same xs₁ new (getD xs₁ new 0 + m) 0 (omega arith)) in
+            let d : getD xs₁ new 0 ≡ getD xs₁ e 0 = ap (λ (i : ℕ). getD xs₁ i 0) y in
+            omega arith)
+            (λ y.
+            let b = pendingOn-else new m e y in
+            let c : getD xs′ e 0 ≡ getD xs₁ e 0 = ap (λ (ys : List ℕ). getD ys e 0) w
+            ∙ getD-set-other xs₁ new e (getD xs₁ new 0 + m) 0 (λ z. y (sym z)) in
+            omega arith)
+            (same-or new e);
       }
 
 -- ---- walks with the flag for counting

@@ -33,12 +33,19 @@ pub linear-on : {d : List ℕ} {s lo : ℕ} → Split d s lo → LinearSearch d 
 linear-on S = record { within = S .within; before = λ j h. let k = S .before j h in omega arith }
 
 pub linear-next : {d : List ℕ} {day r : ℕ} → LinearSearch d day r → r < length d → getD d r 0 < day → LinearSearch d day (r + 1)
-linear-next {d} {day} {r} S l h = record { within = omega arith; before = λ j k. ⊎-elim (λ e. subst (λ (c : ℕ). getD d c 0 < day) (sym e) h) (λ o. S .before j o) (eq-or-lt-of-le (omega arith)) }
+linear-next {d} {day} {r} S l h =
+    record {
+      within = omega arith;
+      before = λ j k. ⊎-elim (λ e. subst (λ (c : ℕ). getD d c 0 < day) (sym e) h) (λ o. S .before j o)
+          (eq-or-lt-of-le (omega arith));
+    }
 
 -- days never fall, over any distance
 pub rising-all : (d : List ℕ) → NeverFall d → (i j : ℕ) → i ≤ j → j < length d → getD d i 0 ≤ getD d j 0
 rising-all d up i zero h l = let e : i ≡ 0 = omega arith in rw e (le-refl (getD d 0 0))
-rising-all d up i (suc j) h l = ⊎-elim (λ e. rw e (le-refl (getD d (suc j) 0))) (λ o. le-trans (rising-all d up i j (le-of-suc-le-suc o) (omega arith)) (up .next j l)) (eq-or-lt-of-le h)
+rising-all d up i (suc j) h l =
+    ⊎-elim (λ e. rw e (le-refl (getD d (suc j) 0)))
+    (λ o. le-trans (rising-all d up i j (le-of-suc-le-suc o) (omega arith)) (up .next j l)) (eq-or-lt-of-le h)
 
 -- the rows below low are dated before the day, those from high on are not
 pub record BinarySearch (d : List ℕ) (day low high : ℕ) : Type 0 where
@@ -48,17 +55,40 @@ pub record BinarySearch (d : List ℕ) (day low high : ℕ) : Type 0 where
   pub after : (j : ℕ) → high ≤ j → j < length d → day ≤ getD d j 0
 
 pub binary-start : (d : List ℕ) (day : ℕ) → BinarySearch d day 0 (length d)
-binary-start d day = record { ordered = omega arith; within = le-refl (length d); before = λ j h. absurd (not-suc-le-zero h); after = λ j a b. absurd (omega arith) }
+binary-start d day =
+    record {
+      ordered = omega arith;
+      within = le-refl (length d);
+      before = λ j h. absurd (not-suc-le-zero h);
+      after = λ j a b. absurd (omega arith);
+    }
 
 module _ {d : List ℕ} (up : NeverFall d) {day low high middle : ℕ} (H : BinarySearch d day low high) (a : low ≤ middle) (b : middle < high) where
   pub binary-up : getD d middle 0 < day → BinarySearch d day (middle + 1) high
-  binary-up h = let w = H .within in record { ordered = omega arith; within = w; before = λ j k. let r = rising-all d up j middle (omega arith) (omega arith) in omega arith; after = H .after }
+  binary-up h =
+      let w = H .within in
+      record {
+        ordered = omega arith;
+        within = w;
+        before = λ j k. let r = rising-all d up j middle (omega arith) (omega arith) in omega arith;
+        after = H .after;
+      }
 
   pub binary-down : day ≤ getD d middle 0 → BinarySearch d day low middle
-  binary-down h = let w = H .within in record { ordered = a; within = omega arith; before = H .before; after = λ j k l. let r = rising-all d up middle j k l in omega arith }
+  binary-down h =
+      let w = H .within in
+      record {
+        ordered = a;
+        within = omega arith;
+        before = H .before;
+        after = λ j k l. let r = rising-all d up middle j k l in omega arith;
+      }
 
 pub binary-end : {d : List ℕ} {day low high : ℕ} → BinarySearch d day low high → high ≤ low → Split d day low
-binary-end {d} {day} {low} {high} H h = let w = H .within in let o = H .ordered in record { within = omega arith; before = H .before; after = λ j a b. H .after j (omega arith) b }
+binary-end {d} {day} {low} {high} H h =
+    let w = H .within in
+    let o = H .ordered in
+    record { within = omega arith; before = H .before; after = λ j a b. H .after j (omega arith) b }
 
 pub linear-found : {d : List ℕ} {day r : ℕ} → NeverFall d → LinearSearch d day r → day ≤ getD d r 0 → Split d day r
 linear-found {d} {day} {r} up S h = record { within = S .within; before = S .before; after = λ j a b. le-trans h (rising-all d up r j a b) }
@@ -73,7 +103,15 @@ span-after {d} {s} {e} {lo} {end} h a b =
       within = b .within;
       inside = λ j k. let x = b .before j k in omega arith;
       later = λ j k l. let x = b .after j k l in omega arith;
-      ordered = ⊎-elim (λ y. leb-true lo end y) (λ y. let k = leb-false lo end y in let x = a .before end k in let w = a .within in let z = b .after end (le-refl end) (omega arith) in absurd (omega arith)) (true-or-false (leb lo end));
+      ordered =
+          ⊎-elim (λ y. leb-true lo end y)
+          (λ y.
+          let k = leb-false lo end y in
+          let x = a .before end k in
+          let w = a .within in
+          let z = b .after end (le-refl end) (omega arith) in
+          absurd (omega arith))
+          (true-or-false (leb lo end));
     }
 
 -- no row is dated before day 0
@@ -87,7 +125,12 @@ heads-on {d} S L N = record { sound = S; adjacency = L; ordered = omega arith; f
 pub span-of : {d : List ℕ} {s e lo end : ℕ} → s ≤ e → Split d s lo → Split d (e + 1) end → Span d e lo end
 span-of h a b = span-after (omega arith) a b
 
-pub setting-of : {d f s : List ℕ} {q : Query} {start stop lo : ℕ} → Sound d f s → 1 ≤ q .k → stop ≤ 1024 → Split d start lo → Setting (tableOf d f s) q start stop lo
+pub setting-of : {d f s : List ℕ} {q : Query} {start stop lo : ℕ}
+    → Sound d f s
+    → 1 ≤ q .k
+    → stop ≤ 1024
+    → Split d start lo
+    → Setting (tableOf d f s) q start stop lo
 unfolding dayOf firstOf secondOf at
 setting-of {d} S one top a =
     record {
@@ -100,16 +143,39 @@ setting-of {d} S one top a =
       small = λ j l. let x = S .rows j l .account-to in omega arith;
     }
 
-pub ready-of : {d f s scratch : List ℕ} {q : Query} {start stop lo : ℕ} → Sound d f s → Adjacency (tableOf d f s) start scratch → 1 ≤ q .k → stop ≤ 1024 → Split d start lo → Ready d f s scratch (frameOf q start stop lo)
+pub ready-of : {d f s scratch : List ℕ} {q : Query} {start stop lo : ℕ}
+    → Sound d f s
+    → Adjacency (tableOf d f s) start scratch
+    → 1 ≤ q .k
+    → stop ≤ 1024
+    → Split d start lo
+    → Ready d f s scratch (frameOf q start stop lo)
 ready-of S L one top a = record { sound = S; adjacency = L; setting = setting-of S one top a }
 
-pub framed-of : {d f s : List ℕ} {q : Query} {start stop lo : ℕ} → Sound d f s → 1 ≤ q .k → stop ≤ 1024 → Split d start lo → Framed d f s (frameOf q start stop lo)
+pub framed-of : {d f s : List ℕ} {q : Query} {start stop lo : ℕ}
+    → Sound d f s
+    → 1 ≤ q .k
+    → stop ≤ 1024
+    → Split d start lo
+    → Framed d f s (frameOf q start stop lo)
 framed-of S one top a = record { sound = S; setting = setting-of S one top a }
 
-pub ready-pairs-of : {d f s scratch : List ℕ} {q : Query} {start stop lo : ℕ} → Sound d f s → Paired (tableOf d f s) scratch → 1 ≤ q .k → stop ≤ 1024 → Split d start lo → ReadyPairs d f s scratch (frameOf q start stop lo)
+pub ready-pairs-of : {d f s scratch : List ℕ} {q : Query} {start stop lo : ℕ}
+    → Sound d f s
+    → Paired (tableOf d f s) scratch
+    → 1 ≤ q .k
+    → stop ≤ 1024
+    → Split d start lo
+    → ReadyPairs d f s scratch (frameOf q start stop lo)
 ready-pairs-of S P one top a = record { sound = S; paired = P; setting = setting-of S one top a }
 
-pub ready-pruned-of : {d f s scratch : List ℕ} {q : Query} {start stop lo : ℕ} → Sound d f s → PrunedAdjacency (tableOf d f s) scratch → 1 ≤ q .k → stop ≤ 1024 → Split d start lo → ReadyPruned d f s scratch (frameOf q start stop lo)
+pub ready-pruned-of : {d f s scratch : List ℕ} {q : Query} {start stop lo : ℕ}
+    → Sound d f s
+    → PrunedAdjacency (tableOf d f s) scratch
+    → 1 ≤ q .k
+    → stop ≤ 1024
+    → Split d start lo
+    → ReadyPruned d f s scratch (frameOf q start stop lo)
 ready-pruned-of S L one top a = record { sound = S; pruned = L; within = a .within; setting = setting-of S one top a }
 
 -- what is left of it without the adjacency

@@ -42,9 +42,18 @@ not-second {p} {q} h k = ap (λ (w : Bool). w && q) h ∙ k
 
 -- the sum with a bit that is 1 where y says so, if p holds
 pub bit-is : (p y : Bool) {a : ℕ} (n : ℕ) → p ≡ true → Picked (p && y) 1 0 a → n + a ≡ sucIf y n
-bit-is p y n h A = ⊎-elim (λ k. let e = A .yes (both h k) in let v = sucIf-yes n k in omega arith) (λ k. let e = A .no (not-second h k) in let v = sucIf-no n k in omega arith) (true-or-false y)
+bit-is p y n h A =
+    ⊎-elim (λ k. let e = A .yes (both h k) in let v = sucIf-yes n k in omega arith)
+    (λ k. let e = A .no (not-second h k) in let v = sucIf-no n k in omega arith) (true-or-false y)
 
-pub row-noted : (y : Bool) (z c n above more : ℕ) {a b e i m : ℕ} → c < above → Picked (leb z c && y) 1 0 a → Picked (not (leb z c) && ltb z above) z above b → Picked y 1 0 i → Picked (eqb z above && y) 1 0 e → Picked (not (leb z c) && ltb z above) i (more + e) m → RowNoted y z c n above more (n + a) b m
+pub row-noted : (y : Bool) (z c n above more : ℕ) {a b e i m : ℕ}
+    → c < above
+    → Picked (leb z c && y) 1 0 a
+    → Picked (not (leb z c) && ltb z above) z above b
+    → Picked y 1 0 i
+    → Picked (eqb z above && y) 1 0 e
+    → Picked (not (leb z c) && ltb z above) i (more + e) m
+    → RowNoted y z c n above more (n + a) b m
 row-noted y z c n above more {a} {b} {e} {i} {m} up A B I E M =
     ⊎-elim (λ g. soon (leb-true z c g) g) (λ g. late (leb-false z c g) g) (true-or-false (leb z c))
   where
@@ -58,10 +67,13 @@ row-noted y z c n above more {a} {b} {e} {i} {m} up A B I E M =
     late l g =
         let none : a ≡ 0 = A .no (not-first y g) in
         let ahead : not (leb z c) ≡ true = ap not g in
-        ⊎-elim (λ h. RowNoted.nearer l (ltb-true z above h) (omega arith) (B .yes (both ahead h)) (let o = M .yes (both ahead h) in let v = bit-is true y 0 refl I in omega arith))
+        ⊎-elim (λ h. RowNoted.nearer l (ltb-true z above h) (omega arith) (B .yes (both ahead h))
+        (let o = M .yes (both ahead h) in let v = bit-is true y 0 refl I in omega arith))
         (λ h.
-        ⊎-elim (λ k. RowNoted.level l (eqb-true z above k) (omega arith) (B .no (not-second ahead h)) (M .no (not-second ahead h) ∙ bit-is (eqb z above) y more k E))
-        (λ k. RowNoted.farther l (ltb-false z above h) (omega arith) (B .no (not-second ahead h)) (let o = E .no (not-first y k) in let i = M .no (not-second ahead h) in omega arith))
+        ⊎-elim (λ k. RowNoted.level l (eqb-true z above k) (omega arith) (B .no (not-second ahead h))
+        (M .no (not-second ahead h) ∙ bit-is (eqb z above) y more k E))
+        (λ k. RowNoted.farther l (ltb-false z above h) (omega arith) (B .no (not-second ahead h))
+        (let o = E .no (not-first y k) in let i = M .no (not-second ahead h) in omega arith))
         (true-or-false (eqb z above)))
         (true-or-false (ltb z above))
 
@@ -75,12 +87,22 @@ pub record DayScanning (d f g scratch : List ℕ) (r : Frame) (xs : List ℕ) (u
   pub reading : Reading scratch u b p
   pub scanned : RowsScanned (tableOf d f g) (estimate xs) (r .lo) (r .stop) c u b n above more
 
-module _ (d f g scratch : List ℕ) (r : Frame) (R : ReadyPruned d f g scratch r) (xs : List ℕ) (len : length xs ≡ 4096) (D : Days (r .stop) xs) {u c : ℕ} (small : u < 4096) (top : c ≤ r .stop) (E : Every (tableOf d f g) (estimate xs) (r .lo) u scratch) where
+module _ (d f g scratch : List ℕ) (r : Frame) (R : ReadyPruned d f g scratch r) (xs : List ℕ)
+    (len : length xs ≡ 4096) (D : Days (r .stop) xs) {u c : ℕ} (small : u < 4096) (top : c ≤ r .stop)
+    (E : Every (tableOf d f g) (estimate xs) (r .lo) u scratch) where
   abbrev tt : Table
   tt = tableOf d f g
 
   pub day-scan-start : {p : ℕ} → Reading scratch u (r .lo) p → DayScanning d f g scratch r xs u c p 0 never 0
-  day-scan-start A = record { b = r .lo; within = R .within; late = le-refl (r .lo); reading = A; scanned = scanned-start tt (r .query) (r .start) (r .stop) (r .lo) (R .setting) (estimate xs) c u (let h = R .setting .fits in omega arith) }
+  day-scan-start A =
+      record {
+        b = r .lo;
+        within = R .within;
+        late = le-refl (r .lo);
+        reading = A;
+        scanned = scanned-start tt (r .query) (r .start) (r .stop) (r .lo) (R .setting) (estimate xs) c u
+            (let h = R .setting .fits in omega arith);
+      }
 
   module _ {p n above more end : ℕ} (G : DayScanning d f g scratch r xs u c p n above more) (ee : end ≡ getD scratch u 0) where
     day-scan-count : n + more ≤ G .b
@@ -90,7 +112,9 @@ module _ (d f g scratch : List ℕ) (r : Frame) (R : ReadyPruned d f g scratch r
     day-scan-most = let a = day-scan-count in let b = G .within in let h = R .sound .most in omega arith
 
     pub day-scan-out : end ≤ p → DayScanned tt (estimate xs) (r .lo) (r .stop) c u (length d) (r .query .k) n above more
-    day-scan-out h = DayScanned.scanned (scanned-out tt (r .query) (r .start) (r .stop) (r .lo) (R .setting) (estimate xs) (G .scanned) (G .within) (reading-out d f g scratch (R .sound) (R .pruned) small (G .reading) ee E h))
+    day-scan-out h =
+        DayScanned.scanned (scanned-out tt (r .query) (r .start) (r .stop) (r .lo) (R .setting) (estimate xs)
+        (G .scanned) (G .within) (reading-out d f g scratch (R .sound) (R .pruned) small (G .reading) ee E h))
 
     module _ (here : p < end) {it : Incident} (I : RowRead tt scratch (r .lo) u p it) where
       from : G .b ≤ it .row
@@ -108,7 +132,9 @@ module _ (d f g scratch : List ℕ) (r : Frame) (R : ReadyPruned d f g scratch r
 
       stop-here : ((i : ℕ) → it .row ≤ i → i < length d → (r .stop < dayOf tt i) ⊎ (above ≤ dayOf tt i))
           → RowsScanned tt (estimate xs) (r .lo) (r .stop) c u (length d) n above more
-      stop-here late = scanned-stop tt (r .query) (r .start) (r .stop) (r .lo) (R .setting) (estimate xs) (G .scanned) (it .row) from gap top late (let b = I .below in omega arith)
+      stop-here late =
+          scanned-stop tt (r .query) (r .start) (r .stop) (r .lo) (R .setting) (estimate xs) (G .scanned)
+          (it .row) from gap top late (let b = I .below in omega arith)
 
       pub day-scan-over : (c < it .day) × ((r .query .k ≤ n) ⊎ ((r .stop < it .day) ⊎ (above < it .day)))
           → DayScanned tt (estimate xs) (r .lo) (r .stop) c u (length d) (r .query .k) n above more
@@ -116,7 +142,10 @@ module _ (d f g scratch : List ℕ) (r : Frame) (R : ReadyPruned d f g scratch r
           ⊎-elim (λ h. DayScanned.full h (let z = all in omega arith))
           (λ h.
           DayScanned.scanned
-          (stop-here (λ i a k. let e = I .day in let y = R .setting .rising (it .row) i a k in ⊎-elim (λ z. _⊎_.inl (omega arith)) (λ z. _⊎_.inr (omega arith)) h)))
+          (stop-here (λ i a k.
+          let e = I .day in
+          let y = R .setting .rising (it .row) i a k in
+          ⊎-elim (λ z. _⊎_.inl (omega arith)) (λ z. _⊎_.inr (omega arith)) h)))
           (o .1)
         where
           all : n ≡ backers tt (estimate xs) (r .lo) c u (length d)
@@ -132,7 +161,9 @@ module _ (d f g scratch : List ℕ) (r : Frame) (R : ReadyPruned d f g scratch r
             within = let b = I .below in omega arith;
             late = let b = day-scan-late in omega arith;
             reading = reading-next d f g scratch (R .sound) (R .pruned) small (G .reading) ee here (I .row);
-            scanned = scanned-not-lead tt (r .query) (r .start) (r .stop) (r .lo) (R .setting) (estimate xs) (G .scanned) (it .row) from gap (sym (I .leads day-scan-late) ∙ h) N;
+            scanned =
+                scanned-not-lead tt (r .query) (r .start) (r .stop) (r .lo) (R .setting) (estimate xs) (G .scanned)
+                (it .row) from gap (sym (I .leads day-scan-late) ∙ h) N;
           }
 
       day-scan-note : {z n′ above′ more′ : ℕ} → it .leads ≡ true → it .day ≤ r .stop → z ≡ max (getD xs (it .other) 0) (it .day)
@@ -144,12 +175,15 @@ module _ (d f g scratch : List ℕ) (r : Frame) (R : ReadyPruned d f g scratch r
             within = let b = I .below in omega arith;
             late = let b = day-scan-late in omega arith;
             reading = reading-next d f g scratch (R .sound) (R .pruned) small (G .reading) ee here (I .row);
-            scanned = scanned-note tt (r .query) (r .start) (r .stop) (r .lo) (R .setting) (estimate xs) (G .scanned) (it .row) from gap (sym (I .leads day-scan-late) ∙ h) (I .touch) is-value in-range N;
+            scanned =
+                scanned-note tt (r .query) (r .start) (r .stop) (r .lo) (R .setting) (estimate xs) (G .scanned)
+                (it .row) from gap (sym (I .leads day-scan-late) ∙ h) (I .touch) is-value in-range N;
           }
         where
           is-value : z ≡ max (estimate xs (otherOf tt (it .row) u)) (dayOf tt (it .row))
           is-value =
-              let e : estimate xs (otherOf tt (it .row) u) ≡ getD xs (it .other) 0 = ap (estimate xs) (sym (I .other)) ∙ estimate-at xs (it .other) len (I .small) in
+              let e : estimate xs (otherOf tt (it .row) u) ≡ getD xs (it .other) 0 =
+              ap (estimate xs) (sym (I .other)) ∙ estimate-at xs (it .other) len (I .small) in
               let o = I .day in omega arith
 
           in-range : (z ≤ r .stop) ⊎ (z ≡ never)

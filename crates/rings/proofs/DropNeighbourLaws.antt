@@ -18,7 +18,9 @@ use Rattle.rings.specs.declared.Query.{Query}
 use Rattle.rings.specs.declared.frame.Frame.{Frame}
 use Rattle.rings.proofs.WordLaws.{count-same, same-or}
 use Rattle.rings.proofs.PairLaws.{count-drop}
-use Rattle.rings.proofs.PeelStateLaws.{without, without-this, without-other, removed-or-not, room, rows-pass, removed-other, removal-lower, now-e, still, times-removal, queue-removal, moved, Pass}
+use Rattle.rings.proofs.PeelStateLaws.{without, without-this, without-other, removed-or-not, room, rows-pass}
+use Rattle.rings.proofs.PeelStateLaws.{removed-other, removal-lower, now-e, still, times-removal}
+use Rattle.rings.proofs.PeelStateLaws.{queue-removal, moved, Pass}
 
 module _ (t : Table) (frame : Frame) (S : Setting t (frame .query) (frame .start) (frame .stop) (frame .lo)) where
   abbrev q : Query
@@ -172,15 +174,20 @@ module _ (t : Table) (frame : Frame) (S : Setting t (frame .query) (frame .start
           rows = R;
           queue = queue-removal t frame S (F .buffers .times) (F .times) v k z (F .buffers .queue) (F .queue);
           counts = record {
-            degrees = λ u a g. ⊎-elim (λ y. absurd (removed-v u y g)) (λ y. D u a (sym (still t frame S (F .buffers .times) (F .times) v k z u y) ∙ g)) (same-or u v);
+            degrees = λ u a g.
+                ⊎-elim (λ y. absurd (removed-v u y g))
+                (λ y. D u a (sym (still t frame S (F .buffers .times) (F .times) v k z u y) ∙ g)) (same-or u v);
             enough =
                 λ u a b g. ⊎-elim (λ y. absurd (removed-v u y g))
-                (λ y. rw (getD-set-other d v u (getD d v 0 - 1) 0 y) (F .counts .enough u a b (sym (still t frame S (F .buffers .times) (F .times) v k z u y) ∙ g)))
+                (λ y. rw (getD-set-other d v u (getD d v 0 - 1) 0 y)
+                (F .counts .enough u a b (sym (still t frame S (F .buffers .times) (F .times) v k z u y) ∙ g)))
                 (same-or u v);
             many = λ u a g. many-now u a (removed-now u g);
             few = λ u a g. few-now u a (λ y. h) (removed-now u g);
           };
-          times = times-removal t frame S (F .buffers .times) (F .times) v k z (removal-lower t frame S R (F .queue .walked-removed) (F .times) why-all (F .left-why) v few);
+          times =
+              times-removal t frame S (F .buffers .times) (F .times) v k z
+              (removal-lower t frame S R (F .queue .walked-removed) (F .times) why-all (F .left-why) v few);
           passed-why = λ i u l p. ⊎-elim (λ f. _⊎_.inl (f .0, keep-removed (otherOf t i u) (f .1))) _⊎_.inr (why-all i u l p);
           left-why = F .left-why;
         }
@@ -208,7 +215,9 @@ module _ (t : Table) (frame : Frame) (S : Setting t (frame .query) (frame .start
         keep-removed u f = ⊎-elim (λ y. removed-v u y) (λ y g. f (sym (still t frame S (F .buffers .times) (F .times) v k z u y) ∙ g)) (same-or u v)
 
     -- what `lose` leaves
-    pub dropped-step : {x′ d′ w′ : List ℕ} {tail′ : ℕ} → DroppedNeighbour (q .k) e tail v x d w x′ d′ w′ tail′ → PeelState t frame 4096 e r head tail′ passed′ x′ d′ w′
+    pub dropped-step : {x′ d′ w′ : List ℕ} {tail′ : ℕ}
+        → DroppedNeighbour (q .k) e tail v x d w x′ d′ w′ tail′
+        → PeelState t frame 4096 e r head tail′ passed′ x′ d′ w′
     dropped-step (DroppedNeighbour.stays h ex ed ew et) =
         moved ex ed ew et
         (⊎-elim (λ z. lower-state z (⊎-elim (λ y. absurd (h (sym y))) (λ y. y) (eq-or-lt-of-le (F .counts .enough v k k z)))) kept-state (removed-or-not x v))

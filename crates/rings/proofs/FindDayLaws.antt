@@ -1,5 +1,6 @@
 -- From day to day: the first day with k supporters (src/scan.rt, `find_day`).
---     few-start, find-day-next, find-day-found, find-day-never, find-day-near, short-start, short-next     a scan rises from day to day, and stops at the first with k supporters
+--     few-start, find-day-next, find-day-found, find-day-never, find-day-near, short-start, short-next     a scan
+--     rises from day to day, and stops at the first with k supporters
 --     Few, find-day-then     every day before this one has too few; a day that has enough
 -- Assumes nothing.
 use Prim.Native.Nat.{ℕ, _+_, _-_, _≤_, _<_}
@@ -30,7 +31,16 @@ module _ (t : Table) (q : Query) (s hi lo : ℕ) (S : Setting t q s hi lo) (x : 
       let e = W .counted in
       let m : count (backing t x lo a u) (size t) ≤ count (backing t x lo c u) (size t) =
       count-mono (backing t x lo a u) (backing t x lo c u) (size t)
-      (λ j k y. let b = backing-e t q s hi lo S x a u j y in let o = b .by in backing-i t q s hi lo S x c u j (record { is-lead = b .is-lead; touch = b .touch; by = ⊎-elim (λ z. z) (λ z. absurd (omega arith)) (W .none-between j k (b .is-lead) (b .touch) (omega arith)) })) in
+      (λ j k y.
+      let b = backing-e t q s hi lo S x a u j y in
+      let o = b .by in
+      backing-i t q s hi lo S x c u j
+      (record {
+        is-lead = b .is-lead;
+        touch = b .touch;
+        by = ⊎-elim (λ z. z) (λ z. absurd (omega arith))
+            (W .none-between j k (b .is-lead) (b .touch) (omega arith));
+      })) in
       let g = backers-are t q s hi lo S x a u in omega arith
 
   -- every day of the range from c₀ on and below c has too few
@@ -41,24 +51,55 @@ module _ (t : Table) (q : Query) (s hi lo : ℕ) (S : Setting t q s hi lo) (x : 
   few-start c u a h l = absurd (omega arith)
 
   few-next : {c₀ c u n above more : ℕ} → Few c₀ c u → RowsScanned t x lo hi c u (size t) n above more → n < q .k → Few c₀ above u
-  few-next {c₀} {c} {u} {n} {above} {more} F W h a l k top = ⊎-elim (λ y. let g = same-between W a (leb-true c a y) k top in omega arith) (λ y. F a l (leb-false c a y) top) (true-or-false (leb c a))
+  few-next {c₀} {c} {u} {n} {above} {more} F W h a l k top =
+      ⊎-elim (λ y. let g = same-between W a (leb-true c a y) k top in omega arith) (λ y. F a l (leb-false c a y) top)
+      (true-or-false (leb c a))
 
   -- the walk on day c found too few, and names a later day
-  pub find-day-next : {c₀ c u n above more : ℕ} → Few c₀ c u → DayScanned t x lo hi c u (size t) (q .k) n above more → n < q .k → Few c₀ above u × (c < above) × ((above ≤ hi) ⊎ (above ≡ never))
+  pub find-day-next : {c₀ c u n above more : ℕ}
+      → Few c₀ c u
+      → DayScanned t x lo hi c u (size t) (q .k) n above more
+      → n < q .k
+      → Few c₀ above u × (c < above) × ((above ≤ hi) ⊎ (above ≡ never))
   find-day-next F (DayScanned.full h k) m = absurd (omega arith)
   find-day-next F (DayScanned.scanned W) m = (few-next F W m, W .rises, W .day)
 
   -- on which it has enough
-  pub find-day-then : {c₀ c u n above more m : ℕ} → Few c₀ c u → c₀ ≤ c → DayScanned t x lo hi c u (size t) (q .k) n above more → n < q .k → (above ≡ never → ⊥) → q .k ≤ n + more → m ≡ n + more + 1 - q .k → DayFound t x s (q .k) hi c₀ u above m
+  pub find-day-then : {c₀ c u n above more m : ℕ}
+      → Few c₀ c u
+      → c₀ ≤ c
+      → DayScanned t x lo hi c u (size t) (q .k) n above more
+      → n < q .k
+      → (above ≡ never → ⊥)
+      → q .k ≤ n + more
+      → m ≡ n + more + 1 - q .k
+      → DayFound t x s (q .k) hi c₀ u above m
   find-day-then F o (DayScanned.full h k) few some enough e = absurd (omega arith)
   find-day-then {c₀} {c} {u} {n} {above} F o (DayScanned.scanned W) few some enough e =
       let g = backers-are t q s hi lo S x above u in
       let r = W .rises in
       ⊎-elim (λ w. absurd (some w)) (λ w.
-      record { least = record { from = omega arith; fewer = few-next F W few; enough = _⊎_.inr (⊎-elim (λ y. y) (λ y. absurd (some y)) (W .day), omega arith) }; known = omega arith; enough = _⊎_.inr (omega arith) }) (W .then)
+      record {
+        least =
+            record {
+              from = omega arith;
+              fewer = few-next F W few;
+              enough = _⊎_.inr (⊎-elim (λ y. y) (λ y. absurd (some y)) (W .day), omega arith);
+            };
+        known = omega arith;
+        enough = _⊎_.inr (omega arith);
+      })
+      (W .then)
 
   -- or it found enough at once
-  pub find-day-found : {c₀ c u n above more m : ℕ} → Few c₀ c u → c₀ ≤ c → DayScanned t x lo hi c u (size t) (q .k) n above more → q .k ≤ n → c ≤ hi → m ≡ n + 1 - q .k → DayFound t x s (q .k) hi c₀ u c m
+  pub find-day-found : {c₀ c u n above more m : ℕ}
+      → Few c₀ c u
+      → c₀ ≤ c
+      → DayScanned t x lo hi c u (size t) (q .k) n above more
+      → q .k ≤ n
+      → c ≤ hi
+      → m ≡ n + 1 - q .k
+      → DayFound t x s (q .k) hi c₀ u c m
   find-day-found {c₀} {c} {u} {n} {m = m} F o G h top e =
       let g = backers-are t q s hi lo S x c u in
       let b : n ≤ backers t x lo c u (size t) = counted G in
@@ -75,11 +116,21 @@ module _ (t : Table) (q : Query) (s hi lo : ℕ) (S : Setting t q s hi lo) (x : 
   pub short-start : (c u : ℕ) → (c ≤ hi) ⊎ (c ≡ never) → Short t x s (q .k) hi c u c
   short-start c u h = record { from = le-refl c; day = h; fewer = few-start c u }
 
-  pub short-next : {c₀ c u n above more : ℕ} → Short t x s (q .k) hi c₀ u c → DayScanned t x lo hi c u (size t) (q .k) n above more → n < q .k → Short t x s (q .k) hi c₀ u above
+  pub short-next : {c₀ c u n above more : ℕ}
+      → Short t x s (q .k) hi c₀ u c
+      → DayScanned t x lo hi c u (size t) (q .k) n above more
+      → n < q .k
+      → Short t x s (q .k) hi c₀ u above
   short-next H G m = let L = find-day-next (H .fewer) G m in record { from = let a = L .1 in let b = H .from in omega arith; day = L .2; fewer = L .0 }
 
   -- one walk, and it has enough on the day above
-  pub find-day-near : {c u n above more both m : ℕ} → DayScanned t x lo hi c u (size t) (q .k) n above more → n < q .k → both ≡ n + more → SlackAbove above both (q .k) m → (m ≡ 0 → ⊥) → DayFound t x s (q .k) hi c u above m
+  pub find-day-near : {c u n above more both m : ℕ}
+      → DayScanned t x lo hi c u (size t) (q .k) n above more
+      → n < q .k
+      → both ≡ n + more
+      → SlackAbove above both (q .k) m
+      → (m ≡ 0 → ⊥)
+      → DayFound t x s (q .k) hi c u above m
   find-day-near {c} {u} G few e (SlackAbove.none h k) o = let L = find-day-next (few-start c u) G few in find-day-never (L .0) (let a = L .1 in omega arith) h k
   find-day-near {c} {u} G few e (SlackAbove.some h k i) o = find-day-then (few-start c u) (le-refl c) G few h (omega arith) (omega arith)
   find-day-near G few e (SlackAbove.few h k i) o = absurd (o i)

@@ -1,7 +1,9 @@
 -- The fixpoint on which the engine rests. An estimate x gives each account a day or never.
 --     Lower t q hi s x         x is at most each account's core time: x u ≤ c wherever u is met in the ring of [s, c]
 --     Closed t q s x u         x u is never, or u has at least k supporters at x u
---     enough                   where x is lower, an account met in the ring of [s, c] has at least k supporters at c. So an account that has fewer at x u is not met in the ring of [s, x u], and x u may rise and stay lower
+--     enough                   where x is lower, an account met in the ring of [s, c] has at least k supporters at c.
+--                              So an account that has fewer at x u is not met in the ring of [s, x u], and x u may
+--                              rise and stay lower
 --     closed-met               where x is closed everywhere, an account with x u ≤ hi is met in the ring of [s, x u]
 --     fixpoint                 lower and closed everywhere: x is the core times
 --     times-lower, times-closed, lower-next    the core times at s are lower and closed, and are lower at a later start
@@ -24,7 +26,8 @@ use Rattle.rings.specs.Inner.Adjacency.{opensBy}
 use Rattle.rings.specs.Inner.Support.{backs, supports, supporters}
 use Rattle.rings.specs.declared.Query.{Query}
 use Rattle.rings.proofs.WordLaws.{and-i, and-l, and-r, some-i, some-e, count-mono, count-some, marked-tabulate-e, marked-tabulate-i}
-use Rattle.rings.proofs.RingLaws.{window-i, touch-cases, joins-cases, joins-touch, met-i, met-e, met-mono, neighbour-i, neighbour-e, ring-degree, ring-holds, ring-grows, in-marked}
+use Rattle.rings.proofs.RingLaws.{window-i, touch-cases, joins-cases, joins-touch, met-i, met-e, met-mono}
+use Rattle.rings.proofs.RingLaws.{neighbour-i, neighbour-e, ring-degree, ring-holds, ring-grows, in-marked}
 use Rattle.rings.proofs.LeadLaws.{Opens, opens-e, opens-i, ring-opens, open-own}
 use Rattle.rings.proofs.CoreTimeLaws.{Time, account-time, account-reach-i, account-reach-e, time-day}
 
@@ -100,7 +103,11 @@ module _ (t : Table) (q : Query) (hi s : ℕ) (x : ℕ → ℕ) where
         let a = leb (x (firstOf t j)) c in
         let b = leb (x (secondOf t j)) c in
         let r = and-r d (a and b) h in
-        record { opens = opens-e t s c j (and-l d (a and b) h); one = leb-true (x (firstOf t j)) c (and-l a b r); two = leb-true (x (secondOf t j)) c (and-r a b r) }
+        record {
+          opens = opens-e t s c j (and-l d (a and b) h);
+          one = leb-true (x (firstOf t j)) c (and-l a b r);
+          two = leb-true (x (secondOf t j)) c (and-r a b r);
+        }
 
     held-i : (c j : ℕ) → Held c j → held c j ≡ true
     unfolding held
@@ -119,7 +126,12 @@ module _ (t : Table) (q : Query) (hi s : ℕ) (x : ℕ → ℕ) where
         marked-tabulate-i (held c) (size t) (b .row) (b .below)
         (held-i c (b .row)
         (⊎-elim (λ e. record { opens = o; one = subst (λ (a : ℕ). x a ≤ c) (sym (e .0)) l; two = subst (λ (a : ℕ). x a ≤ c) (sym (e .1)) (omega arith) })
-        (λ e. record { opens = o; one = subst (λ (a : ℕ). x a ≤ c) (sym (e .0)) (omega arith); two = subst (λ (a : ℕ). x a ≤ c) (sym (e .1)) l }) (joins-cases t (b .row) u v (b .join))))
+        (λ e. record {
+          opens = o;
+          one = subst (λ (a : ℕ). x a ≤ c) (sym (e .0)) (omega arith);
+          two = subst (λ (a : ℕ). x a ≤ c) (sym (e .1)) l;
+        })
+        (joins-cases t (b .row) u v (b .join))))
 
     core-degree : (c u : ℕ) → c ≤ hi → x u ≤ c → q .k ≤ degree t (core c) u
     unfolding supporters degree
@@ -131,7 +143,13 @@ module _ (t : Table) (q : Query) (hi s : ℕ) (x : ℕ → ℕ) where
     core-within : (c : ℕ) → Within (core c) (windowRows t s c)
     unfolding core
     core-within c =
-        record { all = λ j h. let w = marked-tabulate-e (held c) (size t) j h in let y = held-e c j (w .1) in window-i t s c j (record { row = w .0; from = y .opens .from; to = le-trans (open-own t s j) (y .opens .to) }) }
+        record {
+          all = λ j h.
+              let w = marked-tabulate-e (held c) (size t) j h in
+              let y = held-e c j (w .1) in
+              window-i t s c j
+              (record { row = w .0; from = y .opens .from; to = le-trans (open-own t s j) (y .opens .to) });
+        }
 
     core-good : (c : ℕ) → c ≤ hi → Good t q (core c)
     unfolding core
@@ -140,7 +158,9 @@ module _ (t : Table) (q : Query) (hi s : ℕ) (x : ℕ → ℕ) where
           neighbours = λ u m.
               let y = met-e t (core c) u m in
               let z = held-e c (y .row) (marked-tabulate-e (held c) (size t) (y .row) (y .has) .1) in
-              core-degree c u h (⊎-elim (λ e. subst (λ (a : ℕ). x a ≤ c) e (z .one)) (λ e. subst (λ (a : ℕ). x a ≤ c) e (z .two)) (touch-cases t (y .row) u (y .touch)));
+              core-degree c u h
+              (⊎-elim (λ e. subst (λ (a : ℕ). x a ≤ c) e (z .one)) (λ e. subst (λ (a : ℕ). x a ≤ c) e (z .two))
+              (touch-cases t (y .row) u (y .touch)));
         }
 
     -- (B)
@@ -150,7 +170,9 @@ module _ (t : Table) (q : Query) (hi s : ℕ) (x : ℕ → ℕ) where
         let w = count-some (supports t x s (x u) u) (names t) (le-trans k (closed-enough u h)) in
         let b = supports-e t x s (x u) u (w .it) (w .has) in
         met-i t (ring t q s (x u)) (b .row) u (b .below)
-        (ring-holds t q s (x u) (core (x u)) (core-within (x u)) (core-good (x u) h) .all (b .row) (core-row (x u) u (w .it) (le-refl (x u)) b)) (joins-touch t (b .row) u (w .it) (b .join) .0)
+        (ring-holds t q s (x u) (core (x u)) (core-within (x u)) (core-good (x u) h) .all (b .row)
+        (core-row (x u) u (w .it) (le-refl (x u)) b))
+        (joins-touch t (b .row) u (w .it) (b .join) .0)
 
     -- the supporting payment shows that x u is a day of the range
     closed-from : 1 ≤ q .k → (u : ℕ) → x u ≤ hi → s ≤ x u
@@ -173,7 +195,9 @@ module _ (t : Table) (q : Query) (hi s : ℕ) (x : ℕ → ℕ) where
             let d = time-day {s = s} {hi = hi} fits y (omega arith) in
             le-antisymm (low .under u a (d .0) (d .1) (account-reach-e t q hi s fits u a (d .1) (le-refl a))) r
         go (_⊎_.inr n) (_⊎_.inl m) = n ∙ sym m
-        go (_⊎_.inr n) (_⊎_.inr d) = let r : x u ≤ a = low .under u a (d .0) (d .1) (account-reach-e t q hi s fits u a (d .1) (le-refl a)) in let e = d .1 in absurd (omega arith)
+        go (_⊎_.inr n) (_⊎_.inr d) =
+            let r : x u ≤ a = low .under u a (d .0) (d .1) (account-reach-e t q hi s fits u a (d .1) (le-refl a)) in
+            let e = d .1 in absurd (omega arith)
 
 module _ (t : Table) (q : Query) (hi s : ℕ) (fits : hi < never) where
   pub times-lower : Lower t q hi s (accountTime t q hi s)
@@ -183,7 +207,10 @@ module _ (t : Table) (q : Query) (hi s : ℕ) (fits : hi < never) where
   times-closed u =
       record {
         enough-or-never =
-            ⊎-elim _⊎_.inl (λ d. _⊎_.inr (enough t q hi s (accountTime t q hi s) times-lower u (accountTime t q hi s u) (d .0) (d .1) (account-reach-e t q hi s fits u (accountTime t q hi s u) (d .1) (le-refl (accountTime t q hi s u)))))
+            ⊎-elim _⊎_.inl
+            (λ d. _⊎_.inr
+            (enough t q hi s (accountTime t q hi s) times-lower u (accountTime t q hi s u) (d .0) (d .1)
+            (account-reach-e t q hi s fits u (accountTime t q hi s u) (d .1) (le-refl (accountTime t q hi s u)))))
             (account-time t q hi s u);
       }
 

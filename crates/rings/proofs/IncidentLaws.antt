@@ -115,4 +115,6 @@ pub other-sum : {a b u r : ℕ} → (a ≡ u) ⊎ (b ≡ u) → r ≡ a + b - u 
 unfolding pickOther
 other-sum {a} {b} {u} {r} h e =
     ⊎-elim (λ y. let g : r ≡ b = let z = eqb-true a u y in omega arith in g ∙ ap (λ (c : Bool). pickOther c a b) (sym y))
-    (λ y. let g : r ≡ a = ⊎-elim (λ z. absurd (eqb-false a u y z)) (λ z. omega arith) h in g ∙ ap (λ (c : Bool). pickOther c a b) (sym y)) (true-or-false (eqb a u))
+    (λ y. let g : r ≡ a = ⊎-elim (λ z. absurd (eqb-false a u y z)) (λ z. omega arith) h in
+    g ∙ ap (λ (c : Bool). pickOther c a b) (sym y))
+    (true-or-false (eqb a u))

@@ -12,7 +12,9 @@
 --     open-is                      a row by which its pair counts opens on its own day
 --     lead-opens                   a leading row dated by day c opens by c
 --     LeadBy, open-lead            the pair of a row that opens by c has a leading row dated by c
--- Here one row is enough for a pair to count. Where h rows are asked for (02, S-7), the definitions change and these laws are proved anew, in the same words; so are two-met (RingLaws) and row-max (CoreTimeLaws), on which opens-ring and row-opens rest.
+-- Here one row is enough for a pair to count. Where h rows are asked for (02, S-7), the definitions change and these
+-- laws are proved anew, in the same words; so are two-met (RingLaws) and row-max (CoreTimeLaws), on which opens-ring
+-- and row-opens rest.
 -- Four of them hold for one row alone, counts-here, lead-alone, open-day and day-opens: who cites these needs another argument then.
 -- Assumes nothing.
 use Prim.Native.Nat.{ℕ, zero, suc, max, _≤_, _<_, zero-le}
@@ -64,20 +66,28 @@ lead-alone t lo j h k = ap (λ (c : ℕ). leb c lo) k ∙ ap (λ (y : Bool). y a
 
 pub lead-on : (t : Table) {lo next : ℕ} → lo ≤ next → (j : ℕ) → pairCounts t next j ≡ true → leads t lo j ≡ true → leads t next j ≡ true
 unfolding leads
-lead-on t {lo} {next} up j h k = and-i h (le-leb (earlier t j) next (le-trans (leb-true (earlier t j) lo (and-r (pairCounts t lo j) (leb (earlier t j) lo) k)) up))
+lead-on t {lo} {next} up j h k =
+    and-i h
+    (le-leb (earlier t j) next
+    (le-trans (leb-true (earlier t j) lo (and-r (pairCounts t lo j) (leb (earlier t j) lo) k)) up))
 
 -- no row from lo on joins the pair
 before-e : (t : Table) (a b lo n : ℕ) → pairBefore t a b n ≤ lo → (i : ℕ) → lo ≤ i → i < n → joins t i a b ≡ false
 before-e t a b lo zero h i l k = absurd (not-suc-le-zero k)
 before-e t a b lo (suc n) h i l k =
     ⊎-elim (λ y. let e = before-yes t a b n y in absurd (omega arith))
-    (λ y. ⊎-elim (λ e. subst (λ (x : ℕ). joins t x a b ≡ false) (sym e) y) (λ o. before-e t a b lo n (rw (before-no t a b n y) at h) i l o) (eq-or-lt-of-le (native.Mathlib.Nat.le-of-suc-le-suc k))) (true-or-false (joins t n a b))
+    (λ y. ⊎-elim (λ e. subst (λ (x : ℕ). joins t x a b ≡ false) (sym e) y)
+    (λ o. before-e t a b lo n (rw (before-no t a b n y) at h) i l o)
+    (eq-or-lt-of-le (native.Mathlib.Nat.le-of-suc-le-suc k)))
+    (true-or-false (joins t n a b))
 
 before-i : (t : Table) (a b lo n : ℕ) → ((i : ℕ) → lo ≤ i → i < n → joins t i a b ≡ false) → pairBefore t a b n ≤ lo
 unfolding pairBefore
 before-i t a b lo zero f = zero-le
 before-i t a b lo (suc n) f =
-    ⊎-elim (λ y. rw (before-yes t a b n y) (⊎-elim (λ l. clash y (f n (leb-true lo n l) (le-refl (suc n)))) (λ l. let k = leb-false lo n l in omega arith) (true-or-false (leb lo n))))
+    ⊎-elim (λ y. rw (before-yes t a b n y)
+    (⊎-elim (λ l. clash y (f n (leb-true lo n l) (le-refl (suc n))))
+    (λ l. let k = leb-false lo n l in omega arith) (true-or-false (leb lo n))))
     (λ y. rw (before-no t a b n y) (before-i t a b lo n (λ i l k. f i l (omega arith)))) (true-or-false (joins t n a b))
 
 record Lead (t : Table) (lo j : ℕ) : Type 0 where
@@ -92,12 +102,17 @@ lead-e t lo j h =
 
 lead-i : (t : Table) (lo j : ℕ) → Lead t lo j → leads t lo j ≡ true
 unfolding leads earlier
-lead-i t lo j f = and-i (counts-here t lo j (f .from)) (le-leb (pairBefore t (firstOf t j) (secondOf t j) j) lo (before-i t (firstOf t j) (secondOf t j) lo j (f .none-before)))
+lead-i t lo j f =
+    and-i (counts-here t lo j (f .from))
+    (le-leb (pairBefore t (firstOf t j) (secondOf t j) j) lo
+    (before-i t (firstOf t j) (secondOf t j) lo j (f .none-before)))
 
 -- of two leading rows that join the same accounts neither is earlier
 pub lead-one : (t : Table) (lo i j u v : ℕ) → leads t lo i ≡ true → leads t lo j ≡ true → joins t i u v ≡ true → joins t j u v ≡ true → i ≡ j
 lead-one t lo i j u v f g h k =
-    ⊎-elim (λ l. ⊎-elim (λ e. e) (λ o. clash (pair-joins t i j u v k h) (lead-e t lo j g .none-before i (lead-e t lo i f .from) o)) (eq-or-lt-of-le (leb-true i j l)))
+    ⊎-elim (λ l. ⊎-elim (λ e. e)
+    (λ o. clash (pair-joins t i j u v k h) (lead-e t lo j g .none-before i (lead-e t lo i f .from) o))
+    (eq-or-lt-of-le (leb-true i j l)))
     (λ l. clash (pair-joins t j i u v h k) (lead-e t lo i f .none-before j (lead-e t lo j g .from) (leb-false i j l))) (true-or-false (leb i j))
 
 record LeadRow (t : Table) (lo i u v : ℕ) : Type 0 where
@@ -111,15 +126,35 @@ first-lead : (t : Table) (lo i u v : ℕ) → lo ≤ i → joins t i u v ≡ tru
 first-lead t lo i u v l h = go i i (le-refl i) l h
   where
     lead-here : (i : ℕ) → lo ≤ i → joins t i u v ≡ true → ((n : ℕ) → lo ≤ n → n < i → joins t n u v ≡ false) → LeadRow t lo i u v
-    lead-here i l h f = record { row = i; at-most = le-refl i; is-lead = lead-i t lo i (record { from = l; none-before = λ n a b. ⊎-elim (λ y. clash (joins-pair t n i u v h y) (f n a b)) (λ y. y) (true-or-false (joins t n (firstOf t i) (secondOf t i))) }); join = h }
+    lead-here i l h f =
+        record {
+          row = i;
+          at-most = le-refl i;
+          is-lead =
+              lead-i t lo i
+              (record {
+                from = l;
+                none-before = λ n a b. ⊎-elim (λ y. clash (joins-pair t n i u v h y) (f n a b)) (λ y. y)
+                    (true-or-false (joins t n (firstOf t i) (secondOf t i)));
+              });
+          join = h;
+        }
 
     weaker : {m n : ℕ} → m ≤ n → LeadRow t lo m u v → LeadRow t lo n u v
     weaker {m} {n} o w = record { row = w .row; at-most = le-trans (w .at-most) o; is-lead = w .is-lead; join = w .join }
 
     go : (n i : ℕ) → i ≤ n → lo ≤ i → joins t i u v ≡ true → LeadRow t lo i u v
     go zero i o l h = lead-here i l h (λ m a b. absurd (omega arith))
-    go (suc n) i o l h = ⊎-elim (λ y. let w = some-e earlier-row i y in let lw : lo ≤ w .it = leb-true lo (w .it) (and-l (leb lo (w .it)) (joins t (w .it) u v) (w .has)) in let b = w .below in weaker (omega arith) (go n (w .it) (omega arith) lw (and-r (leb lo (w .it)) (joins t (w .it) u v) (w .has))))
-        (λ y. lead-here i l h (λ m a b. ⊎-elim (λ z. clash (and-i (le-leb lo m a) z) (some-none earlier-row i y m b)) (λ z. z) (true-or-false (joins t m u v)))) (true-or-false (some earlier-row i))
+    go (suc n) i o l h =
+        ⊎-elim (λ y.
+        let w = some-e earlier-row i y in
+        let lw : lo ≤ w .it = leb-true lo (w .it) (and-l (leb lo (w .it)) (joins t (w .it) u v) (w .has)) in
+        let b = w .below in
+        weaker (omega arith) (go n (w .it) (omega arith) lw (and-r (leb lo (w .it)) (joins t (w .it) u v) (w .has))))
+        (λ y. lead-here i l h
+        (λ m a b. ⊎-elim (λ z. clash (and-i (le-leb lo m a) z) (some-none earlier-row i y m b)) (λ z. z)
+        (true-or-false (joins t m u v))))
+        (true-or-false (some earlier-row i))
       where
         earlier-row : ℕ → Bool
         earlier-row m = leb lo m and joins t m u v
@@ -139,7 +174,11 @@ pub record Opens (t : Table) (s e j : ℕ) : Type 0 where
 
 pub opens-e : (t : Table) (s e j : ℕ) → opensBy t s e j ≡ true → Opens t s e j
 unfolding opensBy
-opens-e t s e j h = record { from = leb-true s (dayOf t j) (and-l (leb s (dayOf t j)) (leb (openDay t s j) e) h); to = leb-true (openDay t s j) e (and-r (leb s (dayOf t j)) (leb (openDay t s j) e) h) }
+opens-e t s e j h =
+    record {
+      from = leb-true s (dayOf t j) (and-l (leb s (dayOf t j)) (leb (openDay t s j) e) h);
+      to = leb-true (openDay t s j) e (and-r (leb s (dayOf t j)) (leb (openDay t s j) e) h);
+    }
 
 pub day-opens : (t : Table) (s e j : ℕ) → s ≤ dayOf t j → dayOf t j ≤ e → Opens t s e j
 day-opens t s e j a b = let d = open-day t s j in record { from = a; to = omega arith }
@@ -160,8 +199,15 @@ module _ (t : Table) (q : Query) (s e j : ℕ) where
 
 -- a row's core time is the greatest of its accounts' and the day on which it opens
 module _ (t : Table) (q : Query) (hi s : ℕ) where
-  pub row-opens : hi < never → (j : ℕ) → j < size t → Opens t s hi j → rowTime t q hi s j ≡ max (max (accountTime t q hi s (firstOf t j)) (accountTime t q hi s (secondOf t j))) (openDay t s j)
-  row-opens fits j l o = let d = open-day t s j in let e = o .to in let m = row-max t q hi s fits j (record { row = l; from = o .from; to = omega arith }) in omega arith
+  pub row-opens : hi < never
+      → (j : ℕ) → j < size t
+      → Opens t s hi j
+      → rowTime t q hi s j
+      ≡ max (max (accountTime t q hi s (firstOf t j)) (accountTime t q hi s (secondOf t j))) (openDay t s j)
+  row-opens fits j l o =
+      let d = open-day t s j in
+      let e = o .to in
+      let m = row-max t q hi s fits j (record { row = l; from = o .from; to = omega arith }) in omega arith
 
   pub row-shut : (j : ℕ) → (Opens t s hi j → ⊥) → rowTime t q hi s j ≡ never
   row-shut j f = row-outside t q hi s j (λ i. f (day-opens t s hi j (i .from) (i .to)))
@@ -192,4 +238,7 @@ module _ (t : Table) (q : Query) (s hi lo : ℕ) (S : Setting t q s hi lo) where
       record { row = f .row; below = omega arith; is-lead = f .is-lead; join = f .join; by = omega arith }
     where
       from : lo ≤ i
-      from = ⊎-elim (λ y. leb-true lo i y) (λ y. let k = S .before-lo i (leb-false lo i y) in let a = o .from in absurd (omega arith)) (true-or-false (leb lo i))
+      from =
+          ⊎-elim (λ y. leb-true lo i y)
+          (λ y. let k = S .before-lo i (leb-false lo i y) in let a = o .from in absurd (omega arith))
+          (true-or-false (leb lo i))

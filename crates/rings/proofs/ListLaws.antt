@@ -12,7 +12,10 @@ use native.Mathlib.Omega.{arith}
 use mathlib.Core.Path.{_≡_, refl, sym, _∙_, ap, subst}
 use mathlib.Core.Logic.{_⊎_, ⊎-elim}
 use mathlib.Core.Bool.{Bool, true, false}
-use mathlib.Core.List.{List, [], _∷_, _++_, map, List·Memᴰ as Mem, List·Memᴰ·head as here, List·Memᴰ·tail as there, List·Memᴰ·not-nil as not-nil, List·Memᴰ·cases-cons as cases-cons, List·Memᴰ·append-cases as append-cases, Memᴰ·append-left as append-left, Memᴰ·append-right as append-right, flatten}
+use mathlib.Core.List.{List, [], _∷_, _++_, map, List·Memᴰ as Mem, List·Memᴰ·head as here, List·Memᴰ·tail as there}
+use mathlib.Core.List.{List·Memᴰ·not-nil as not-nil, List·Memᴰ·cases-cons as cases-cons}
+use mathlib.Core.List.{List·Memᴰ·append-cases as append-cases, Memᴰ·append-left as append-left}
+use mathlib.Core.List.{Memᴰ·append-right as append-right, flatten}
 use Rattle.rings.specs.Words.{_or_, tabulate, consIf, filterBy, any, Pairwise}
 use Rattle.rings.specs.Words.Pairwise.{none, more}
 use Rattle.rings.proofs.WordLaws.{true-or-false, clash, or-l, or-r, or-e}
@@ -37,7 +40,12 @@ module _ {A : Type 0} where
   tabulate-mem f i zero m = absurd (not-nil m)
   tabulate-mem f i (suc n) m =
       ⊎-elim (λ e. record { it = i; from = le-refl i; below = omega arith; is = e })
-      (λ r. let w = tabulate-mem f (suc i) n r in let a = w .from in let b = w .below in record { it = w .it; from = omega arith; below = omega arith; is = w .is }) (cases-cons m)
+      (λ r.
+      let w = tabulate-mem f (suc i) n r in
+      let a = w .from in
+      let b = w .below in
+      record { it = w .it; from = omega arith; below = omega arith; is = w .is })
+      (cases-cons m)
 
   pub mem-flatten : {xs : List A} {xss : List (List A)} {x : A} → Mem xs xss → Mem x xs → Mem x (flatten xss)
   unfolding flatten
@@ -81,13 +89,17 @@ module _ {A : Type 0} where
   mem-filterBy p [] m h = absurd (not-nil m)
   mem-filterBy p (y ∷ ys) {x} m h =
       ⊎-elim (λ e. subst (Mem x) (sym (filterBy-yes p y ys (subst (λ (z : A). p z ≡ true) e h))) (here e))
-      (λ r. ⊎-elim (λ a. subst (Mem x) (sym (filterBy-yes p y ys a)) (there (mem-filterBy p ys r h))) (λ a. subst (Mem x) (sym (filterBy-no p y ys a)) (mem-filterBy p ys r h)) (true-or-false (p y))) (cases-cons m)
+      (λ r. ⊎-elim (λ a. subst (Mem x) (sym (filterBy-yes p y ys a)) (there (mem-filterBy p ys r h)))
+      (λ a. subst (Mem x) (sym (filterBy-no p y ys a)) (mem-filterBy p ys r h)) (true-or-false (p y)))
+      (cases-cons m)
 
   pub filterBy-mem : (p : A → Bool) (xs : List A) {x : A} → Mem x (filterBy p xs) → Mem x xs × (p x ≡ true)
   unfolding filterBy
   filterBy-mem p [] m = absurd (not-nil m)
   filterBy-mem p (y ∷ ys) {x} m =
-      ⊎-elim (λ a. ⊎-elim (λ e. (here e, subst (λ (z : A). p z ≡ true) (sym e) a)) (λ r. let w = filterBy-mem p ys r in (there (w .0), w .1)) (cases-cons (subst (Mem x) (consIf-yes y (filterBy p ys) a) m)))
+      ⊎-elim (λ a. ⊎-elim (λ e. (here e, subst (λ (z : A). p z ≡ true) (sym e) a))
+      (λ r. let w = filterBy-mem p ys r in (there (w .0), w .1))
+      (cases-cons (subst (Mem x) (consIf-yes y (filterBy p ys) a) m)))
       (λ a. let w = filterBy-mem p ys (subst (Mem x) (consIf-no y (filterBy p ys) a) m) in (there (w .0), w .1)) (true-or-false (p y))
 
   pub any-i : (p : A → Bool) (xs : List A) (x : A) → Mem x xs → p x ≡ true → any p xs ≡ true
@@ -105,7 +117,9 @@ module _ {A : Type 0} where
   unfolding any
   any-e p [] h = clash refl (sym h)
   any-e p (y ∷ ys) h =
-      ⊎-elim (λ a. record { it = y; member = here refl; has = a }) (λ a. let w = any-e p ys a in record { it = w .it; member = there (w .member); has = w .has }) (or-e (p y) (any p ys) h)
+      ⊎-elim (λ a. record { it = y; member = here refl; has = a })
+      (λ a. let w = any-e p ys a in record { it = w .it; member = there (w .member); has = w .has })
+      (or-e (p y) (any p ys) h)
 
   -- ---- order
 
@@ -114,7 +128,11 @@ module _ {A : Type 0} where
     unfolding tabulate
     pair-tabulate f i zero h = none
     pair-tabulate f i (suc n) h =
-        more (λ y m. let w = tabulate-mem f (suc i) n m in let a = w .from in let b = w .below in subst (R (f i)) (sym (w .is)) (h i (w .it) (le-refl i) a (omega arith)))
+        more (λ y m.
+        let w = tabulate-mem f (suc i) n m in
+        let a = w .from in
+        let b = w .below in
+        subst (R (f i)) (sym (w .is)) (h i (w .it) (le-refl i) a (omega arith)))
         (pair-tabulate f (suc i) n (λ a b l k o. h a b (omega arith) k (omega arith)))
 
     pair-append : (xs ys : List A) → Pairwise R xs → Pairwise R ys → ((x y : A) → Mem x xs → Mem y ys → R x y) → Pairwise R (xs ++ ys)
@@ -122,11 +140,15 @@ module _ {A : Type 0} where
     pair-append (x ∷ xs) ys (more f p) q h =
         more (λ y m. ⊎-elim (f y) (λ b. h x y (here refl) b) (append-cases xs m)) (pair-append xs ys p q (λ a b m n. h a b (there m) n))
 
-    pub pair-flatten : (xss : List (List A)) → ((xs : List A) → Mem xs xss → Pairwise R xs) → Pairwise (λ xs ys. (x y : A) → Mem x xs → Mem y ys → R x y) xss → Pairwise R (flatten xss)
+    pub pair-flatten : (xss : List (List A))
+        → ((xs : List A) → Mem xs xss → Pairwise R xs)
+        → Pairwise (λ xs ys. (x y : A) → Mem x xs → Mem y ys → R x y) xss
+        → Pairwise R (flatten xss)
     unfolding flatten
     pair-flatten [] h p = none
     pair-flatten (xs ∷ xss) h (more f p) =
-        pair-append xs (flatten xss) (h xs (here refl)) (pair-flatten xss (λ ys m. h ys (there m)) p) (λ x y m n. let w = flatten-mem xss n in f (w .part) (w .is-part) x y m (w .has))
+        pair-append xs (flatten xss) (h xs (here refl)) (pair-flatten xss (λ ys m. h ys (there m)) p)
+        (λ x y m n. let w = flatten-mem xss n in f (w .part) (w .is-part) x y m (w .has))
 
     pub pair-filterBy : (p : A → Bool) (xs : List A) → Pairwise R xs → Pairwise R (filterBy p xs)
     pair-filterBy p [] q = subst (Pairwise R) (sym (filterBy-nil p)) none
@@ -135,13 +157,21 @@ module _ {A : Type 0} where
         (λ a. subst (Pairwise R) (sym (filterBy-no p x xs a)) (pair-filterBy p xs q)) (true-or-false (p x))
 
     -- two lists in one strict order with the same members are one
-    pub pair-unique : ((x y : A) → R x y → R y x → ⊥) → (xs ys : List A) → Pairwise R xs → Pairwise R ys → ((x : A) → Mem x xs → Mem x ys) → ((x : A) → Mem x ys → Mem x xs) → xs ≡ ys
+    pub pair-unique : ((x y : A) → R x y → R y x → ⊥)
+        → (xs ys : List A) → Pairwise R xs
+        → Pairwise R ys
+        → ((x : A) → Mem x xs → Mem x ys)
+        → ((x : A) → Mem x ys → Mem x xs)
+        → xs ≡ ys
     pair-unique strict [] [] p q f g = refl
     pair-unique strict [] (y ∷ ys) p q f g = absurd (not-nil (g y (here refl)))
     pair-unique strict (x ∷ xs) [] p q f g = absurd (not-nil (f x (here refl)))
     pair-unique strict (x ∷ xs) (y ∷ ys) (more a p) (more b q) f g =
         let e : x ≡ y = heads (cases-cons (f x (here refl))) (cases-cons (g y (here refl))) in
-        cons e (pair-unique strict xs ys p q (λ z m. ⊎-elim (λ r. absurd (self z (a z m) (r ∙ sym e))) (λ r. r) (cases-cons (f z (there m)))) (λ z m. ⊎-elim (λ r. absurd (self′ z (b z m) (r ∙ e))) (λ r. r) (cases-cons (g z (there m)))))
+        cons e
+        (pair-unique strict xs ys p q
+        (λ z m. ⊎-elim (λ r. absurd (self z (a z m) (r ∙ sym e))) (λ r. r) (cases-cons (f z (there m))))
+        (λ z m. ⊎-elim (λ r. absurd (self′ z (b z m) (r ∙ e))) (λ r. r) (cases-cons (g z (there m)))))
       where
         heads : (x ≡ y) ⊎ Mem x ys → (y ≡ x) ⊎ Mem y xs → x ≡ y
         heads (_⊎_.inl e) h = e
@@ -175,7 +205,9 @@ module _ {A B : Type 0} (g : A → B) where
   pub map-mem : (xs : List A) {y : B} → Mem y (map g xs) → FromMap xs y
   map-mem [] m = absurd (not-nil m)
   map-mem (x ∷ xs) m =
-      ⊎-elim (λ e. record { it = x; member = here refl; is = e }) (λ r. let w = map-mem xs r in record { it = w .it; member = there (w .member); is = w .is }) (cases-cons m)
+      ⊎-elim (λ e. record { it = x; member = here refl; is = e })
+      (λ r. let w = map-mem xs r in record { it = w .it; member = there (w .member); is = w .is })
+      (cases-cons m)
 
   pub pair-map : (R : B → B → Type 0) (xs : List A) → Pairwise (λ a b. R (g a) (g b)) xs → Pairwise R (map g xs)
   pair-map R [] p = none

@@ -30,7 +30,10 @@ pub record Partner (r : ℕ → Bool) (R : ℕ → ℕ → Type 0) (m i : ℕ) :
   pub has : r it ≡ true
   pub to : R i it
 
-pub count-inject : (p : ℕ → Bool) (n : ℕ) (r : ℕ → Bool) (m : ℕ) (R : ℕ → ℕ → Type 0) → ((i : ℕ) → i < n → p i ≡ true → Partner r R m i) → ((i i′ j : ℕ) → R i j → R i′ j → i ≡ i′) → count p n ≤ count r m
+pub count-inject : (p : ℕ → Bool) (n : ℕ) (r : ℕ → Bool) (m : ℕ) (R : ℕ → ℕ → Type 0)
+    → ((i : ℕ) → i < n → p i ≡ true → Partner r R m i)
+    → ((i i′ j : ℕ) → R i j → R i′ j → i ≡ i′)
+    → count p n ≤ count r m
 unfolding count
 count-inject p zero r m R f one = zero-le
 count-inject p (suc n) r m R f one =
@@ -38,7 +41,18 @@ count-inject p (suc n) r m R f one =
     let w = f n (le-refl (suc n)) a in
     let left : ℕ → Bool = λ j. r j and no (eqb j (w .it)) in
     let less : count left m < count r m = count-less left r m (w .it) (λ j l h. and-l (r j) (no (eqb j (w .it))) h) (w .below) (off (w .it)) (w .has) in
-    let most : count p n ≤ count left m = count-inject p n left m R (λ i l h. let v = f i (omega arith) h in record { it = v .it; below = v .below; has = and-i (v .has) (no-i (ne-eqb (v .it) (w .it) (λ e. let q : i ≡ n = one i n (w .it) (subst (R i) e (v .to)) (w .to) in omega arith))); to = v .to }) one in
+    let most : count p n ≤ count left m = count-inject p n left m R
+    (λ i l h. let v = f i (omega arith) h in
+    record {
+      it = v .it;
+      below = v .below;
+      has =
+          and-i (v .has)
+          (no-i (ne-eqb (v .it) (w .it)
+          (λ e. let q : i ≡ n = one i n (w .it) (subst (R i) e (v .to)) (w .to) in omega arith)));
+      to = v .to;
+    })
+    one in
     rw (sucIf-yes (count p n) a) (omega arith))
     (λ a. rw (sucIf-no (count p n) a) (count-inject p n r m R (λ i l h. f i (omega arith) h) one)) (true-or-false (p n))
   where
@@ -55,7 +69,8 @@ count-drop p p′ (suc n) j l a b f =
     (λ k.
     let s : count p n ≡ suc (count p′ n) = count-drop p p′ n j k a b f in
     let g : p′ n ≡ p n = f n (λ x. omega arith) in
-    ⊎-elim (λ y. sucIf-yes (count p n) y ∙ ap suc (s ∙ sym (sucIf-yes (count p′ n) (g ∙ y)))) (λ y. sucIf-no (count p n) y ∙ (s ∙ ap suc (sym (sucIf-no (count p′ n) (g ∙ y))))) (true-or-false (p n)))
+    ⊎-elim (λ y. sucIf-yes (count p n) y ∙ ap suc (s ∙ sym (sucIf-yes (count p′ n) (g ∙ y))))
+    (λ y. sucIf-no (count p n) y ∙ (s ∙ ap suc (sym (sucIf-no (count p′ n) (g ∙ y))))) (true-or-false (p n)))
     (eq-or-lt-of-le (native.Mathlib.Nat.le-of-suc-le-suc l))
 
 -- ---- the other account of a row
@@ -70,8 +85,12 @@ other-second t j h = ap (λ (b : Bool). pickOther b (firstOf t j) (secondOf t j)
 
 pub joins-i : (t : Table) (j u v : ℕ) → ((firstOf t j ≡ u) × (secondOf t j ≡ v)) ⊎ ((firstOf t j ≡ v) × (secondOf t j ≡ u)) → joins t j u v ≡ true
 unfolding joins
-joins-i t j u v (_⊎_.inl e) = or-l (eqb (firstOf t j) u and eqb (secondOf t j) v) (eqb (firstOf t j) v and eqb (secondOf t j) u) (and-i (eq-eqb (firstOf t j) u (e .0)) (eq-eqb (secondOf t j) v (e .1)))
-joins-i t j u v (_⊎_.inr e) = or-r (eqb (firstOf t j) u and eqb (secondOf t j) v) (eqb (firstOf t j) v and eqb (secondOf t j) u) (and-i (eq-eqb (firstOf t j) v (e .0)) (eq-eqb (secondOf t j) u (e .1)))
+joins-i t j u v (_⊎_.inl e) =
+    or-l (eqb (firstOf t j) u and eqb (secondOf t j) v) (eqb (firstOf t j) v and eqb (secondOf t j) u)
+    (and-i (eq-eqb (firstOf t j) u (e .0)) (eq-eqb (secondOf t j) v (e .1)))
+joins-i t j u v (_⊎_.inr e) =
+    or-r (eqb (firstOf t j) u and eqb (secondOf t j) v) (eqb (firstOf t j) v and eqb (secondOf t j) u)
+    (and-i (eq-eqb (firstOf t j) v (e .0)) (eq-eqb (secondOf t j) u (e .1)))
 
 pub other-apart : (t : Table) (j u : ℕ) → firstOf t j < secondOf t j → touches t j u ≡ true → otherOf t j u ≡ u → ⊥
 other-apart t j u apart h e =
@@ -93,18 +112,27 @@ joins-same t j u v v′ h k =
 pub joins-pair : (t : Table) (i j u v : ℕ) → joins t j u v ≡ true → joins t i (firstOf t j) (secondOf t j) ≡ true → joins t i u v ≡ true
 joins-pair t i j u v h k =
     ⊎-elim (λ a. subst (λ (x : ℕ). joins t i u x ≡ true) (a .1) (subst (λ (x : ℕ). joins t i x (secondOf t j) ≡ true) (a .0) k))
-    (λ a. joins-swap t i v u (subst (λ (x : ℕ). joins t i v x ≡ true) (a .1) (subst (λ (x : ℕ). joins t i x (secondOf t j) ≡ true) (a .0) k))) (joins-cases t j u v h)
+    (λ a. joins-swap t i v u
+    (subst (λ (x : ℕ). joins t i v x ≡ true) (a .1)
+    (subst (λ (x : ℕ). joins t i x (secondOf t j) ≡ true) (a .0) k)))
+    (joins-cases t j u v h)
 
 pub pair-joins : (t : Table) (i j u v : ℕ) → joins t j u v ≡ true → joins t i u v ≡ true → joins t i (firstOf t j) (secondOf t j) ≡ true
 pair-joins t i j u v h k =
     ⊎-elim (λ a. subst (λ (x : ℕ). joins t i (firstOf t j) x ≡ true) (sym (a .1)) (subst (λ (x : ℕ). joins t i x v ≡ true) (sym (a .0)) k))
-    (λ a. subst (λ (x : ℕ). joins t i (firstOf t j) x ≡ true) (sym (a .1)) (subst (λ (x : ℕ). joins t i x u ≡ true) (sym (a .0)) (joins-swap t i u v k))) (joins-cases t j u v h)
+    (λ a. subst (λ (x : ℕ). joins t i (firstOf t j) x ≡ true) (sym (a .1))
+    (subst (λ (x : ℕ). joins t i x u ≡ true) (sym (a .0)) (joins-swap t i u v k)))
+    (joins-cases t j u v h)
 
 -- a row with the account u joins it with the row's other account
 pub joins-other : (t : Table) (j u : ℕ) → firstOf t j < secondOf t j → touches t j u ≡ true → joins t j u (otherOf t j u) ≡ true
 joins-other t j u l h =
-    ⊎-elim (λ e. subst (λ (x : ℕ). joins t j x (otherOf t j x) ≡ true) e (subst (λ (x : ℕ). joins t j (firstOf t j) x ≡ true) (sym (other-first t j)) (joins-ends t j)))
-    (λ e. subst (λ (x : ℕ). joins t j x (otherOf t j x) ≡ true) e (subst (λ (x : ℕ). joins t j (secondOf t j) x ≡ true) (sym (other-second t j l)) (joins-swap t j (firstOf t j) (secondOf t j) (joins-ends t j)))) (touch-cases t j u h)
+    ⊎-elim (λ e. subst (λ (x : ℕ). joins t j x (otherOf t j x) ≡ true) e
+    (subst (λ (x : ℕ). joins t j (firstOf t j) x ≡ true) (sym (other-first t j)) (joins-ends t j)))
+    (λ e. subst (λ (x : ℕ). joins t j x (otherOf t j x) ≡ true) e
+    (subst (λ (x : ℕ). joins t j (secondOf t j) x ≡ true) (sym (other-second t j l))
+    (joins-swap t j (firstOf t j) (secondOf t j) (joins-ends t j))))
+    (touch-cases t j u h)
 
 -- ---- earlier rows of a pair
 

@@ -134,7 +134,9 @@ module _ (d f g : List ℕ) (lo end : ℕ) (order : lo ≤ end) (inside : end �
     unfolding dayOf at
     in-part i w = (
       ⊎-elim (λ y. leb-true lo i y) (λ y. let x = A .before i (leb-false lo i y) in let k = w .from in absurd (omega arith)) (true-or-false (leb lo i)),
-      ⊎-elim (λ y. ltb-true i end y) (λ y. let x = B .after i (ltb-false i end y) (w .row) in let k = w .to in absurd (omega arith)) (true-or-false (ltb i end)),
+      ⊎-elim (λ y. ltb-true i end y)
+          (λ y. let x = B .after i (ltb-false i end y) (w .row) in let k = w .to in absurd (omega arith))
+          (true-or-false (ltb i end)),
     )
 
     of-part : (i : ℕ) → lo ≤ i → i < end → Inside t s e i

@@ -111,7 +111,9 @@ passing-pruned {t} {u} {sc = sc} {sc′ = sc′} small M L =
     record {
       long = let a = passing-long M in let b = L .long in omega arith;
       pairs = λ r l. passing-else M (8192 + 2 * size t + r) (λ z. omega arith) ∙ L .pairs r l;
-      pruned-list = λ v l. ⊎-elim (λ e. subst (λ (c : ℕ). PrunedList t c sc′) (sym e) (passing-pruned-list small (let b = L .long in omega arith) M (L .pruned-list u small)))
+      pruned-list = λ v l.
+          ⊎-elim (λ e. subst (λ (c : ℕ). PrunedList t c sc′) (sym e)
+          (passing-pruned-list small (let b = L .long in omega arith) M (L .pruned-list u small)))
           (λ n.
           pruned-list-same (passing-else M (4096 + v) (λ z. n (omega arith))) (passing-else M v (λ z. omega arith))
           (λ p a b. passing-else M (8192 + p) (λ z. omega arith)) (L .pruned-list v l))

@@ -1,6 +1,8 @@
 -- Laws of peeling: the rows of a removed account are walked (src/peel.rt, `remove_account`).
 --     not-walked        who has not been removed has not been walked; where nobody waits, who was removed was
---     remove-account-start, remove-account-small, remove-account-to, next-small, remove-account-droppable, remove-account-dropped, remove-account-skip, remove-account-end     the walk over the rows of an account that was removed
+--     remove-account-start, remove-account-small, remove-account-to, next-small, remove-account-droppable,
+--     remove-account-dropped, remove-account-skip, remove-account-end     the walk over the rows of an account that
+--     was removed
 -- Assumes nothing.
 use Prim.Native.Nat.{ℕ, _+_, _-_, _≤_, _<_}
 use native.Mathlib.Nat.{le-refl, eq-or-lt-of-le, not-suc-le-zero}
@@ -76,7 +78,10 @@ module _ (t : Table) (frame : Frame) (S : Setting t (frame .query) (frame .start
     remove-account-not = subst (λ (a : ℕ). W .state .walked a ≡ false) (W .at-front) (W .state .queue .waiting-not head (le-refl head) (W .front))
 
     -- rows of u that do not lead are passed over
-    pub remove-account-to : (m : ℕ) → b ≤ m → ((i : ℕ) → b ≤ i → i < m → touches t i u ≡ true → leads t lo i ≡ false) → AccountRemoval t frame m e r head tail u x d w
+    pub remove-account-to : (m : ℕ)
+        → b ≤ m
+        → ((i : ℕ) → b ≤ i → i < m → touches t i u ≡ true → leads t lo i ≡ false)
+        → AccountRemoval t frame m e r head tail u x d w
     remove-account-to m low not-lead = record { state = passed (W .state); front = W .front; at-front = W .at-front }
       where
         passed : PeelState t frame 4096 e r head tail (passing t u b) x d w → PeelState t frame 4096 e r head tail (passing t u m) x d w
@@ -143,7 +148,10 @@ module _ (t : Table) (frame : Frame) (S : Setting t (frame .query) (frame .start
       pub remove-account-droppable : j < r → leads t lo j ≡ true → Droppable (q .k) tail (otherOf t j u) x d w
       remove-account-droppable k f = droppable t frame S (W .state) j (otherOf t j u) next-small (next-here k f) next-not next-new next-pass next-why
 
-      pub remove-account-dropped : j < r → leads t lo j ≡ true → {x′ d′ w′ : List ℕ} {tail′ : ℕ} → DroppedNeighbour (q .k) e tail (otherOf t j u) x d w x′ d′ w′ tail′
+      pub remove-account-dropped : j < r
+          → leads t lo j ≡ true
+          → {x′ d′ w′ : List ℕ} {tail′ : ℕ}
+          → DroppedNeighbour (q .k) e tail (otherOf t j u) x d w x′ d′ w′ tail′
           → AccountRemoval t frame (j + 1) e r head tail′ u x′ d′ w′
       remove-account-dropped k f L =
           record {
@@ -180,7 +188,10 @@ module _ (t : Table) (frame : Frame) (S : Setting t (frame .query) (frame .start
           };
           queue = record {
             walked-removed =
-                λ a h. ⊎-elim (λ y. F .queue .walked-removed a y) (λ y. subst (λ (c : ℕ). (c < 4096) × Removed x c) (sym (eqb-true a u y)) (remove-account-small, remove-account-removed))
+                λ a h.
+                ⊎-elim (λ y. F .queue .walked-removed a y)
+                (λ y. subst (λ (c : ℕ). (c < 4096) × Removed x c) (sym (eqb-true a u y))
+                (remove-account-small, remove-account-removed))
                 (or-e (F .walked a) (eqb a u) h);
             waits = λ a k f h. let p = F .queue .waits a k f (left h) in
                 record { place = p .place; from = not-head a (right h) p; below = p .below; is = p .is };
@@ -201,7 +212,10 @@ module _ (t : Table) (frame : Frame) (S : Setting t (frame .query) (frame .start
         walked′ a = F .walked a or eqb a u
 
         off : {a : ℕ} → F .walked a ≡ false → (a ≡ u → ⊥) → walked′ a ≡ false
-        off {a} h n = ⊎-elim (λ y. ⊎-elim (λ z. clash z h) (λ z. absurd (n (eqb-true a u z))) (or-e (F .walked a) (eqb a u) y)) (λ y. y) (true-or-false (walked′ a))
+        off {a} h n =
+            ⊎-elim
+            (λ y. ⊎-elim (λ z. clash z h) (λ z. absurd (n (eqb-true a u z))) (or-e (F .walked a) (eqb a u) y))
+            (λ y. y) (true-or-false (walked′ a))
 
         left : {a : ℕ} → walked′ a ≡ false → F .walked a ≡ false
         left {a} h = ⊎-elim (λ y. clash (or-l (F .walked a) (eqb a u) y) h) (λ y. y) (true-or-false (F .walked a))

@@ -119,7 +119,9 @@ module _ (t : Table) (frame : Frame) (S : Setting t (frame .query) (frame .start
       (true-or-false (F .live j u))) in
       let o = S .some-k in omega arith
 
-  pub peel-times : {e head : ℕ} {x d w : List ℕ} (F : PeelState t frame 4096 e lo head head nothing x d w) (u : ℕ) → u < 4096 → getD x u 0 ≡ accountTime t q hi s u
+  pub peel-times : {e head : ℕ} {x d w : List ℕ} (F : PeelState t frame 4096 e lo head head nothing x d w) (u : ℕ)
+      → u < 4096
+      → getD x u 0 ≡ accountTime t q hi s u
   peel-times {e} {head} {x} F u k = sym (estimate-at x u (F .buffers .times) k) ∙ fixpoint t q hi s (estimate x) (S .fits) closed (S .some-k) days lower u
     where
       far : (v : ℕ) → 4096 ≤ v → estimate x v ≡ never
@@ -177,7 +179,11 @@ module _ (t : Table) (frame : Frame) (S : Setting t (frame .query) (frame .start
           not-far v a h =
               let f = S .fits in
               ⊎-elim (λ l. ⊎-elim (λ g. clash (and-i (lt-ltb v 4096 l) (eq-eqb (getD x v 0) 0 g)) a)
-              (λ g. let p = F .times .above v l g in let o : estimate x v ≡ getD x v 0 = estimate-at x v (F .buffers .times) l in omega arith) (removed-or-not x v))
+              (λ g.
+              let p = F .times .above v l g in
+              let o : estimate x v ≡ getD x v 0 = estimate-at x v (F .buffers .times) l in
+              omega arith)
+              (removed-or-not x v))
               (λ l. let o : estimate x v ≡ never = estimate-far x v (F .buffers .times) l in omega arith)
               (⊎-elim (λ b. _⊎_.inr (leb-true 4096 v b)) (λ b. _⊎_.inl (leb-false 4096 v b)) (true-or-false (leb 4096 v)))
 
@@ -192,6 +198,9 @@ module _ (t : Table) (frame : Frame) (S : Setting t (frame .query) (frame .start
                 (λ a. _⊎_.inl (y-no v a)) (true-or-false (ltb v 4096 and eqb (getD x v 0) 0));
           }
 
-  pub removed-not : {r head : ℕ} {passed : ℕ → ℕ → Bool} {x d w : List ℕ} (F : PeelState t frame 4096 never r head head passed x d w) (u : ℕ) → u < 4096 → Removed x u
+  pub removed-not : {r head : ℕ} {passed : ℕ → ℕ → Bool} {x d w : List ℕ}
+      (F : PeelState t frame 4096 never r head head passed x d w) (u : ℕ)
+      → u < 4096
+      → Removed x u
       → s ≤ hi → met t (ring t q s hi) u ≡ true → ⊥
   removed-not F u k f o m = let a = F .times .lower u hi k f o (le-refl hi) m in let b = F .times .above u k f in let c = S .fits in omega arith

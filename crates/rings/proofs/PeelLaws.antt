@@ -15,7 +15,9 @@ use mathlib.Core.List.{List}
 use lib.ListN.{length}
 use Rattle.rings.specs.Words.{_and_, no, marked, some, count}
 use Rattle.rings.specs.Ring.{Within, round, rounds, peel, members}
-use Rattle.rings.proofs.WordLaws.{true-or-false, clash, and-i, and-l, and-r, no-i, no-e, some-none, some-e, count-le, count-less, count-pos, length-tabulate, marked-tabulate-e, marked-tabulate-i, marked-below, same-marks}
+use Rattle.rings.proofs.WordLaws.{true-or-false, clash, and-i, and-l, and-r, no-i, no-e, some-none, some-e}
+use Rattle.rings.proofs.WordLaws.{count-le, count-less, count-pos, length-tabulate, marked-tabulate-e}
+use Rattle.rings.proofs.WordLaws.{marked-tabulate-i, marked-below, same-marks}
 
 pub record Stable (test : List Bool → ℕ → Bool) (m : List Bool) : Type 0 where
   pub passes : (j : ℕ) → marked m j ≡ true → test m j ≡ true
@@ -83,8 +85,13 @@ module _ (test : List Bool → ℕ → Bool) where
   rounds-stable zero m h =
       record { passes = λ j k. let p : 0 < count (marked m) (length m) = count-pos (marked m) (length m) j (marked-below m j k) k in absurd (omega arith) }
   rounds-stable (suc n) m h =
-      ⊎-elim (λ e. let w = some-e dropped (length m) e in rounds-stable n (round test m) (less w.it (and-l (marked m w.it) (no (marked (round test m) w.it)) w.has) (no-e (marked (round test m) w.it) (and-r (marked m w.it) (no (marked (round test m) w.it)) w.has))))
-      (λ e. let s : Stable test m = steady e in subst (Stable test) (sym (ap (rounds test n) (round-same m s) ∙ rounds-same n m s)) s) (true-or-false (some dropped (length m)))
+      ⊎-elim (λ e. let w = some-e dropped (length m) e in
+      rounds-stable n (round test m)
+      (less w.it (and-l (marked m w.it) (no (marked (round test m) w.it)) w.has)
+      (no-e (marked (round test m) w.it) (and-r (marked m w.it) (no (marked (round test m) w.it)) w.has))))
+      (λ e. let s : Stable test m = steady e in
+      subst (Stable test) (sym (ap (rounds test n) (round-same m s) ∙ rounds-same n m s)) s)
+      (true-or-false (some dropped (length m)))
     where
       dropped : ℕ → Bool
       dropped j = marked m j and no (marked (round test m) j)
@@ -93,7 +100,9 @@ module _ (test : List Bool → ℕ → Bool) where
       less j a b = let f : count (marked (round test m)) (length (round test m)) < count (marked m) (length m) = round-fewer m j a b in omega arith
 
       stays : some dropped (length m) ≡ false → (j : ℕ) → marked m j ≡ true → marked (round test m) j ≡ true
-      stays e j a = ⊎-elim (λ b. b) (λ b. clash (and-i a (no-i b)) (some-none dropped (length m) e j (marked-below m j a))) (true-or-false (marked (round test m) j))
+      stays e j a =
+          ⊎-elim (λ b. b) (λ b. clash (and-i a (no-i b)) (some-none dropped (length m) e j (marked-below m j a)))
+          (true-or-false (marked (round test m) j))
 
       steady : some dropped (length m) ≡ false → Stable test m
       steady e = record { passes = λ j a. round-passes m j (stays e j a) }

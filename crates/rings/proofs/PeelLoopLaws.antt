@@ -2,7 +2,8 @@
 --     SameLengths, same-start, same-next        the lengths of the three lists, which no step changes
 --     RemovingQueued, RemovingRows, Counting, QueueingLowDegree             the invariants of the loops
 --     tail-most, remove-queued-start, remove-queued-next, remove-queued-end    the queue
---     remove-row-below, remove-row-place, remove-row-accounts, remove-row-old, remove-row-a-removed, remove-row-b-removed, remove-row-room-a, remove-row-room-b, remove-row-now, remove-row-left    a row leaves
+--     remove-row-below, remove-row-place, remove-row-accounts, remove-row-old, remove-row-a-removed,
+--     remove-row-b-removed, remove-row-room-a, remove-row-room-b, remove-row-now, remove-row-left    a row leaves
 --     removing-rows-start, removing-rows-next, removing-rows-end     the rows leave, from the last on
 --     count-end    the neighbours
 --     removed-none, none-removed     nobody has been removed exactly where all times are 0
@@ -23,7 +24,10 @@ use Rattle.rings.specs.Table.{Table, tableOf, dayOf, firstOf, secondOf}
 use Rattle.rings.specs.Ring.{touches}
 use Rattle.rings.specs.CoreTimes.{never}
 use Rattle.rings.specs.Inner.Adjacency.{leads}
-use Rattle.rings.specs.Inner.Peeling.{EarlierStands, leadsBy, Droppable, DroppedNeighbour, removedCount, PeelState, nothing, Ready, NeighbourCounts, CoreTimesAre, PeelStateOf, Continues, HeadWalked, QueueEmpty, RowRemoval, RowsRemovedTo, RowRemovable}
+use Rattle.rings.specs.Inner.Peeling.{EarlierStands, leadsBy, Droppable, DroppedNeighbour, removedCount}
+use Rattle.rings.specs.Inner.Peeling.{PeelState, nothing, Ready, NeighbourCounts, CoreTimesAre, PeelStateOf}
+use Rattle.rings.specs.Inner.Peeling.{Continues, HeadWalked, QueueEmpty, RowRemoval, RowsRemovedTo}
+use Rattle.rings.specs.Inner.Peeling.{RowRemovable}
 use Rattle.rings.specs.declared.frame.Frame.{Frame}
 use Rattle.rings.specs.declared.peel.Removal.{Removal}
 use Rattle.rings.proofs.WordLaws.{true-or-false, clash, no-i, no-e, count-none, count-pos, count-le}
@@ -170,7 +174,11 @@ module _ (d f s scratch : List ℕ) (q : Frame) (R : Ready d f s scratch q) wher
         let n = L .rows-removed .row-removal .state .buffers .times in (omega arith, omega arith)
 
     -- the row has left: nobody waits after that
-    pub remove-row-left : {r n : Removal} {x′ l′ w′ : List ℕ} → n .day ≡ e → n .end ≡ j → QueueEmpty d f s q n r x′ l′ w′ → RowsRemovedTo d f s q j (r .tail) x′ l′ w′
+    pub remove-row-left : {r n : Removal} {x′ l′ w′ : List ℕ}
+        → n .day ≡ e
+        → n .end ≡ j
+        → QueueEmpty d f s q n r x′ l′ w′
+        → RowsRemovedTo d f s q j (r .tail) x′ l′ w′
     unfolding dayOf at
     remove-row-left {r} {n} {x′} {l′} {w′} ed en Q =
         subst (λ (c : ℕ). RowsRemovedTo d f s q c (r .tail) x′ l′ w′) (Q .goes-on .end ∙ en) (rows-removed-of (left ed en Q))
@@ -229,18 +237,23 @@ module _ (d f s scratch : List ℕ) (q : Frame) (R : Ready d f s scratch q) wher
       zero-c = ap (λ (g : ℕ). getD x g 0) (sym c-is) ∙ (sym vc-is ∙ zc)
 
       pub remove-row-room-a : Droppable (q .query .k) tail a x l w
-      remove-row-room-a = subst (λ (g : ℕ). Droppable (q .query .k) tail g x l w) (sym a-is) (remove-row-first-one t q (R .setting) G e-day b f-is zero-a zero-c)
+      remove-row-room-a =
+          subst (λ (g : ℕ). Droppable (q .query .k) tail g x l w) (sym a-is)
+          (remove-row-first-one t q (R .setting) G e-day b f-is zero-a zero-c)
 
       module _ {x₁ l₁ w₁ : List ℕ} {one : ℕ} (A : DroppedNeighbour (q .query .k) e tail a x l w x₁ l₁ w₁ one) where
         A′ : DroppedNeighbour (q .query .k) e tail (firstOf t j) x l w x₁ l₁ w₁ one
         A′ = subst (λ (g : ℕ). DroppedNeighbour (q .query .k) e tail g x l w x₁ l₁ w₁ one) a-is A
 
         pub remove-row-room-b : Droppable (q .query .k) one c x₁ l₁ w₁
-        remove-row-room-b = subst (λ (g : ℕ). Droppable (q .query .k) one g x₁ l₁ w₁) (sym c-is) (remove-row-second-one t q (R .setting) G e-day b f-is zero-a zero-c A′)
+        remove-row-room-b =
+            subst (λ (g : ℕ). Droppable (q .query .k) one g x₁ l₁ w₁) (sym c-is)
+            (remove-row-second-one t q (R .setting) G e-day b f-is zero-a zero-c A′)
 
         pub remove-row-now : {x₂ l₂ w₂ : List ℕ} {two : ℕ} → DroppedNeighbour (q .query .k) e one c x₁ l₁ w₁ x₂ l₂ w₂ two → State 4096 e j tail two x₂ l₂ w₂
         remove-row-now {x₂} {l₂} {w₂} {two} M =
-            remove-row-both t q (R .setting) G e-day b f-is zero-a zero-c A′ (subst (λ (g : ℕ). DroppedNeighbour (q .query .k) e one g x₁ l₁ w₁ x₂ l₂ w₂ two) c-is M)
+            remove-row-both t q (R .setting) G e-day b f-is zero-a zero-c A′
+            (subst (λ (g : ℕ). DroppedNeighbour (q .query .k) e one g x₁ l₁ w₁ x₂ l₂ w₂ two) c-is M)
 
   -- ---- remove_rows_from_the_end
 
@@ -248,7 +261,11 @@ module _ (d f s scratch : List ℕ) (q : Frame) (R : Ready d f s scratch q) wher
   removing-rows-start {x = x} {l} {w} F = record { lengths = same-start x l w; rows-removed = rows-removed-of F }
 
   module _ {end tail : ℕ} {x₀ l₀ w₀ x l w : List ℕ} (F : RemovingRows d f s q end tail x₀ l₀ w₀ x l w) where
-    pub removing-rows-next : {r : ℕ} {x′ l′ w′ : List ℕ} → length x′ ≡ length x → length l′ ≡ length l → length w′ ≡ length w → RowsRemovedTo d f s q (end - 1) r x′ l′ w′
+    pub removing-rows-next : {r : ℕ} {x′ l′ w′ : List ℕ}
+        → length x′ ≡ length x
+        → length l′ ≡ length l
+        → length w′ ≡ length w
+        → RowsRemovedTo d f s q (end - 1) r x′ l′ w′
         → RemovingRows d f s q (end - 1) r x₀ l₀ w₀ x′ l′ w′
     removing-rows-next ex el ew L = record { lengths = same-next (F .lengths) ex el ew; rows-removed = L }
 

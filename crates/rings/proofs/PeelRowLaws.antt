@@ -43,7 +43,9 @@ module _ (t : Table) (frame : Frame) (S : Setting t (frame .query) (frame .start
   -- ---- rows leave from the last on
 
   -- row j, for which no account that has not been removed counts any more, leaves
-  pub remove-row-row : {e j head tail : ℕ} {passed : ℕ → ℕ → Bool} {x d w : List ℕ} (F : PeelState t frame 4096 e (suc j) head tail passed x d w) → e ≤ dayOf t j
+  pub remove-row-row : {e j head tail : ℕ} {passed : ℕ → ℕ → Bool} {x d w : List ℕ}
+      (F : PeelState t frame 4096 e (suc j) head tail passed x d w)
+      → e ≤ dayOf t j
       → ((u : ℕ) → u < 4096 → getD x u 0 ≡ 0 → F .live j u ≡ false) → ((i u : ℕ) → passed i u ≡ true → i ≡ j)
       → PeelState t frame 4096 e j head tail nothing x d w
   remove-row-row {e} {j} {head} {tail} {passed} {x} {d} {w} F day gone only =

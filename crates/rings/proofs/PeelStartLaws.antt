@@ -1,5 +1,6 @@
 -- The first state of a peel, and the loop of `queue_low_degree` (src/peel.rt).
---     peel-state-start, low-degree-start, low-degree-small, low-degree-room, low-degree-left, low-degree-keep, low-degree-removal, low-degree-end    who has fewer than k neighbours
+--     peel-state-start, low-degree-start, low-degree-small, low-degree-room, low-degree-left, low-degree-keep,
+--     low-degree-removal, low-degree-end    who has fewer than k neighbours
 --     core-start, remove-rows-start                    the stages together
 -- Assumes nothing.
 use Prim.Native.Nat.{ℕ, zero, _+_, _-_, _≤_, _<_}
@@ -18,7 +19,8 @@ use Rattle.rings.specs.Table.{Table, tableOf, dayOf}
 use Rattle.rings.specs.Ring.{touches}
 use Rattle.rings.specs.CoreTimes.{never}
 use Rattle.rings.specs.Inner.Adjacency.{leads}
-use Rattle.rings.specs.Inner.Peeling.{PeelBuffers, removedCount, PeelState, nothing, Ready, NeighbourCounts, Span, allRows, PeelStateOf, Continues, QueueEmpty, RowRemoval}
+use Rattle.rings.specs.Inner.Peeling.{PeelBuffers, removedCount, PeelState, nothing, Ready, NeighbourCounts}
+use Rattle.rings.specs.Inner.Peeling.{Span, allRows, PeelStateOf, Continues, QueueEmpty, RowRemoval}
 use Rattle.rings.specs.declared.frame.Frame.{Frame}
 use Rattle.rings.specs.declared.peel.Removal.{Removal}
 use Rattle.rings.proofs.WordLaws.{clash, and-i, and-l, and-r, same-or}
@@ -35,7 +37,11 @@ module _ (d f s scratch : List ℕ) (q : Frame) (R : Ready d f s scratch q) wher
 
   -- ---- the first state, and queue_low_degree
 
-  pub peel-state-start : (x₀ : List ℕ) {x l w : List ℕ} {end : ℕ} → length x₀ ≡ 4096 → x ≡ replicate (length x₀) 0 → NeighbourCounts t (q .lo) end l → 4096 ≤ length w
+  pub peel-state-start : (x₀ : List ℕ) {x l w : List ℕ} {end : ℕ}
+      → length x₀ ≡ 4096
+      → x ≡ replicate (length x₀) 0
+      → NeighbourCounts t (q .lo) end l
+      → 4096 ≤ length w
       → end ≤ length d → ((j : ℕ) → end ≤ j → j < length d → q .stop < dayOf t j) → State 0 never end 0 0 x l w
   peel-state-start x₀ {x} {l} {w} {end} n ex C m within later =
       record {
@@ -143,7 +149,10 @@ module _ (d f s scratch : List ℕ) (q : Frame) (R : Ready d f s scratch q) wher
           rest = λ v a b. W .rest v (omega arith) b;
         }
 
-    pub low-degree-removal : getD l u 0 < q .query .k → {x′ w′ : List ℕ} → x′ ≡ set x u 65535 → w′ ≡ set w tail u → QueueingLowDegree d f s q (u + 1) end (tail + 1) x₀ w₀ x′ l w′
+    pub low-degree-removal : getD l u 0 < q .query .k
+        → {x′ w′ : List ℕ} → x′ ≡ set x u 65535
+        → w′ ≡ set w tail u
+        → QueueingLowDegree d f s q (u + 1) end (tail + 1) x₀ w₀ x′ l w′
     low-degree-removal h {x′} {w′} ex ew =
         subst (λ (c : List ℕ). QueueingLowDegree d f s q (u + 1) end (tail + 1) x₀ w₀ c l w′) (sym ex)
         (subst (λ (c : List ℕ). QueueingLowDegree d f s q (u + 1) end (tail + 1) x₀ w₀ (set x u never) l c) (sym ew) removed)

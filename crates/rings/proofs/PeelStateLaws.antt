@@ -158,7 +158,10 @@ pub grown : {k e head tail v tail′ : ℕ} {x d w x′ d′ w′ : List ℕ} �
 grown (DroppedNeighbour.stays h ex ed ew et) l = omega arith
 grown (DroppedNeighbour.removes h ex ed ew et) l = omega arith
 
-pub same-front : {k e head tail v tail′ : ℕ} {x d w x′ d′ w′ : List ℕ} → DroppedNeighbour k e tail v x d w x′ d′ w′ tail′ → head < tail → getD w′ head 0 ≡ getD w head 0
+pub same-front : {k e head tail v tail′ : ℕ} {x d w x′ d′ w′ : List ℕ}
+    → DroppedNeighbour k e tail v x d w x′ d′ w′ tail′
+    → head < tail
+    → getD w′ head 0 ≡ getD w head 0
 same-front {head = head} (DroppedNeighbour.stays h ex ed ew et) l = ap (λ (y : List ℕ). getD y head 0) ew
 same-front {head = head} {tail = tail} {v = v} {w = w} (DroppedNeighbour.removes h ex ed ew et) l = ap (λ (y : List ℕ). getD y head 0) ew
     ∙ getD-set-other w tail head v 0 (λ y. omega arith)
@@ -287,7 +290,10 @@ module _ (t : Table) (frame : Frame) (S : Setting t (frame .query) (frame .start
         pos : e ≡ 0 → ⊥
         pos y = let p = T .e-pos in omega arith
 
-        raised : (c : ℕ) → e ≤ c → (u : ℕ) → (c ≡ never) ⊎ (q .k ≤ supporters t (estimate x) s c u) → (c ≡ never) ⊎ (q .k ≤ supporters t (estimate (set x v e)) s c u)
+        raised : (c : ℕ)
+            → e ≤ c
+            → (u : ℕ) → (c ≡ never) ⊎ (q .k ≤ supporters t (estimate x) s c u)
+            → (c ≡ never) ⊎ (q .k ≤ supporters t (estimate (set x v e)) s c u)
         raised c h u = ⊎-elim _⊎_.inl (λ k. _⊎_.inr (le-trans k (supporters-mono t (estimate x) (estimate (set x v e)) s c u (estimate-keeps c h))))
 
     pub queue-removal : {head tail : ℕ} {walked : ℕ → Bool} {w : List ℕ} → 4096 ≤ length w → Queue head tail walked x w

@@ -64,7 +64,8 @@ pruning-start x {u} K e =
       kept = λ r a b. absurd (omega arith);
     }
 
-module _ {t : Table} {x : ℕ → ℕ} {u : ℕ} {sc₀ : List ℕ} (L : PrunedAdjacency t sc₀) (small : u < 4096) {p end : ℕ} {sc : List ℕ} (S : Pruning t x u sc₀ p end sc) where
+module _ {t : Table} {x : ℕ → ℕ} {u : ℕ} {sc₀ : List ℕ} (L : PrunedAdjacency t sc₀) (small : u < 4096) {p end : ℕ}
+    {sc : List ℕ} (S : Pruning t x u sc₀ p end sc) where
   abbrev h : ℕ
   h = getD sc₀ (4096 + u) 0
 
@@ -85,7 +86,10 @@ module _ {t : Table} {x : ℕ → ℕ} {u : ℕ} {sc₀ : List ℕ} (L : PrunedA
               from = let a = head in let b = last in let c = S .from in omega arith;
               to = let b = last in let c = S .ordered in let g = S .to in let k = K .to in omega arith;
               row = λ r a b. let c = head in let g = last in let m = entries r in let n = S .row r (omega arith) (omega arith) in omega arith;
-              touch = λ r a b. let c = head in let g = last in subst (λ (i : ℕ). touches t i u ≡ true) (sym (entries r)) (S .touch r (omega arith) (omega arith));
+              touch = λ r a b.
+                  let c = head in
+                  let g = last in
+                  subst (λ (i : ℕ). touches t i u ≡ true) (sym (entries r)) (S .touch r (omega arith) (omega arith));
               rising = λ r r′ a o b.
                   let c = head in
                   let g = last in let m = entries r in let n = entries r′ in let k = S .rising r r′ (omega arith) o (omega arith) in omega arith;

@@ -116,7 +116,12 @@ module _ (d f s scratch : List ℕ) (S : Sound d f s) (L : PrunedAdjacency (tabl
         pub reading-from : b ≤ j
         reading-from = let a = A .after p (omega arith) (omega arith) in omega arith
 
-        pub reading-gap : {x : ℕ → ℕ} {lo : ℕ} → Every t x lo u scratch → (i : ℕ) → b ≤ i → i < j → touches t i u ≡ true → (i < lo) ⊎ (x (otherOf t i u) ≡ never)
+        pub reading-gap : {x : ℕ → ℕ} {lo : ℕ}
+            → Every t x lo u scratch
+            → (i : ℕ) → b ≤ i
+            → i < j
+            → touches t i u ≡ true
+            → (i < lo) ⊎ (x (otherOf t i u) ≡ never)
         reading-gap {lo = lo} E i a k y =
             ⊎-elim (λ z. ⊎-elim _⊎_.inr
             (λ P. let e = P .is in let g = P .below in

@@ -26,8 +26,11 @@ use Rattle.rings.specs.declared.peel.Removal.{Removal}
 use Rattle.rings.proofs.WordLaws.{true-or-false}
 use Rattle.rings.proofs.LeadLaws.{lead-from}
 use Rattle.rings.proofs.IncidentLaws.{row-leads}
-use Rattle.rings.proofs.PrunedLaws.{reading-start, reading-out, reading-stands, reading-few, reading-from, reading-gap, reading-next, adjacency-pruned, adjacency-every, none-missing}
-use Rattle.rings.proofs.PeelAccountLaws.{remove-account-start, remove-account-small, remove-account-to, remove-account-droppable, remove-account-dropped, remove-account-skip, remove-account-end}
+use Rattle.rings.proofs.PrunedLaws.{reading-start, reading-out, reading-stands, reading-few, reading-from}
+use Rattle.rings.proofs.PrunedLaws.{reading-gap, reading-next, adjacency-pruned, adjacency-every, none-missing}
+use Rattle.rings.proofs.PeelAccountLaws.{remove-account-start, remove-account-small, remove-account-to}
+use Rattle.rings.proofs.PeelAccountLaws.{remove-account-droppable, remove-account-dropped, remove-account-skip}
+use Rattle.rings.proofs.PeelAccountLaws.{remove-account-end}
 use Rattle.rings.proofs.PeelLoopLaws.{SameLengths, same-start, same-next, tail-most}
 
 -- what `leads` returns
@@ -69,12 +72,17 @@ module _ (d f s scratch : List ℕ) (q : Frame) (R : Ready d f s scratch q) wher
 
     module _ {u : ℕ} (eu : u ≡ getD w (m .head) 0) where
       removing-account : AccountRemoval t q 0 (m .day) (m .end) (m .head) (m .tail) u x l w
-      removing-account = subst (λ (c : ℕ). AccountRemoval t q 0 (m .day) (m .end) (m .head) (m .tail) c x l w) (sym eu) (remove-account-start t q (R .setting) (H .state) (H .some))
+      removing-account =
+          subst (λ (c : ℕ). AccountRemoval t q 0 (m .day) (m .end) (m .head) (m .tail) c x l w) (sym eu)
+          (remove-account-start t q (R .setting) (H .state) (H .some))
 
       pub removing-small : u < 4096
       removing-small = remove-account-small t q (R .setting) removing-account
 
-      pub removing-start : {end p : ℕ} → end ≡ getD scratch u 0 → p ≡ getD scratch (4096 + u) 0 → RemovingAccount d f s scratch q m u end p (m .tail) x l w x l w
+      pub removing-start : {end p : ℕ}
+          → end ≡ getD scratch u 0
+          → p ≡ getD scratch (4096 + u) 0
+          → RemovingAccount d f s scratch q m u end p (m .tail) x l w x l w
       removing-start ee ep =
           record {
             lengths = same-start x l w;
@@ -154,7 +162,8 @@ module _ (d f s scratch : List ℕ) (q : Frame) (R : Ready d f s scratch q) wher
                 (remove-account-droppable t q (R .setting) to-row (r .row) (le-refl (r .row)) (I .below) (I .touch) nothing-between left lead)
 
             pub removing-drop : {x′ l′ w′ : List ℕ} {tail′ : ℕ} → length x′ ≡ length x → length l′ ≡ length l → length w′ ≡ length w
-                → DroppedNeighbour (q .query .k) (m .day) tail (r .other) x l w x′ l′ w′ tail′ → RemovingAccount d f s scratch q m u end (p + 1) tail′ x₀ l₀ w₀ x′ l′ w′
+                → DroppedNeighbour (q .query .k) (m .day) tail (r .other) x l w x′ l′ w′ tail′
+                → RemovingAccount d f s scratch q m u end (p + 1) tail′ x₀ l₀ w₀ x′ l′ w′
             removing-drop {x′} {l′} {w′} {tail′} ex el ew L =
                 record {
                   lengths = same-next (A .lengths) ex el ew;

@@ -27,7 +27,8 @@ use Rattle.rings.specs.Words.{_and_, _or_, marked, tabulate}
 use Rattle.rings.specs.Table.{Table, size, dayOf, firstOf, secondOf, inWindow, windowRows}
 use Rattle.rings.specs.Ring.{joins, neighbour, names, degree, touches, met, Good, Within, IsRing, keep, ring, inRing}
 use Rattle.rings.specs.declared.Query.{Query}
-use Rattle.rings.proofs.WordLaws.{and-i, and-l, and-r, or-l, or-r, or-e, some-i, some-e, count-mono, length-tabulate, marked-tabulate-e, marked-tabulate-i, same-marks}
+use Rattle.rings.proofs.WordLaws.{and-i, and-l, and-r, or-l, or-r, or-e, some-i, some-e, count-mono}
+use Rattle.rings.proofs.WordLaws.{length-tabulate, marked-tabulate-e, marked-tabulate-i, same-marks}
 use Rattle.rings.proofs.PeelLaws.{Stable, Monotone, within-trans, peel-sized, peel-within, peel-stable, peel-greatest}
 
 -- ---- windows
@@ -41,11 +42,17 @@ pub window-e : (t : Table) (s e j : ℕ) → marked (windowRows t s e) j ≡ tru
 unfolding windowRows inWindow
 window-e t s e j h =
     let w = marked-tabulate-e (λ i. inWindow s e (dayOf t i)) (size t) j h in
-    record { row = w.0; from = leb-true s (dayOf t j) (and-l (leb s (dayOf t j)) (leb (dayOf t j) e) w.1); to = leb-true (dayOf t j) e (and-r (leb s (dayOf t j)) (leb (dayOf t j) e) w.1) }
+    record {
+      row = w.0;
+      from = leb-true s (dayOf t j) (and-l (leb s (dayOf t j)) (leb (dayOf t j) e) w.1);
+      to = leb-true (dayOf t j) e (and-r (leb s (dayOf t j)) (leb (dayOf t j) e) w.1);
+    }
 
 pub window-i : (t : Table) (s e j : ℕ) → Inside t s e j → marked (windowRows t s e) j ≡ true
 unfolding windowRows inWindow
-window-i t s e j i = marked-tabulate-i (λ n. inWindow s e (dayOf t n)) (size t) j (i .row) (and-i (le-leb s (dayOf t j) (i .from)) (le-leb (dayOf t j) e (i .to)))
+window-i t s e j i =
+    marked-tabulate-i (λ n. inWindow s e (dayOf t n)) (size t) j (i .row)
+    (and-i (le-leb s (dayOf t j) (i .from)) (le-leb (dayOf t j) e (i .to)))
 
 pub window-sized : (t : Table) (s e : ℕ) → length (windowRows t s e) ≡ size t
 unfolding windowRows
@@ -73,15 +80,25 @@ touch-second t j = or-r (eqb (firstOf t j) (secondOf t j)) (eqb (secondOf t j) (
 pub joins-cases : (t : Table) (j u v : ℕ) → joins t j u v ≡ true → ((firstOf t j ≡ u) × (secondOf t j ≡ v)) ⊎ ((firstOf t j ≡ v) × (secondOf t j ≡ u))
 unfolding joins
 joins-cases t j u v h =
-    ⊎-elim (λ a. _⊎_.inl (eqb-true (firstOf t j) u (and-l (eqb (firstOf t j) u) (eqb (secondOf t j) v) a), eqb-true (secondOf t j) v (and-r (eqb (firstOf t j) u) (eqb (secondOf t j) v) a)))
-    (λ a. _⊎_.inr (eqb-true (firstOf t j) v (and-l (eqb (firstOf t j) v) (eqb (secondOf t j) u) a), eqb-true (secondOf t j) u (and-r (eqb (firstOf t j) v) (eqb (secondOf t j) u) a)))
+    ⊎-elim (λ a. _⊎_.inl (
+      eqb-true (firstOf t j) u (and-l (eqb (firstOf t j) u) (eqb (secondOf t j) v) a),
+      eqb-true (secondOf t j) v (and-r (eqb (firstOf t j) u) (eqb (secondOf t j) v) a),
+    ))
+    (λ a. _⊎_.inr (
+      eqb-true (firstOf t j) v (and-l (eqb (firstOf t j) v) (eqb (secondOf t j) u) a),
+      eqb-true (secondOf t j) u (and-r (eqb (firstOf t j) v) (eqb (secondOf t j) u) a),
+    ))
     (or-e (eqb (firstOf t j) u and eqb (secondOf t j) v) (eqb (firstOf t j) v and eqb (secondOf t j) u) h)
 
 -- a payment between u and v has both
 pub joins-touch : (t : Table) (j u v : ℕ) → joins t j u v ≡ true → (touches t j u ≡ true) × (touches t j v ≡ true)
 joins-touch t j u v h =
     ⊎-elim (λ e. (subst (λ (a : ℕ). touches t j a ≡ true) (e .0) (touch-first t j), subst (λ (a : ℕ). touches t j a ≡ true) (e .1) (touch-second t j)))
-    (λ e. (subst (λ (a : ℕ). touches t j a ≡ true) (e .1) (touch-second t j), subst (λ (a : ℕ). touches t j a ≡ true) (e .0) (touch-first t j))) (joins-cases t j u v h)
+    (λ e. (
+      subst (λ (a : ℕ). touches t j a ≡ true) (e .1) (touch-second t j),
+      subst (λ (a : ℕ). touches t j a ≡ true) (e .0) (touch-first t j),
+    ))
+    (joins-cases t j u v h)
 
 pub met-i : (t : Table) (m : List Bool) (j u : ℕ) → j < size t → marked m j ≡ true → touches t j u ≡ true → met t m u ≡ true
 unfolding met
@@ -97,7 +114,12 @@ pub met-e : (t : Table) (m : List Bool) (u : ℕ) → met t m u ≡ true → Mee
 unfolding met
 met-e t m u h =
     let w = some-e (λ i. marked m i and touches t i u) (size t) h in
-    record { row = w .it; below = w .below; has = and-l (marked m (w .it)) (touches t (w .it) u) (w .has); touch = and-r (marked m (w .it)) (touches t (w .it) u) (w .has) }
+    record {
+      row = w .it;
+      below = w .below;
+      has = and-l (marked m (w .it)) (touches t (w .it) u) (w .has);
+      touch = and-r (marked m (w .it)) (touches t (w .it) u) (w .has);
+    }
 
 pub met-mono : (t : Table) {m m′ : List Bool} (u : ℕ) → Within m m′ → met t m u ≡ true → met t m′ u ≡ true
 met-mono t {m} {m′} u w h = let x = met-e t m u h in met-i t m′ (x .row) u (x .below) (w .all (x .row) (x .has)) (x .touch)
@@ -116,12 +138,19 @@ pub neighbour-e : (t : Table) (m : List Bool) (u v : ℕ) → neighbour t m u v 
 unfolding neighbour
 neighbour-e t m u v h =
     let w = some-e (λ i. marked m i and joins t i u v) (size t) h in
-    record { row = w .it; below = w .below; has = and-l (marked m (w .it)) (joins t (w .it) u v) (w .has); join = and-r (marked m (w .it)) (joins t (w .it) u v) (w .has) }
+    record {
+      row = w .it;
+      below = w .below;
+      has = and-l (marked m (w .it)) (joins t (w .it) u v) (w .has);
+      join = and-r (marked m (w .it)) (joins t (w .it) u v) (w .has);
+    }
 
 pub degree-mono : (t : Table) {m m′ : List Bool} (u : ℕ) → Within m m′ → degree t m u ≤ degree t m′ u
 unfolding degree
 degree-mono t {m} {m′} u w =
-    count-mono (neighbour t m u) (neighbour t m′ u) (names t) (λ v l h. let x = neighbour-e t m u v h in neighbour-i t m′ (x .row) u v (x .below) (w .all (x .row) (x .has)) (x .join))
+    count-mono (neighbour t m u) (neighbour t m′ u) (names t)
+    (λ v l h. let x = neighbour-e t m u v h in
+    neighbour-i t m′ (x .row) u v (x .below) (w .all (x .row) (x .has)) (x .join))
 
 -- ---- the test of a ring, and good sets
 
@@ -139,7 +168,11 @@ module _ (t : Table) (q : Query) where
 
   keep-monotone : Monotone (keep t q)
   keep-monotone =
-      record { raises = λ m m′ w j h. let x = keep-e m j h in keep-i m′ j (le-trans (x .0) (degree-mono t (firstOf t j) w)) (le-trans (x .1) (degree-mono t (secondOf t j) w)) }
+      record {
+        raises = λ m m′ w j h. let x = keep-e m j h in
+            keep-i m′ j (le-trans (x .0) (degree-mono t (firstOf t j) w))
+            (le-trans (x .1) (degree-mono t (secondOf t j) w));
+      }
 
   good-of-stable : (m : List Bool) → Stable (keep t q) m → Good t q m
   good-of-stable m s =
@@ -147,14 +180,17 @@ module _ (t : Table) (q : Query) where
         neighbours = λ u h.
             let x = met-e t m u h in
             let y = keep-e m (x .row) (s .passes (x .row) (x .has)) in
-            ⊎-elim (λ e. subst (λ (a : ℕ). q .k ≤ degree t m a) e (y .0)) (λ e. subst (λ (a : ℕ). q .k ≤ degree t m a) e (y .1)) (touch-cases t (x .row) u (x .touch));
+            ⊎-elim (λ e. subst (λ (a : ℕ). q .k ≤ degree t m a) e (y .0))
+            (λ e. subst (λ (a : ℕ). q .k ≤ degree t m a) e (y .1)) (touch-cases t (x .row) u (x .touch));
       }
 
   stable-of-good : (m : List Bool) → ((j : ℕ) → marked m j ≡ true → j < size t) → Good t q m → Stable (keep t q) m
   stable-of-good m b g =
       record {
         passes = λ j h.
-            keep-i m j (g .neighbours (firstOf t j) (met-i t m j (firstOf t j) (b j h) h (touch-first t j))) (g .neighbours (secondOf t j) (met-i t m j (secondOf t j) (b j h) h (touch-second t j)));
+            keep-i m j
+            (g .neighbours (firstOf t j) (met-i t m j (firstOf t j) (b j h) h (touch-first t j)))
+            (g .neighbours (secondOf t j) (met-i t m j (secondOf t j) (b j h) h (touch-second t j)));
       }
 
   -- ---- the ring
@@ -182,7 +218,9 @@ module _ (t : Table) (q : Query) where
 
     -- and of nothing else
     pub ring-only : (m : List Bool) → IsRing t q s e m → m ≡ ring t q s e
-    ring-only m r = same-marks m (ring t q s e) (r .sized ∙ sym ring-sized) (ring-holds m (r .within) (r .good) .all) (r .greatest-one (ring t q s e) ring-within ring-good .all)
+    ring-only m r =
+        same-marks m (ring t q s e) (r .sized ∙ sym ring-sized) (ring-holds m (r .within) (r .good) .all)
+        (r .greatest-one (ring t q s e) ring-within ring-good .all)
 
     pub in-marked : (j : ℕ) → marked (ring t q s e) j ≡ true → inRing t q s e j ≡ true
     unfolding inRing
@@ -213,10 +251,19 @@ module _ (t : Table) (q : Query) where
         more = tabulate also 0 (size t)
 
         more-within : Within more (windowRows t s e)
-        more-within = record { all = λ n h. ⊎-elim (ring-within .all n) (λ p. window-i t s e n (subst (Inside t s e) (sym (eqb-true n j p)) i)) (or-e (marked (ring t q s e) n) (eqb n j) (marked-tabulate-e also (size t) n h .1)) }
+        more-within =
+            record {
+              all = λ n h. ⊎-elim (ring-within .all n)
+                  (λ p. window-i t s e n (subst (Inside t s e) (sym (eqb-true n j p)) i))
+                  (or-e (marked (ring t q s e) n) (eqb n j) (marked-tabulate-e also (size t) n h .1));
+            }
 
         fewer : Within (ring t q s e) more
-        fewer = record { all = λ n h. marked-tabulate-i also (size t) n (window-e t s e n (ring-within .all n h) .row) (or-l (marked (ring t q s e) n) (eqb n j) h) }
+        fewer =
+            record {
+              all = λ n h. marked-tabulate-i also (size t) n (window-e t s e n (ring-within .all n h) .row)
+                  (or-l (marked (ring t q s e) n) (eqb n j) h);
+            }
 
         old : (u : ℕ) → met t (ring t q s e) u ≡ true → q .k ≤ degree t more u
         old u h = le-trans (ring-degree u h) (degree-mono t u fewer)
@@ -226,7 +273,9 @@ module _ (t : Table) (q : Query) where
             let x = met-e t more u h in
             ⊎-elim (λ p. old u (met-i t (ring t q s e) (x .row) u (x .below) p (x .touch)))
             (λ p. ⊎-elim (λ f. subst (λ (v : ℕ). q .k ≤ degree t more v) (ap (firstOf t) (sym (eqb-true (x .row) j p)) ∙ f) (old (firstOf t j) a))
-            (λ f. subst (λ (v : ℕ). q .k ≤ degree t more v) (ap (secondOf t) (sym (eqb-true (x .row) j p)) ∙ f) (old (secondOf t j) b)) (touch-cases t (x .row) u (x .touch)))
+            (λ f. subst (λ (v : ℕ). q .k ≤ degree t more v) (ap (secondOf t) (sym (eqb-true (x .row) j p)) ∙ f)
+            (old (secondOf t j) b))
+            (touch-cases t (x .row) u (x .touch)))
             (or-e (marked (ring t q s e) (x .row)) (eqb (x .row) j) (marked-tabulate-e also (size t) (x .row) (x .has) .1))
 
     -- the accounts of a row of the ring are met in it
@@ -248,4 +297,6 @@ module _ (t : Table) (q : Query) where
 
 -- and shrink as k rises
 pub ring-shrinks : (t : Table) (q q′ : Query) (s e : ℕ) → q .k ≤ q′ .k → Within (ring t q′ s e) (ring t q s e)
-ring-shrinks t q q′ s e h = ring-holds t q s e (ring t q′ s e) (ring-within t q′ s e) (record { neighbours = λ u m. le-trans h (ring-good t q′ s e .neighbours u m) })
+ring-shrinks t q q′ s e h =
+    ring-holds t q s e (ring t q′ s e) (ring-within t q′ s e)
+    (record { neighbours = λ u m. le-trans h (ring-good t q′ s e .neighbours u m) })

@@ -28,7 +28,8 @@ use Rattle.rings.specs.Inner.Incident.{RowRead}
 use Rattle.rings.specs.Inner.Peeling.{Setting, ReadyPruned, Place, estimate}
 use Rattle.rings.specs.declared.frame.Frame.{Frame}
 use Rattle.rings.specs.declared.incident.Incident.{Incident}
-use Rattle.rings.specs.Inner.Settling.{value, moving, Days, RowsScanned, RowNoted, Behind, RiseScanned, DroppedSupporter, DroppedListed, DroppedSupported, Queued}
+use Rattle.rings.specs.Inner.Settling.{value, moving, Days, RowsScanned, RowNoted, Behind, RiseScanned}
+use Rattle.rings.specs.Inner.Settling.{DroppedSupporter, DroppedListed, DroppedSupported, Queued}
 use Rattle.rings.specs.declared.Query.{Query}
 use Rattle.rings.proofs.WordLaws.{true-or-false, and-i, and-l, and-r, count-le, count-none, sucIf-yes, sucIf-no, same-or}
 use Rattle.rings.proofs.PairLaws.{other-apart}
@@ -60,7 +61,11 @@ module _ (t : Table) (x : ℕ → ℕ) (lo hi : ℕ) where
   unfolding moving
   moving-e c u j h =
       let b = and-r (pairCounts t lo j) (touches t j u and leb (value t x j u) c) h in
-      record { counts = and-l (pairCounts t lo j) (touches t j u and leb (value t x j u) c) h; touch = and-l (touches t j u) (leb (value t x j u) c) b; by = leb-true (value t x j u) c (and-r (touches t j u) (leb (value t x j u) c) b) }
+      record {
+        counts = and-l (pairCounts t lo j) (touches t j u and leb (value t x j u) c) h;
+        touch = and-l (touches t j u) (leb (value t x j u) c) b;
+        by = leb-true (value t x j u) c (and-r (touches t j u) (leb (value t x j u) c) b);
+      }
 
   pub moving-i : (c u j : ℕ) → Moved c u j → moving t x lo c u j ≡ true
   unfolding moving
@@ -79,11 +84,17 @@ module _ (t : Table) (x : ℕ → ℕ) (lo hi : ℕ) where
         grows = le-refl tail;
       }
 
-  module _ {c u b above moved tail end : ℕ} {ws : List ℕ} (soon : c < never) (top : above ≤ never) (G : RiseScanned t x lo hi c u b above moved tail end ws) where
+  module _ {c u b above moved tail end : ℕ} {ws : List ℕ} (soon : c < never) (top : above ≤ never)
+      (G : RiseScanned t x lo hi c u b above moved tail end ws) where
     -- a row that the walk passes over comes in on no day
     gap-not : {i : ℕ} → (touches t i u ≡ true → (i < lo) ⊎ (x (otherOf t i u) ≡ never)) → moving t x lo c u i ≡ false
     unfolding value
-    gap-not {i} gap = moving-not c u i (λ m. let a = counts-from t lo i (m .counts) in let b = m .by in ⊎-elim (λ z. omega arith) (λ z. omega arith) (gap (m .touch)))
+    gap-not {i} gap =
+        moving-not c u i
+        (λ m.
+        let a = counts-from t lo i (m .counts) in
+        let b = m .by in
+        ⊎-elim (λ z. omega arith) (λ z. omega arith) (gap (m .touch)))
 
     gap-apart : {i above′ : ℕ} → above′ ≤ above → lo ≤ i → (i < lo) ⊎ (x (otherOf t i u) ≡ never) → (value t x i u ≤ c) ⊎ (above′ ≤ value t x i u)
     unfolding value
@@ -92,10 +103,15 @@ module _ (t : Table) (x : ℕ → ℕ) (lo hi : ℕ) where
     gap-loses : {A : Type 0} {i : ℕ} → leads t lo i ≡ true → x (otherOf t i u) ≡ c → (i < lo) ⊎ (x (otherOf t i u) ≡ never) → A
     gap-loses {i = i} f e o = let a = lead-from t lo i f in ⊎-elim (λ z. absurd (omega arith)) (λ z. absurd (omega arith)) o
 
-    pub rise-scanned-out : b ≤ size t → ((i : ℕ) → b ≤ i → i < size t → touches t i u ≡ true → (i < lo) ⊎ (x (otherOf t i u) ≡ never)) → RiseScanned t x lo hi c u (size t) above moved tail end ws
+    pub rise-scanned-out : b ≤ size t
+        → ((i : ℕ) → b ≤ i → i < size t → touches t i u ≡ true → (i < lo) ⊎ (x (otherOf t i u) ≡ never))
+        → RiseScanned t x lo hi c u (size t) above moved tail end ws
     rise-scanned-out l gap =
         record {
-          apart = λ j a k h o. ⊎-elim (λ y. gap-apart (le-refl above) (counts-from t lo j a) (gap j (leb-true b j y) k h)) (λ y. G .apart j a (leb-false b j y) h o) (true-or-false (leb b j));
+          apart = λ j a k h o.
+              ⊎-elim
+              (λ y. gap-apart (le-refl above) (counts-from t lo j a) (gap j (leb-true b j y) k h))
+              (λ y. G .apart j a (leb-false b j y) h o) (true-or-false (leb b j));
           moves = G .moves ∙ sym (count-past (moving t x lo c u) b (size t) l (λ i a k. gap-not (gap i a k)));
           loses = λ j k f h e o. ⊎-elim (λ y. gap-loses f e (gap j (leb-true b j y) k h)) (λ y. G .loses j (leb-false b j y) f h e o) (true-or-false (leb b j));
           small = G .small;
@@ -104,8 +120,17 @@ module _ (t : Table) (x : ℕ → ℕ) (lo hi : ℕ) where
 
     -- the next row of u in the adjacency is j
     module _ (j : ℕ) (from : b ≤ j) (gap : (i : ℕ) → b ≤ i → i < j → touches t i u ≡ true → (i < lo) ⊎ (x (otherOf t i u) ≡ never)) where
-      earlier : {above′ : ℕ} → above′ ≤ above → (i : ℕ) → pairCounts t lo i ≡ true → i < j → touches t i u ≡ true → dayOf t i ≤ hi → (value t x i u ≤ c) ⊎ (above′ ≤ value t x i u)
-      earlier le i a l h o = ⊎-elim (λ y. gap-apart le (counts-from t lo i a) (gap i (leb-true b i y) l h)) (λ y. ⊎-elim _⊎_.inl (λ z. _⊎_.inr (le-trans le z)) (G .apart i a (leb-false b i y) h o)) (true-or-false (leb b i))
+      earlier : {above′ : ℕ}
+          → above′ ≤ above
+          → (i : ℕ) → pairCounts t lo i ≡ true
+          → i < j
+          → touches t i u ≡ true
+          → dayOf t i ≤ hi
+          → (value t x i u ≤ c) ⊎ (above′ ≤ value t x i u)
+      earlier le i a l h o =
+          ⊎-elim (λ y. gap-apart le (counts-from t lo i a) (gap i (leb-true b i y) l h))
+          (λ y. ⊎-elim _⊎_.inl (λ z. _⊎_.inr (le-trans le z)) (G .apart i a (leb-false b i y) h o))
+          (true-or-false (leb b i))
 
       listed : (i : ℕ) → i < j → leads t lo i ≡ true → touches t i u ≡ true → x (otherOf t i u) ≡ c → dayOf t i ≤ c → Place ws tail end (otherOf t i u)
       listed i l f h e o = ⊎-elim (λ y. gap-loses f e (gap i (leb-true b i y) l h)) (λ y. G .loses i (leb-false b i y) f h e o) (true-or-false (leb b i))
@@ -114,18 +139,33 @@ module _ (t : Table) (x : ℕ → ℕ) (lo hi : ℕ) where
       moves-to = G .moves ∙ sym (count-past (moving t x lo c u) b j from (λ i a k. gap-not (gap i a k)))
 
       -- from j on every row is dated after c, and after the range or not before the day above
-      pub rise-scanned-stop : ((i : ℕ) → j ≤ i → i < size t → c < dayOf t i) → ((i : ℕ) → j ≤ i → i < size t → (hi < dayOf t i) ⊎ (above ≤ dayOf t i)) → j ≤ size t → RiseScanned t x lo hi c u (size t) above moved tail end ws
+      pub rise-scanned-stop : ((i : ℕ) → j ≤ i → i < size t → c < dayOf t i)
+          → ((i : ℕ) → j ≤ i → i < size t → (hi < dayOf t i) ⊎ (above ≤ dayOf t i))
+          → j ≤ size t
+          → RiseScanned t x lo hi c u (size t) above moved tail end ws
       unfolding value
       rise-scanned-stop late far l =
           record {
-            apart = λ i a k h o. ⊎-elim (λ y. ⊎-elim (λ z. absurd (omega arith)) (λ z. _⊎_.inr (omega arith)) (far i (leb-true j i y) k)) (λ y. earlier (le-refl above) i a (leb-false j i y) h o) (true-or-false (leb j i));
-            moves = moves-to ∙ sym (count-past (moving t x lo c u) j (size t) l (λ i a k. moving-not c u i (λ m. let z = m .by in let w = late i a k in omega arith)));
-            loses = λ i k f h e o. ⊎-elim (λ y. let w = late i (leb-true j i y) k in absurd (omega arith)) (λ y. listed i (leb-false j i y) f h e o) (true-or-false (leb j i));
+            apart = λ i a k h o.
+                ⊎-elim
+                (λ y. ⊎-elim (λ z. absurd (omega arith)) (λ z. _⊎_.inr (omega arith)) (far i (leb-true j i y) k))
+                (λ y. earlier (le-refl above) i a (leb-false j i y) h o) (true-or-false (leb j i));
+            moves =
+                moves-to
+                ∙ sym (count-past (moving t x lo c u) j (size t) l
+                (λ i a k. moving-not c u i (λ m. let z = m .by in let w = late i a k in omega arith)));
+            loses = λ i k f h e o.
+                ⊎-elim (λ y. let w = late i (leb-true j i y) k in absurd (omega arith))
+                (λ y. listed i (leb-false j i y) f h e o) (true-or-false (leb j i));
             small = G .small;
             grows = G .grows;
           }
 
-      module _ {y : Bool} {v xv z n more n′ above′ more′ a w : ℕ} {ws′ : List ℕ} (l : lo ≤ j) (touch : touches t j u ≡ true) (ev : v ≡ otherOf t j u) (small : v < 4096) (ex : xv ≡ x v) (ez : z ≡ value t x j u) (ef : y ≡ leads t lo j) (N : RowNoted y z c n above more n′ above′ more′) (A : Picked (leb z c) 1 0 a) (room : end < length ws) (eq : ws′ ≡ set ws end v) (B : Picked ((leb z c && y) && eqb xv c) 1 0 w) where
+      module _ {y : Bool} {v xv z n more n′ above′ more′ a w : ℕ} {ws′ : List ℕ} (l : lo ≤ j)
+          (touch : touches t j u ≡ true) (ev : v ≡ otherOf t j u) (small : v < 4096) (ex : xv ≡ x v)
+          (ez : z ≡ value t x j u) (ef : y ≡ leads t lo j) (N : RowNoted y z c n above more n′ above′ more′)
+          (A : Picked (leb z c) 1 0 a) (room : end < length ws) (eq : ws′ ≡ set ws end v)
+          (B : Picked ((leb z c && y) && eqb xv c) 1 0 w) where
         here-now : getD ws′ end 0 ≡ v
         here-now = in-list end eq ∙ getD-set-same ws end v 0 room
 
@@ -136,8 +176,24 @@ module _ (t : Table) (x : ℕ → ℕ) (lo hi : ℕ) where
         unfolding count
         is-moved =
             subst (λ (i : ℕ). moved + a ≡ count (moving t x lo c u) i) (sym (add-one j))
-            (⊎-elim (λ h. let e = A .yes h in let m = moves-to in let o = sucIf-yes (count (moving t x lo c u) j) (moving-i c u j (record { counts = counts-here t lo j l; touch = touch; by = let g = leb-true z c h in omega arith })) in omega arith)
-            (λ h. let e = A .no h in let m = moves-to in let o = sucIf-no (count (moving t x lo c u) j) (moving-not c u j (λ k. let g = leb-false z c h in let i = k .by in omega arith)) in omega arith) (true-or-false (leb z c)))
+            (⊎-elim (λ h.
+            let e = A .yes h in
+            let m = moves-to in
+            let o = sucIf-yes (count (moving t x lo c u) j)
+            (moving-i c u j
+            (record {
+              counts = counts-here t lo j l;
+              touch = touch;
+              by = let g = leb-true z c h in omega arith;
+            })) in
+            omega arith)
+            (λ h.
+            let e = A .no h in
+            let m = moves-to in
+            let o = sucIf-no (count (moving t x lo c u) j)
+            (moving-not c u j (λ k. let g = leb-false z c h in let i = k .by in omega arith)) in
+            omega arith)
+            (true-or-false (leb z c)))
 
         own : leads t lo j ≡ true → x (otherOf t j u) ≡ c → dayOf t j ≤ c → Place ws′ tail (end + w) (otherOf t j u)
         unfolding value
@@ -150,19 +206,43 @@ module _ (t : Table) (x : ℕ → ℕ) (lo hi : ℕ) where
         rise-scanned-next =
             let up = row-noted-above N in
             record {
-              apart = λ i b k h o. ⊎-elim (λ e. subst (λ (m : ℕ). (value t x m u ≤ c) ⊎ (above′ ≤ value t x m u)) (sym e) (subst (λ (m : ℕ). (m ≤ c) ⊎ (above′ ≤ m)) ez (up .1))) (λ q. earlier (up .0) i b q h o) (eq-or-lt-of-le (let r : i ≤ j = omega arith in r));
+              apart = λ i b k h o.
+                  ⊎-elim
+                  (λ e. subst (λ (m : ℕ). (value t x m u ≤ c) ⊎ (above′ ≤ value t x m u)) (sym e)
+                  (subst (λ (m : ℕ). (m ≤ c) ⊎ (above′ ≤ m)) ez (up .1)))
+                  (λ q. earlier (up .0) i b q h o) (eq-or-lt-of-le (let r : i ≤ j = omega arith in r));
               moves = is-moved;
               loses = λ i k f h e o.
-                  ⊎-elim (λ q. subst (λ (m : ℕ). Place ws′ tail (end + w) (otherOf t m u)) (sym q) (own (subst (λ (m : ℕ). leads t lo m ≡ true) q f) (subst (λ (m : ℕ). x (otherOf t m u) ≡ c) q e) (subst (λ (m : ℕ). dayOf t m ≤ c) q o)))
-                  (λ q. let P = listed i q f h e o in let m = P .below in record { place = P .place; from = P .from; below = omega arith; is = else-now (P .place) (λ r. omega arith) ∙ P .is }) (eq-or-lt-of-le (let r : i ≤ j = omega arith in r));
-              small = λ i b k. ⊎-elim (λ e. let m = at-place ws′ e in let o = here-now in omega arith) (λ ne. let m = else-now i ne in let o = G .small i b (⊎-elim (λ q. absurd (ne q)) (λ q. q) (eq-or-lt-of-le (let r : i ≤ end = (let g = picked-most B in omega arith) in r))) in omega arith) (same-or i end);
+                  ⊎-elim (λ q. subst (λ (m : ℕ). Place ws′ tail (end + w) (otherOf t m u)) (sym q)
+                  (own (subst (λ (m : ℕ). leads t lo m ≡ true) q f) (subst (λ (m : ℕ). x (otherOf t m u) ≡ c) q e)
+                  (subst (λ (m : ℕ). dayOf t m ≤ c) q o)))
+                  (λ q.
+                  let P = listed i q f h e o in
+                  let m = P .below in
+                  record {
+                    place = P .place;
+                    from = P .from;
+                    below = omega arith;
+                    is = else-now (P .place) (λ r. omega arith) ∙ P .is;
+                  })
+                  (eq-or-lt-of-le (let r : i ≤ j = omega arith in r));
+              small = λ i b k.
+                  ⊎-elim (λ e. let m = at-place ws′ e in let o = here-now in omega arith)
+                  (λ ne.
+                  let m = else-now i ne in
+                  let o = G .small i b
+                  (⊎-elim (λ q. absurd (ne q)) (λ q. q)
+                  (eq-or-lt-of-le (let r : i ≤ end = (let g = picked-most B in omega arith) in r))) in
+                  omega arith)
+                  (same-or i end);
               grows = let m = G .grows in omega arith;
             }
 
 -- ---- the walk in the adjacency
 
 -- the rows of u before place p have been seen
-pub record RiseScanning (d f g scratch : List ℕ) (r : Frame) (xs : List ℕ) (u c tail : ℕ) (ws₀ : List ℕ) (p n above more moved end : ℕ) (ws : List ℕ) : Type 0 where
+pub record RiseScanning (d f g scratch : List ℕ) (r : Frame) (xs : List ℕ) (u c tail : ℕ) (ws₀ : List ℕ)
+    (p n above more moved end : ℕ) (ws : List ℕ) : Type 0 where
   pub b : ℕ
   pub within : b ≤ length d
   pub late : r .lo ≤ b
@@ -171,10 +251,15 @@ pub record RiseScanning (d f g scratch : List ℕ) (r : Frame) (xs : List ℕ) (
   pub kept : RiseScanned (tableOf d f g) (estimate xs) (r .lo) (r .stop) c u b above moved tail end ws
   pub behind : Behind tail ws₀ ws
 
-pub as-day-scan : {d f g scratch : List ℕ} {r : Frame} {xs : List ℕ} {u c tail : ℕ} {ws₀ : List ℕ} {p n above more moved end : ℕ} {ws : List ℕ} → RiseScanning d f g scratch r xs u c tail ws₀ p n above more moved end ws → DayScanning d f g scratch r xs u c p n above more
+pub as-day-scan : {d f g scratch : List ℕ} {r : Frame} {xs : List ℕ} {u c tail : ℕ} {ws₀ : List ℕ}
+    {p n above more moved end : ℕ} {ws : List ℕ}
+    → RiseScanning d f g scratch r xs u c tail ws₀ p n above more moved end ws
+    → DayScanning d f g scratch r xs u c p n above more
 as-day-scan G = record { b = G .b; within = G .within; late = G .late; reading = G .reading; scanned = G .scanned }
 
-module _ (d f g scratch : List ℕ) (r : Frame) (R : ReadyPruned d f g scratch r) (xs : List ℕ) (len : length xs ≡ 4096) (D : Days (r .stop) xs) {u c : ℕ} (small : u < 4096) (top : c ≤ r .stop) (E : Every (tableOf d f g) (estimate xs) (r .lo) u scratch) (tail : ℕ) (ws₀ : List ℕ) where
+module _ (d f g scratch : List ℕ) (r : Frame) (R : ReadyPruned d f g scratch r) (xs : List ℕ)
+    (len : length xs ≡ 4096) (D : Days (r .stop) xs) {u c : ℕ} (small : u < 4096) (top : c ≤ r .stop)
+    (E : Every (tableOf d f g) (estimate xs) (r .lo) u scratch) (tail : ℕ) (ws₀ : List ℕ) where
   abbrev tt : Table
   tt = tableOf d f g
 
@@ -193,12 +278,16 @@ module _ (d f g scratch : List ℕ) (r : Frame) (R : ReadyPruned d f g scratch r
         behind = record { long = l; front = λ i h. refl };
       }
 
-  module _ {p n above more moved end last : ℕ} {ws : List ℕ} (G : RiseScanning d f g scratch r xs u c tail ws₀ p n above more moved end ws) (ee : last ≡ getD scratch u 0) where
+  module _ {p n above more moved end last : ℕ} {ws : List ℕ}
+      (G : RiseScanning d f g scratch r xs u c tail ws₀ p n above more moved end ws)
+      (ee : last ≡ getD scratch u 0) where
     above-most : above ≤ never
     above-most = let h = R .setting .fits in ⊎-elim (λ y. omega arith) (λ y. omega arith) (G .scanned .day)
 
     pub rise-scan-out : last ≤ p → RiseScanned tt (estimate xs) (r .lo) (r .stop) c u (length d) above moved tail end ws
-    rise-scan-out h = rise-scanned-out tt (estimate xs) (r .lo) (r .stop) soon above-most (G .kept) (G .within) (reading-out d f g scratch (R .sound) (R .pruned) small (G .reading) ee E h)
+    rise-scan-out h =
+        rise-scanned-out tt (estimate xs) (r .lo) (r .stop) soon above-most (G .kept) (G .within)
+        (reading-out d f g scratch (R .sound) (R .pruned) small (G .reading) ee E h)
 
     module _ (here : p < last) {it : Incident} (I : RowRead tt scratch (r .lo) u p it) where
       from : G .b ≤ it .row
@@ -227,14 +316,17 @@ module _ (d f g scratch : List ℕ) (r : Frame) (R : ReadyPruned d f g scratch r
           ⊎-elim (λ h. absurd (omega arith)) (λ h. ⊎-elim (λ z. _⊎_.inl (omega arith)) (λ z. _⊎_.inr (omega arith)) h) (o .1))
           (let b = I .below in omega arith)
 
-      module _ {xv z n′ above′ more′ : ℕ} (l : it .day ≤ r .stop) (ex : xv ≡ getD xs (it .other) 0) (ez : z ≡ max xv (it .day)) (N : RowNoted (it .leads) z c n above more n′ above′ more′) where
+      module _ {xv z n′ above′ more′ : ℕ} (l : it .day ≤ r .stop) (ex : xv ≡ getD xs (it .other) 0)
+          (ez : z ≡ max xv (it .day)) (N : RowNoted (it .leads) z c n above more n′ above′ more′) where
         x-is : xv ≡ estimate xs (it .other)
         x-is = ex ∙ sym (estimate-at xs (it .other) len (I .small))
 
         z-is : z ≡ value tt (estimate xs) (it .row) u
         unfolding value
         z-is =
-            let h : estimate xs (otherOf tt (it .row) u) ≡ estimate xs (it .other) = ap (estimate xs) (sym (I .other)) in let k = x-is in let o = I .day in omega arith
+            let h : estimate xs (otherOf tt (it .row) u) ≡ estimate xs (it .other) =
+            ap (estimate xs) (sym (I .other)) in
+            let k = x-is in let o = I .day in omega arith
 
         z-day : (z ≤ r .stop) ⊎ (z ≡ never)
         z-day = let o = R .setting .fits in ⊎-elim (λ k. _⊎_.inl (omega arith)) (λ k. _⊎_.inr (omega arith)) (D (it .other) (I .small))
@@ -242,11 +334,19 @@ module _ (d f g scratch : List ℕ) (r : Frame) (R : ReadyPruned d f g scratch r
         scanned-on : RowsScanned tt (estimate xs) (r .lo) (r .stop) c u (it .row + 1) n′ above′ more′
         scanned-on =
             ⊎-elim
-            (λ h. scanned-note tt (r .query) (r .start) (r .stop) (r .lo) (R .setting) (estimate xs) (G .scanned) (it .row) from gap (sym (I .leads late) ∙ h) (I .touch) z-is z-day (subst (λ (w : Bool). RowNoted w z c n above more n′ above′ more′) h N))
-            (λ h. scanned-idle tt (r .query) (r .start) (r .stop) (r .lo) (R .setting) (estimate xs) (G .scanned) (it .row) from gap (sym (I .leads late) ∙ h) z-day (subst (λ (w : Bool). RowNoted w z c n above more n′ above′ more′) h N))
+            (λ h. scanned-note tt (r .query) (r .start) (r .stop) (r .lo) (R .setting) (estimate xs) (G .scanned)
+            (it .row) from gap (sym (I .leads late) ∙ h) (I .touch) z-is z-day
+            (subst (λ (w : Bool). RowNoted w z c n above more n′ above′ more′) h N))
+            (λ h. scanned-idle tt (r .query) (r .start) (r .stop) (r .lo) (R .setting) (estimate xs) (G .scanned)
+            (it .row) from gap (sym (I .leads late) ∙ h) z-day
+            (subst (λ (w : Bool). RowNoted w z c n above more n′ above′ more′) h N))
             (true-or-false (it .leads))
 
-        pub rise-scan-next : {m w : ℕ} {ws′ : List ℕ} → Picked (leb z c) 1 0 m → end < length ws → ws′ ≡ set ws end (it .other) → Picked ((leb z c && it .leads) && eqb xv c) 1 0 w
+        pub rise-scan-next : {m w : ℕ} {ws′ : List ℕ}
+            → Picked (leb z c) 1 0 m
+            → end < length ws
+            → ws′ ≡ set ws end (it .other)
+            → Picked ((leb z c && it .leads) && eqb xv c) 1 0 w
             → RiseScanning d f g scratch r xs u c tail ws₀ (p + 1) n′ above′ more′ (moved + m) (end + w) ws′
         rise-scan-next {ws′ = ws′} A room eq B =
             record {
@@ -255,8 +355,16 @@ module _ (d f g scratch : List ℕ) (r : Frame) (R : ReadyPruned d f g scratch r
               late = let h = late in omega arith;
               reading = reading-next d f g scratch (R .sound) (R .pruned) small (G .reading) ee here (I .row);
               scanned = scanned-on;
-              kept = rise-scanned-next tt (estimate xs) (r .lo) (r .stop) soon above-most (G .kept) (it .row) from gap late (I .touch) (I .other) (I .small) x-is z-is (I .leads late) N A room eq B;
-              behind = record { long = ap length eq ∙ (length-set ws end (it .other) ∙ G .behind .long); front = λ i h. in-list i eq ∙ (getD-set-other ws end i (it .other) 0 (λ o. let k = G .kept .grows in omega arith) ∙ G .behind .front i h) };
+              kept =
+                  rise-scanned-next tt (estimate xs) (r .lo) (r .stop) soon above-most (G .kept)
+                  (it .row) from gap late (I .touch) (I .other) (I .small) x-is z-is (I .leads late) N A room eq B;
+              behind =
+                  record {
+                    long = ap length eq ∙ (length-set ws end (it .other) ∙ G .behind .long);
+                    front = λ i h. in-list i eq
+                        ∙ (getD-set-other ws end i (it .other) 0 (λ o. let k = G .kept .grows in omega arith)
+                        ∙ G .behind .front i h);
+                  };
             }
 
 -- ---- who is listed loses a supporter
@@ -269,9 +377,21 @@ pub record DroppingListed (tail : ℕ) (sp₀ ws₀ : List ℕ) (p end : ℕ) (s
   pub rest : (i : ℕ) → p ≤ i → getD ws i 0 ≡ getD ws₀ i 0
 
 pub dropping-listed-start : (tail : ℕ) (sp ws : List ℕ) → length sp ≡ 4096 → length ws ≡ 4352 → DroppingListed tail sp ws tail tail sp ws
-dropping-listed-start tail sp ws l m = record { behind = le-refl tail; queued = queued-start tail sp ws m; fewer = record { long = l; less = λ w. le-refl (getD sp w 0); each = λ i a b. absurd (omega arith) }; rest = λ i h. refl }
+dropping-listed-start tail sp ws l m =
+    record {
+      behind = le-refl tail;
+      queued = queued-start tail sp ws m;
+      fewer = record { long = l; less = λ w. le-refl (getD sp w 0); each = λ i a b. absurd (omega arith) };
+      rest = λ i h. refl;
+    }
 
-pub dropping-listed-next : {tail p end end′ v : ℕ} {sp₀ ws₀ sp ws sp′ ws′ : List ℕ} → DroppingListed tail sp₀ ws₀ p end sp ws → p < 4352 → v ≡ getD ws p 0 → v < 4096 → DroppedSupporter true v end sp ws sp′ ws′ end′ → DroppingListed tail sp₀ ws₀ (p + 1) end′ sp′ ws′
+pub dropping-listed-next : {tail p end end′ v : ℕ} {sp₀ ws₀ sp ws sp′ ws′ : List ℕ}
+    → DroppingListed tail sp₀ ws₀ p end sp ws
+    → p < 4352
+    → v ≡ getD ws p 0
+    → v < 4096
+    → DroppedSupporter true v end sp ws sp′ ws′ end′
+    → DroppingListed tail sp₀ ws₀ (p + 1) end′ sp′ ws′
 dropping-listed-next {p = p} {end = end} {v = v} {sp₀ = sp₀} {ws₀ = ws₀} {ws = ws} {sp′ = sp′} Z here ev small L =
     let o = Z .behind in
     let D = dropped-supporter-less small (Z .fewer .long) L in
@@ -283,18 +403,36 @@ dropping-listed-next {p = p} {end = end} {v = v} {sp₀ = sp₀} {ws₀ = ws₀}
             long = D .long;
             less = λ w. le-trans (D .down w) (Z .fewer .less w);
             each = λ i a b.
-                ⊎-elim (λ e. let h : getD ws₀ i 0 ≡ v = at-place ws₀ e ∙ (sym (Z .rest p (le-refl p)) ∙ sym ev) in let k = at-place sp′ h in let m = at-place sp₀ h in let n = D .one refl in let c = Z .fewer .less v in omega arith)
+                ⊎-elim (λ e.
+                let h : getD ws₀ i 0 ≡ v = at-place ws₀ e ∙ (sym (Z .rest p (le-refl p)) ∙ sym ev) in
+                let k = at-place sp′ h in
+                let m = at-place sp₀ h in
+                let n = D .one refl in
+                let c = Z .fewer .less v in
+                omega arith)
                 (λ l. let h = Z .fewer .each i a l in let k = D .down (getD ws₀ i 0) in omega arith) (eq-or-lt-of-le (let r : i ≤ p = omega arith in r));
           };
       rest = λ i h. in-list i (L .queued) ∙ (getD-set-other ws end i v 0 (λ e. omega arith) ∙ Z .rest i (omega arith));
     }
 
-pub dropping-listed-end : {tail p upto end : ℕ} {sp₀ ws₀ sp ws : List ℕ} → DroppingListed tail sp₀ ws₀ p end sp ws → upto ≤ p → DroppedListed tail upto ws₀ sp₀ sp
+pub dropping-listed-end : {tail p upto end : ℕ} {sp₀ ws₀ sp ws : List ℕ}
+    → DroppingListed tail sp₀ ws₀ p end sp ws
+    → upto ≤ p
+    → DroppedListed tail upto ws₀ sp₀ sp
 dropping-listed-end Z h = record { long = Z .fewer .long; less = Z .fewer .less; each = λ i a b. Z .fewer .each i a (omega arith) }
 
 -- ---- and is who loses u by the rise
 
-pub rise-scanned-dropped-supported : (t : Table) (q : Query) (s hi lo : ℕ) → Setting t q s hi lo → (xs : List ℕ) → length xs ≡ 4096 → Days hi xs → {u c new moved tail end : ℕ} {ws ws₁ sp sp′ : List ℕ} → new ≤ never → RiseScanned t (estimate xs) lo hi c u (size t) new moved tail end ws → ((i : ℕ) → tail ≤ i → getD ws₁ i 0 ≡ getD ws i 0) → DroppedListed tail end ws₁ sp sp′ → DroppedSupported t (estimate (set xs u new)) lo u (size t) c new sp sp′
+pub rise-scanned-dropped-supported : (t : Table) (q : Query) (s hi lo : ℕ)
+    → Setting t q s hi lo
+    → (xs : List ℕ) → length xs ≡ 4096
+    → Days hi xs
+    → {u c new moved tail end : ℕ} {ws ws₁ sp sp′ : List ℕ}
+    → new ≤ never
+    → RiseScanned t (estimate xs) lo hi c u (size t) new moved tail end ws
+    → ((i : ℕ) → tail ≤ i → getD ws₁ i 0 ≡ getD ws i 0)
+    → DroppedListed tail end ws₁ sp sp′
+    → DroppedSupported t (estimate (set xs u new)) lo u (size t) c new sp sp′
 unfolding estimate value
 rise-scanned-dropped-supported t q s hi lo S xs len D {u} {c} {new} {tail = tail} {end = end} {ws = ws} {ws₁ = ws₁} {sp = sp} {sp′ = sp′} top G same F =
     record { long = F .long; less = F .less; dropped = λ j l f h a b k. let e = same-time j l h in loses j l f h (omega arith) (omega arith) (omega arith) }
@@ -307,7 +445,14 @@ rise-scanned-dropped-supported t q s hi lo S xs len D {u} {c} {new} {tail = tail
         let e : getD ws₁ (P .place) 0 ≡ v = same (P .place) (P .from) ∙ P .is in
         let m = F .each (P .place) (P .from) (P .below) in let n = at-place sp′ e in let o = at-place sp e in omega arith
 
-    loses : (j : ℕ) → j < size t → leads t lo j ≡ true → touches t j u ≡ true → c ≤ estimate xs (otherOf t j u) → dayOf t j ≤ estimate xs (otherOf t j u) → estimate xs (otherOf t j u) < new → getD sp′ (otherOf t j u) 0 ≤ getD sp (otherOf t j u) 0 - 1
+    loses : (j : ℕ)
+        → j < size t
+        → leads t lo j ≡ true
+        → touches t j u ≡ true
+        → c ≤ estimate xs (otherOf t j u)
+        → dayOf t j ≤ estimate xs (otherOf t j u)
+        → estimate xs (otherOf t j u) < new
+        → getD sp′ (otherOf t j u) 0 ≤ getD sp (otherOf t j u) 0 - 1
     loses j l f h a b k =
         let v = other-small t q s hi lo S j u l h in
         let g = estimate-at xs (otherOf t j u) len v in

@@ -43,8 +43,14 @@ count-except p r (suc n) u h =
     ⊎-elim (λ y. let a = sucIf-yes (count p n) y in
     ⊎-elim (λ z. let b = sucIf-yes (count r n) z in omega arith)
     (λ z. let b = sucIf-no (count r n) z in
-    ⊎-elim (λ e. let m = count-mono p r n (λ i l. h i (omega (arith, l)) (λ o. omega (arith, l, o, e))) in omega arith) (λ k. clash (h n (le-refl (suc n)) k y) z) (same-or n u)) (true-or-false (r n)))
-    (λ y. let a = sucIf-no (count p n) y in ⊎-elim (λ z. let b = sucIf-yes (count r n) z in omega arith) (λ z. let b = sucIf-no (count r n) z in omega arith) (true-or-false (r n))) (true-or-false (p n))
+    ⊎-elim
+    (λ e. let m = count-mono p r n (λ i l. h i (omega (arith, l)) (λ o. omega (arith, l, o, e))) in omega arith)
+    (λ k. clash (h n (le-refl (suc n)) k y) z) (same-or n u))
+    (true-or-false (r n)))
+    (λ y. let a = sucIf-no (count p n) y in
+    ⊎-elim (λ z. let b = sucIf-yes (count r n) z in omega arith)
+    (λ z. let b = sucIf-no (count r n) z in omega arith) (true-or-false (r n)))
+    (true-or-false (p n))
 
 -- from m on, p holds only where r does
 pub count-split : (p r : ℕ → Bool) (m n : ℕ) → m ≤ n → ((i : ℕ) → m ≤ i → i < n → p i ≡ true → r i ≡ true) → count p n ≤ count p m + count r n
@@ -54,12 +60,16 @@ count-split p r m (suc n) l h =
     ⊎-elim (λ e. subst (λ (a : ℕ). count p (suc n) ≤ count p a + count r (suc n)) (sym e) (omega arith))
     (λ k. let o = count-split p r m n (omega arith) (λ i a b. h i a (omega arith)) in
     ⊎-elim (λ y. let a = sucIf-yes (count p n) y in let b = sucIf-yes (count r n) (h n (omega arith) (le-refl (suc n)) y) in omega arith)
-    (λ y. let a = sucIf-no (count p n) y in ⊎-elim (λ z. let b = sucIf-yes (count r n) z in omega arith) (λ z. let b = sucIf-no (count r n) z in omega arith) (true-or-false (r n))) (true-or-false (p n)))
+    (λ y. let a = sucIf-no (count p n) y in
+    ⊎-elim (λ z. let b = sucIf-yes (count r n) z in omega arith)
+    (λ z. let b = sucIf-no (count r n) z in omega arith) (true-or-false (r n)))
+    (true-or-false (p n)))
     (eq-or-lt-of-le l)
 
 -- ---- a rise
 
-module _ (t : Table) (q : Query) (s hi : ℕ) (x x′ : ℕ → ℕ) (u y : ℕ) (now : x′ u ≡ y) (else : (v : ℕ) → (v ≡ u → ⊥) → x′ v ≡ x v) (L : Least t x s (q .k) hi (x u) u y) where
+module _ (t : Table) (q : Query) (s hi : ℕ) (x x′ : ℕ → ℕ) (u y : ℕ) (now : x′ u ≡ y)
+    (else : (v : ℕ) → (v ≡ u → ⊥) → x′ v ≡ x v) (L : Least t x s (q .k) hi (x u) u y) where
   rise-lower : Lower t q hi s x → Lower t q hi s x′
   rise-lower low =
       record {
@@ -77,13 +87,33 @@ module _ (t : Table) (q : Query) (s hi : ℕ) (x x′ : ℕ → ℕ) (u y : ℕ)
   unfolding supporters
   rise-own accounts c =
       count-mono (supports t x s c u) (supports t x′ s c u) (names t)
-      (λ v l h. let b = supports-e t x s c u v h in supports-i t x′ s c u v (record { row = b .row; below = b .below; join = b .join; opens = b .opens; other = subst (λ (a : ℕ). a ≤ c) (sym (else v (apart v (b .row) (b .below) (b .join)))) (b .other) }))
+      (λ v l h. let b = supports-e t x s c u v h in
+      supports-i t x′ s c u v
+      (record {
+        row = b .row;
+        below = b .below;
+        join = b .join;
+        opens = b .opens;
+        other = subst (λ (a : ℕ). a ≤ c) (sym (else v (apart v (b .row) (b .below) (b .join)))) (b .other);
+      }))
     where
       apart : (v j : ℕ) → j < size t → joins t j u v ≡ true → v ≡ u → ⊥
-      apart v j l h e = let a = accounts j l in ⊎-elim (λ c. let f = c .0 in let g = c .1 in omega arith) (λ c. let f = c .0 in let g = c .1 in omega arith) (joins-cases t j u v h)
+      apart v j l h e =
+          let a = accounts j l in
+          ⊎-elim (λ c. let f = c .0 in let g = c .1 in omega arith) (λ c. let f = c .0 in let g = c .1 in omega arith)
+          (joins-cases t j u v h)
 
   stays : (c w v : ℕ) → (v ≡ u → ⊥) → supports t x s c w v ≡ true → supports t x′ s c w v ≡ true
-  stays c w v n h = let b = supports-e t x s c w v h in supports-i t x′ s c w v (record { row = b .row; below = b .below; join = b .join; opens = b .opens; other = subst (λ (a : ℕ). a ≤ c) (sym (else v n)) (b .other) })
+  stays c w v n h =
+      let b = supports-e t x s c w v h in
+      supports-i t x′ s c w v
+      (record {
+        row = b .row;
+        below = b .below;
+        join = b .join;
+        opens = b .opens;
+        other = subst (λ (a : ℕ). a ≤ c) (sym (else v n)) (b .other);
+      })
 
   -- another account loses u at most
   rise-other : (c w : ℕ) → supporters t x s c w ≤ supporters t x′ s c w + 1
@@ -98,11 +128,22 @@ module _ (t : Table) (q : Query) (s hi : ℕ) (x x′ : ℕ → ℕ) (u y : ℕ)
       keeps : (v : ℕ) → v ≡ u → supports t x s c w v ≡ true → supports t x′ s c w v ≡ true
       keeps v e h =
           ⊎-elim (λ f. clash (subst (λ (a : ℕ). supports t x s c w a ≡ true) e h) f)
-          (λ k. let b = supports-e t x s c w v h in supports-i t x′ s c w v (record { row = b .row; below = b .below; join = b .join; opens = b .opens; other = subst (λ (a : ℕ). x′ a ≤ c) (sym e) (subst (λ (a : ℕ). a ≤ c) (sym now) k) })) o
+          (λ k. let b = supports-e t x s c w v h in
+          supports-i t x′ s c w v
+          (record {
+            row = b .row;
+            below = b .below;
+            join = b .join;
+            opens = b .opens;
+            other = subst (λ (a : ℕ). x′ a ≤ c) (sym e) (subst (λ (a : ℕ). a ≤ c) (sym now) k);
+          }))
+          o
 
 -- ---- an account settles
 
-module _ (t : Table) (q : Query) (s hi lo : ℕ) (S : Setting t q s hi lo) {xs sp : List ℕ} (Z : Settling t q hi s xs sp) {u y m : ℕ} (small : u < 4096) (K : DayFound t (estimate xs) s (q .k) hi (getD xs u 0) u y m) where
+module _ (t : Table) (q : Query) (s hi lo : ℕ) (S : Setting t q s hi lo) {xs sp : List ℕ}
+    (Z : Settling t q hi s xs sp) {u y m : ℕ} (small : u < 4096)
+    (K : DayFound t (estimate xs) s (q .k) hi (getD xs u 0) u y m) where
   xs′ : List ℕ
   xs′ = set xs u y
 
@@ -124,7 +165,9 @@ module _ (t : Table) (q : Query) (s hi lo : ℕ) (S : Setting t q s hi lo) {xs s
   days′ : Days hi xs′
   unfolding xs′
   days′ w l =
-      ⊎-elim (λ e. subst (λ (c : ℕ). (c ≤ hi) ⊎ (c ≡ never)) (sym (at-place (set xs u y) e ∙ getD-set-same xs u y 0 (let m = Z .long in omega arith))) (⊎-elim _⊎_.inr (λ k. _⊎_.inl (k .0)) (K .least .enough)))
+      ⊎-elim (λ e. subst (λ (c : ℕ). (c ≤ hi) ⊎ (c ≡ never))
+      (sym (at-place (set xs u y) e ∙ getD-set-same xs u y 0 (let m = Z .long in omega arith)))
+      (⊎-elim _⊎_.inr (λ k. _⊎_.inl (k .0)) (K .least .enough)))
       (λ n. subst (λ (c : ℕ). (c ≤ hi) ⊎ (c ≡ never)) (sym (getD-set-other xs u w y 0 n)) (Z .days w l)) (same-or w u)
 
   sp-here : getD (set sp u m) u 0 ≡ m
@@ -135,20 +178,40 @@ module _ (t : Table) (q : Query) (s hi lo : ℕ) (S : Setting t q s hi lo) {xs s
   own sp″ h =
       ⊎-elim (λ e. _⊎_.inl (now-is ∙ e))
       (λ k. let o = rise-own t q s hi (estimate xs) (estimate xs′) u y now-is else-is L (S .accounts) y in
-      let g : supporters t (estimate xs′) s (estimate xs′ u) u ≡ supporters t (estimate xs′) s y u = ap (λ (c : ℕ). supporters t (estimate xs′) s c u) now-is in _⊎_.inr (omega arith)) (K .enough)
+      let g : supporters t (estimate xs′) s (estimate xs′ u) u ≡ supporters t (estimate xs′) s y u =
+      ap (λ (c : ℕ). supporters t (estimate xs′) s c u) now-is in
+      _⊎_.inr (omega arith))
+      (K .enough)
 
   -- and another account has lost u at most, and one to spare for that
-  other : (sp″ : List ℕ) → DroppedSupported t (estimate xs′) lo u (size t) (estimate xs u) y (set sp u m) sp″ → (w : ℕ) → w < 4096 → (w ≡ u → ⊥) → 1 ≤ getD sp″ w 0 → (estimate xs′ w ≡ never) ⊎ (q .k + getD sp″ w 0 ≤ supporters t (estimate xs′) s (estimate xs′ w) w + 1)
+  other : (sp″ : List ℕ)
+      → DroppedSupported t (estimate xs′) lo u (size t) (estimate xs u) y (set sp u m) sp″
+      → (w : ℕ) → w < 4096
+      → (w ≡ u → ⊥)
+      → 1 ≤ getD sp″ w 0
+      → (estimate xs′ w ≡ never) ⊎ (q .k + getD sp″ w 0 ≤ supporters t (estimate xs′) s (estimate xs′ w) w + 1)
   other sp″ O w l n some =
       let a : getD (set sp u m) w 0 ≡ getD sp w 0 = getD-set-other sp u w m 0 n in
       let b = O .less w in
       ⊎-elim (λ e. _⊎_.inl (else-is w n ∙ (estimate-at xs w (Z .long) l ∙ e)))
       (λ k. let c : getD xs w 0 ≡ estimate xs w = sym (estimate-at xs w (Z .long) l) in
-      let d : supporters t (estimate xs) s (getD xs w 0) w ≡ supporters t (estimate xs) s (estimate xs w) w = ap (λ (i : ℕ). supporters t (estimate xs) s i w) c in
-      let g : supporters t (estimate xs′) s (estimate xs′ w) w ≡ supporters t (estimate xs′) s (estimate xs w) w = ap (λ (i : ℕ). supporters t (estimate xs′) s i w) (else-is w n) in
-      _⊎_.inr (⊎-elim (λ v. ⊎-elim (λ z. let r = rise-keeps t q s hi (estimate xs) (estimate xs′) u y now-is else-is L (estimate xs w) w (_⊎_.inr (leb-true y (estimate xs w) z)) in omega arith)
-      (λ z. let r = rise-other t q s hi (estimate xs) (estimate xs′) u y now-is else-is L (estimate xs w) w in let h = less w n v (leb-false y (estimate xs w) z) in omega arith) (true-or-false (leb y (estimate xs w))))
-      (λ v. let r = rise-keeps t q s hi (estimate xs) (estimate xs′) u y now-is else-is L (estimate xs w) w (_⊎_.inl v) in omega arith) (true-or-false (supports t (estimate xs) s (estimate xs w) w u))))
+      let d : supporters t (estimate xs) s (getD xs w 0) w ≡ supporters t (estimate xs) s (estimate xs w) w =
+      ap (λ (i : ℕ). supporters t (estimate xs) s i w) c in
+      let g : supporters t (estimate xs′) s (estimate xs′ w) w ≡ supporters t (estimate xs′) s (estimate xs w) w =
+      ap (λ (i : ℕ). supporters t (estimate xs′) s i w) (else-is w n) in
+      _⊎_.inr (⊎-elim (λ v. ⊎-elim
+      (λ z. let r = rise-keeps t q s hi (estimate xs) (estimate xs′) u y now-is else-is L (estimate xs w) w
+      (_⊎_.inr (leb-true y (estimate xs w) z)) in
+      omega arith)
+      (λ z.
+      let r = rise-other t q s hi (estimate xs) (estimate xs′) u y now-is else-is L (estimate xs w) w in
+      let h = less w n v (leb-false y (estimate xs w) z) in
+      omega arith)
+      (true-or-false (leb y (estimate xs w))))
+      (λ v. let r = rise-keeps t q s hi (estimate xs) (estimate xs′) u y now-is else-is L (estimate xs w) w
+      (_⊎_.inl v) in
+      omega arith)
+      (true-or-false (supports t (estimate xs) s (estimate xs w) w u))))
       (Z .enough w l (omega arith))
     where
       -- w had u for a supporter: the first row of their pair says so too
@@ -158,7 +221,9 @@ module _ (t : Table) (q : Query) (s hi lo : ℕ) (S : Setting t q s hi lo) {xs s
           let f = open-lead t q s hi lo S (b .row) u w (estimate xs w) (b .below) (joins-swap t (b .row) w u (b .join)) (b .opens) in
           let below = f .below in
           let tu = joins-touch t (f .row) u w (f .join) .0 in
-          let e : otherOf t (f .row) u ≡ w = joins-same t (f .row) u (otherOf t (f .row) u) w (joins-other t (f .row) u (S .accounts (f .row) below) tu) (f .join) in
+          let e : otherOf t (f .row) u ≡ w = joins-same t (f .row) u (otherOf t (f .row) u) w
+          (joins-other t (f .row) u (S .accounts (f .row) below) tu)
+          (f .join) in
           let g : estimate xs′ (otherOf t (f .row) u) ≡ estimate xs w = ap (estimate xs′) e ∙ else-is w n in
           let c = f .by in
           let o = b .other in
@@ -174,22 +239,46 @@ module _ (t : Table) (q : Query) (s hi lo : ℕ) (S : Setting t q s hi lo) {xs s
         days = days′;
         lower = rise-lower t q s hi (estimate xs) (estimate xs′) u y now-is else-is L (record { under = Z .lower }) .under;
         enough = λ w l h. subst (λ (c : ℕ). (c ≡ never) ⊎ (q .k + getD sp″ w 0 ≤ supporters t (estimate xs′) s c w + 1)) (estimate-at xs′ w long′ l)
-            (⊎-elim (λ e. subst (λ (v : ℕ). (estimate xs′ v ≡ never) ⊎ (q .k + getD sp″ v 0 ≤ supporters t (estimate xs′) s (estimate xs′ v) v + 1)) (sym e) (own sp″ (let a = O .less u in let b = sp-here in omega arith))) (λ n. other sp″ O w l n h) (same-or w u));
+            (⊎-elim
+            (λ e. subst
+            (λ (v : ℕ). (estimate xs′ v ≡ never)
+            ⊎ (q .k + getD sp″ v 0 ≤ supporters t (estimate xs′) s (estimate xs′ v) v + 1))
+            (sym e) (own sp″ (let a = O .less u in let b = sp-here in omega arith)))
+            (λ n. other sp″ O w l n h) (same-or w u));
       }
 
-  module _ {xs₀ ws : List ℕ} {head tail r : ℕ} (W : Waiting head tail sp ws) (front : getD ws head 0 ≡ u) (B : r ≤ head) (I : Raised xs₀ xs ws r) (here : head < tail) (room : tail ≤ 4352) where
+  module _ {xs₀ ws : List ℕ} {head tail r : ℕ} (W : Waiting head tail sp ws) (front : getD ws head 0 ≡ u)
+      (B : r ≤ head) (I : Raised xs₀ xs ws r) (here : head < tail) (room : tail ≤ 4352) where
     -- who waits stands behind u
     behind : (w : ℕ) → w < 4096 → getD (set sp u m) w 0 ≡ 0 → Place ws (head + 1) tail w
-    behind w l z = ⊎-elim (λ e. let a = at-place (set sp u m) e in let b = sp-here in let c = K .known in absurd (omega arith)) (λ n. go n (W .waits w l (sym (getD-set-other sp u w m 0 n) ∙ z))) (same-or w u)
+    behind w l z =
+        ⊎-elim
+        (λ e. let a = at-place (set sp u m) e in let b = sp-here in let c = K .known in absurd (omega arith))
+        (λ n. go n (W .waits w l (sym (getD-set-other sp u w m 0 n) ∙ z))) (same-or w u)
       where
         go : (w ≡ u → ⊥) → Place ws head tail w → Place ws (head + 1) tail w
-        go n p = record { place = p .place; from = ⊎-elim (λ e. absurd (n (sym (p .is) ∙ (at-place ws (sym e) ∙ front)))) (λ k. omega arith) (eq-or-lt-of-le (p .from)); below = p .below; is = p .is }
+        go n p =
+            record {
+              place = p .place;
+              from =
+                  ⊎-elim (λ e. absurd (n (sym (p .is) ∙ (at-place ws (sym e) ∙ front)))) (λ k. omega arith)
+                  (eq-or-lt-of-le (p .from));
+              below = p .below;
+              is = p .is;
+            }
 
     pub account-same : y ≡ getD xs u 0 → Rising t q hi s xs₀ xs (set sp u m) ws (head + 1) tail r
     unfolding xs′
     account-same e =
         record {
-          settling = subst (λ (a : List ℕ). Settling t q hi s a (set sp u m)) same (settled (set sp u m) (record { long = length-set sp u m ∙ Z .long-slack; less = λ w. le-refl (getD (set sp u m) w 0); dropped = λ j k f h a b c. absurd (never-less j k f h a c) }));
+          settling =
+              subst (λ (a : List ℕ). Settling t q hi s a (set sp u m)) same
+              (settled (set sp u m)
+              (record {
+                long = length-set sp u m ∙ Z .long-slack;
+                less = λ w. le-refl (getD (set sp u m) w 0);
+                dropped = λ j k f h a b c. absurd (never-less j k f h a c);
+              }));
           waiting = record { long = W .long; ordered = omega arith; waits = behind; small = λ i a b. W .small i (omega arith) b };
           behind = omega arith;
           raised = I;
@@ -198,29 +287,58 @@ module _ (t : Table) (q : Query) (s hi lo : ℕ) (S : Setting t q s hi lo) {xs s
         same : set xs u y ≡ xs
         same = ap (set xs u) e ∙ set-getD xs u 0
 
-        never-less : (j : ℕ) → j < size t → leads t lo j ≡ true → touches t j u ≡ true → estimate xs u ≤ estimate xs′ (otherOf t j u) → estimate xs′ (otherOf t j u) < y → ⊥
+        never-less : (j : ℕ)
+            → j < size t
+            → leads t lo j ≡ true
+            → touches t j u ≡ true
+            → estimate xs u ≤ estimate xs′ (otherOf t j u)
+            → estimate xs′ (otherOf t j u) < y
+            → ⊥
         never-less j k f h a c = let g = estimate-at xs u (Z .long) small in omega arith
 
-    pub account-rise : {sp″ ws₁ ws″ : List ℕ} {end : ℕ} → ws₁ ≡ set ws r u → DroppedSupported t (estimate (set xs u y)) lo u (size t) (getD xs u 0) y (set sp u m) sp″ → Queued tail (set sp u m) ws₁ end sp″ ws″ → end ≤ 4352 → Rising t q hi s xs₀ (set xs u y) sp″ ws″ (head + 1) end (r + 1)
+    pub account-rise : {sp″ ws₁ ws″ : List ℕ} {end : ℕ}
+        → ws₁ ≡ set ws r u
+        → DroppedSupported t (estimate (set xs u y)) lo u (size t) (getD xs u 0) y (set sp u m) sp″
+        → Queued tail (set sp u m) ws₁ end sp″ ws″
+        → end ≤ 4352
+        → Rising t q hi s xs₀ (set xs u y) sp″ ws″ (head + 1) end (r + 1)
     unfolding xs′
     account-rise {sp″} {ws₁} {ws″} {end} ew O Q top =
         let up = Q .grows top in
         record {
-          settling = settled sp″ (subst (λ (c : ℕ). DroppedSupported t (estimate (set xs u y)) lo u (size t) c y (set sp u m) sp″) (sym (estimate-at xs u (Z .long) small)) O);
+          settling =
+              settled sp″
+              (subst
+              (λ (c : ℕ). DroppedSupported t (estimate (set xs u y)) lo u (size t) c y (set sp u m) sp″)
+              (sym (estimate-at xs u (Z .long) small)) O);
           waiting =
               record {
                 long = Q .long;
                 ordered = omega arith;
-                waits = λ w l z. ⊎-elim (λ o. moved (behind w l o)) (λ p. let a = p .from in record { place = p .place; from = omega arith; below = p .below; is = p .is }) (Q .waits top w l z);
-                small = λ i a b. ⊎-elim (λ o. Q .small i (leb-true tail i o) b (omega arith)) (λ o. let c = leb-false tail i o in subst (λ (n : ℕ). n < 4096) (sym (kept i c (omega arith))) (W .small i (omega arith) c)) (true-or-false (leb tail i));
+                waits = λ w l z.
+                    ⊎-elim (λ o. moved (behind w l o))
+                    (λ p. let a = p .from in
+                    record { place = p .place; from = omega arith; below = p .below; is = p .is })
+                    (Q .waits top w l z);
+                small = λ i a b.
+                    ⊎-elim (λ o. Q .small i (leb-true tail i o) b (omega arith))
+                    (λ o. let c = leb-false tail i o in
+                    subst (λ (n : ℕ). n < 4096) (sym (kept i c (omega arith))) (W .small i (omega arith) c))
+                    (true-or-false (leb tail i));
               };
           behind = omega arith;
           raised =
               record {
                 long = Q .long;
                 within = omega arith;
-                small = λ i a. ⊎-elim (λ o. let b = at-place ws″ o in let c = mine in omega arith) (λ o. let b = before i o in subst (λ (n : ℕ). n < 4096) (sym b) (I .small i o)) (eq-or-lt-of-le (omega arith));
-                listed = λ w l d. ⊎-elim (λ o. record { place = r; from = omega arith; below = omega arith; is = mine ∙ sym o }) (λ o. later (I .listed w l (λ e. d (e ∙ sym (getD-set-other xs u w y 0 o))))) (same-or w u);
+                small = λ i a.
+                    ⊎-elim (λ o. let b = at-place ws″ o in let c = mine in omega arith)
+                    (λ o. let b = before i o in subst (λ (n : ℕ). n < 4096) (sym b) (I .small i o))
+                    (eq-or-lt-of-le (omega arith));
+                listed = λ w l d.
+                    ⊎-elim
+                    (λ o. record { place = r; from = omega arith; below = omega arith; is = mine ∙ sym o })
+                    (λ o. later (I .listed w l (λ e. d (e ∙ sym (getD-set-other xs u w y 0 o))))) (same-or w u);
               };
         }
       where
@@ -234,7 +352,11 @@ module _ (t : Table) (q : Query) (s hi lo : ℕ) (S : Setting t q s hi lo) {xs s
         mine = Q .front r (omega arith) (omega arith) ∙ (in-list r ew ∙ getD-set-same ws r u 0 (let a = W .long in omega arith))
 
         moved : {w : ℕ} → Place ws (head + 1) tail w → Place ws″ (head + 1) end w
-        moved p = let a = p .from in let b = p .below in let c = Q .grows top in record { place = p .place; from = a; below = omega arith; is = kept (p .place) b (omega arith) ∙ p .is }
+        moved p =
+            let a = p .from in
+            let b = p .below in
+            let c = Q .grows top in
+            record { place = p .place; from = a; below = omega arith; is = kept (p .place) b (omega arith) ∙ p .is }
 
         later : {w : ℕ} → Place ws 0 r w → Place ws″ 0 (r + 1) w
         later p = let b = p .below in record { place = p .place; from = p .from; below = omega arith; is = before (p .place) b ∙ p .is }

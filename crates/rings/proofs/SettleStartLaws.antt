@@ -1,5 +1,6 @@
 -- The first and the last state of a start that is settled (src/settle.rt).
---     split-rises, core-days, settle-start, settle-end from the core times at s, with those waiting who lost a supporter, to the core times at the next start, with nobody waiting
+--     split-rises, core-days, settle-start, settle-end from the core times at s, with those waiting who lost a
+--     supporter, to the core times at the next start, with nobody waiting
 --     core-never                                       who has no core time keeps none
 --     slack-ones, all-raised                            after a peel nobody is known to have a supporter to spare, and any time may be another
 --     Filled, filled-start, filled-next                a list that is written from the front
@@ -36,7 +37,15 @@ use Rattle.rings.proofs.SettleLaws.{count-split}
 
 -- no row leaves twice
 pub split-rises : {d : List ℕ} {s lo next : ℕ} → Split d s lo → Split d (s + 1) next → lo ≤ next
-split-rises {d} {s} {lo} {next} a b = ⊎-elim (λ y. leb-true lo next y) (λ y. let k = leb-false lo next y in let x = a .before next k in let w = a .within in let z = b .after next (le-refl next) (omega arith) in absurd (omega arith)) (true-or-false (leb lo next))
+split-rises {d} {s} {lo} {next} a b =
+    ⊎-elim (λ y. leb-true lo next y)
+    (λ y.
+    let k = leb-false lo next y in
+    let x = a .before next k in
+    let w = a .within in
+    let z = b .after next (le-refl next) (omega arith) in
+    absurd (omega arith))
+    (true-or-false (leb lo next))
 
 module _ (d f g : List ℕ) (q : Query) (s te lo : ℕ) (S : Setting (tableOf d f g) q s te lo) where
   abbrev ts : Table
@@ -48,13 +57,25 @@ module _ (d f g : List ℕ) (q : Query) (s te lo : ℕ) (S : Setting (tableOf d 
   pub core-days : {xs : List ℕ} → CoreTimesAre d f g (frameOf q s te lo) xs → Days te xs
   core-days {xs} C v l = subst (λ (c : ℕ). (c ≤ te) ⊎ (c ≡ never)) (sym (C .times v l)) (⊎-elim _⊎_.inr (λ w. _⊎_.inl (w .1)) (account-time ts q te s v))
 
-  same-supporters : {xs : List ℕ} → CoreTimesAre d f g (frameOf q s te lo) xs → (c u : ℕ) → supporters ts (accountTime ts q te s) s c u ≤ supporters ts (estimate xs) s c u
+  same-supporters : {xs : List ℕ}
+      → CoreTimesAre d f g (frameOf q s te lo) xs
+      → (c u : ℕ) → supporters ts (accountTime ts q te s) s c u ≤ supporters ts (estimate xs) s c u
   unfolding supporters
   same-supporters {xs} C c u =
       count-mono (supports ts (accountTime ts q te s) s c u) (supports ts (estimate xs) s c u) (names ts)
       (λ v l h.
       let b = supports-e ts (accountTime ts q te s) s c u v h in
-      supports-i ts (estimate xs) s c u v (record { row = b .row; below = b .below; join = b .join; opens = b .opens; other = subst (λ (a : ℕ). a ≤ c) (sym (at-core C v (touch-small ts q s te lo S (b .row) v (b .below) (joins-touch ts (b .row) u v (b .join) .1)))) (b .other) }))
+      supports-i ts (estimate xs) s c u v
+      (record {
+        row = b .row;
+        below = b .below;
+        join = b .join;
+        opens = b .opens;
+        other = subst (λ (a : ℕ). a ≤ c)
+            (sym (at-core C v
+            (touch-small ts q s te lo S (b .row) v (b .below) (joins-touch ts (b .row) u v (b .join) .1))))
+            (b .other);
+      }))
 
   -- after a peel nobody is known to have a supporter to spare
   pub slack-ones : {xs sp : List ℕ} → CoreTimesAre d f g (frameOf q s te lo) xs → length sp ≡ 4096 → ((u : ℕ) → u < 4096 → getD sp u 0 ≡ 1) → Slack ts q s xs sp
@@ -62,21 +83,30 @@ module _ (d f g : List ℕ) (q : Query) (s te lo : ℕ) (S : Setting (tableOf d 
       record {
         long = l;
         known = λ u h. let e = ones u h in omega arith;
-        enough = λ u h. ⊎-elim _⊎_.inl (λ m. let e = ones u h in _⊎_.inr (omega arith)) (subst (λ (c : ℕ). (c ≡ never) ⊎ (q .k ≤ supporters ts (estimate xs) s c u)) (sym (C .times u h))
+        enough = λ u h.
+            ⊎-elim _⊎_.inl (λ m. let e = ones u h in _⊎_.inr (omega arith))
+            (subst (λ (c : ℕ). (c ≡ never) ⊎ (q .k ≤ supporters ts (estimate xs) s c u)) (sym (C .times u h))
             (⊎-elim _⊎_.inl (λ m. _⊎_.inr (le-trans m (same-supporters C (accountTime ts q te s u) u))) (times-closed ts q te s (S .fits) u .enough-or-never)));
       }
 
   -- the rows dated s have left
-  module _ {next : ℕ} (S′ : Setting (tableOf d f g) q (s + 1) te next) (up : lo ≤ next) (within : next ≤ length d) {xs sp₀ sp ws₀ ws : List ℕ} {r : ℕ} (C : CoreTimesAre d f g (frameOf q s te lo) xs) (P : Slack ts q s xs sp₀) (F : Leaving ts (estimate xs) lo next sp₀ sp) (Q : Queued 0 sp₀ ws₀ r sp ws) where
+  module _ {next : ℕ} (S′ : Setting (tableOf d f g) q (s + 1) te next) (up : lo ≤ next) (within : next ≤ length d)
+      {xs sp₀ sp ws₀ ws : List ℕ} {r : ℕ} (C : CoreTimesAre d f g (frameOf q s te lo) xs)
+      (P : Slack ts q s xs sp₀) (F : Leaving ts (estimate xs) lo next sp₀ sp) (Q : Queued 0 sp₀ ws₀ r sp ws) where
     backing-on : (c u j : ℕ) → next ≤ j → backing ts (estimate xs) lo c u j ≡ true → backing ts (estimate xs) next c u j ≡ true
-    backing-on c u j h b = let e = backing-e ts q s te lo S (estimate xs) c u j b in backing-i ts q (s + 1) te next S′ (estimate xs) c u j (record { is-lead = lead-on ts up j (counts-here ts next j h) (e .is-lead); touch = e .touch; by = e .by })
+    backing-on c u j h b =
+        let e = backing-e ts q s te lo S (estimate xs) c u j b in
+        backing-i ts q (s + 1) te next S′ (estimate xs) c u j
+        (record { is-lead = lead-on ts up j (counts-here ts next j h) (e .is-lead); touch = e .touch; by = e .by })
 
     fewer : (c u : ℕ) → supporters ts (estimate xs) s c u ≤ backers ts (estimate xs) lo c u next + supporters ts (estimate xs) (s + 1) c u
     unfolding backers
     fewer c u =
         let a = backers-are ts q s te lo S (estimate xs) c u in
         let b = backers-are ts q (s + 1) te next S′ (estimate xs) c u in
-        let m = count-split (backing ts (estimate xs) lo c u) (backing ts (estimate xs) next c u) next (length d) within (λ i h l o. backing-on c u i h o) in omega arith
+        let m = count-split (backing ts (estimate xs) lo c u) (backing ts (estimate xs) next c u) next
+        (length d) within (λ i h l o. backing-on c u i h o) in
+        omega arith
 
     pub settle-start : r ≤ 4352 → Rising ts q te (s + 1) xs xs sp ws 0 r 0
     settle-start top =
@@ -107,9 +137,16 @@ module _ (d f g : List ℕ) (q : Query) (s te lo : ℕ) (S : Setting (tableOf d 
           raised = record { long = Q .long; within = omega arith; small = λ i a. absurd (not-suc-le-zero a); listed = λ u l n. absurd (n refl) };
         }
 
-  pub settle-end : {xs₀ xs sp ws : List ℕ} {head tail r : ℕ} → Rising ts q te s xs₀ xs sp ws head tail r → tail ≤ head → CoreTimesAre d f g (frameOf q s te lo) xs × Slack ts q s xs sp × Raised xs₀ xs ws r
+  pub settle-end : {xs₀ xs sp ws : List ℕ} {head tail r : ℕ}
+      → Rising ts q te s xs₀ xs sp ws head tail r
+      → tail ≤ head
+      → CoreTimesAre d f g (frameOf q s te lo) xs × Slack ts q s xs sp × Raised xs₀ xs ws r
   settle-end {xs₀} {xs} {sp} {ws} {head} {tail} {r} Z out = (
-    record { long = T .long; times = λ u l. sym (estimate-at xs u (T .long) l) ∙ fixpoint ts q te s (estimate xs) (S .fits) closed (S .some-k) days (record { under = T .lower }) u },
+    record {
+      long = T .long;
+      times = λ u l. sym (estimate-at xs u (T .long) l)
+          ∙ fixpoint ts q te s (estimate xs) (S .fits) closed (S .some-k) days (record { under = T .lower }) u;
+    },
     record { long = T .long-slack; known = some; enough = λ u l. T .enough u l (some u l) },
     Z .raised,
   )
@@ -118,16 +155,34 @@ module _ (d f g : List ℕ) (q : Query) (s te lo : ℕ) (S : Setting (tableOf d 
       T = Z .settling
 
       some : (u : ℕ) → u < 4096 → 1 ≤ getD sp u 0
-      some u l = ⊎-elim (λ y. leb-true 1 (getD sp u 0) y) (λ y. let a = leb-false 1 (getD sp u 0) y in let p = Z .waiting .waits u l (omega arith) in let b = p .from in let c = p .below in absurd (omega arith)) (true-or-false (leb 1 (getD sp u 0)))
+      some u l =
+          ⊎-elim (λ y. leb-true 1 (getD sp u 0) y)
+          (λ y.
+          let a = leb-false 1 (getD sp u 0) y in
+          let p = Z .waiting .waits u l (omega arith) in
+          let b = p .from in
+          let c = p .below in
+          absurd (omega arith))
+          (true-or-false (leb 1 (getD sp u 0)))
 
       split : (v : ℕ) → (v < 4096) ⊎ (4096 ≤ v)
       split v = ⊎-elim (λ y. _⊎_.inr (leb-true 4096 v y)) (λ y. _⊎_.inl (leb-false 4096 v y)) (true-or-false (leb 4096 v))
 
       closed : (v : ℕ) → Closed ts q s (estimate xs) v
-      closed v = record { enough-or-never = ⊎-elim (λ l. subst (λ (c : ℕ). (c ≡ never) ⊎ (q .k ≤ supporters ts (estimate xs) s c v)) (sym (estimate-at xs v (T .long) l)) (⊎-elim _⊎_.inl (λ m. let a = some v l in _⊎_.inr (omega arith)) (T .enough v l (some v l)))) (λ l. _⊎_.inl (estimate-far xs v (T .long) l)) (split v) }
+      closed v =
+          record {
+            enough-or-never = ⊎-elim
+                (λ l. subst (λ (c : ℕ). (c ≡ never) ⊎ (q .k ≤ supporters ts (estimate xs) s c v))
+                (sym (estimate-at xs v (T .long) l))
+                (⊎-elim _⊎_.inl (λ m. let a = some v l in _⊎_.inr (omega arith)) (T .enough v l (some v l))))
+                (λ l. _⊎_.inl (estimate-far xs v (T .long) l)) (split v);
+          }
 
       days : (v : ℕ) → (estimate xs v ≤ te) ⊎ (estimate xs v ≡ never)
-      days v = ⊎-elim (λ l. subst (λ (c : ℕ). (c ≤ te) ⊎ (c ≡ never)) (sym (estimate-at xs v (T .long) l)) (T .days v l)) (λ l. _⊎_.inr (estimate-far xs v (T .long) l)) (split v)
+      days v =
+          ⊎-elim
+          (λ l. subst (λ (c : ℕ). (c ≤ te) ⊎ (c ≡ never)) (sym (estimate-at xs v (T .long) l)) (T .days v l))
+          (λ l. _⊎_.inr (estimate-far xs v (T .long) l)) (split v)
 
 -- ---- lists written from the front
 
@@ -143,15 +198,35 @@ filled-next {g} {m} {n} {z} {xs} F l e h =
     subst (Filled g m (n + 1)) (sym h)
     (record {
       long = length-set xs n z ∙ F .long;
-      filled = λ i k. ⊎-elim (λ y. ap (λ (a : ℕ). getD (set xs n z) a 0) y ∙ (getD-set-same xs n z 0 (let o = F .long in omega arith) ∙ (e ∙ ap g (sym y)))) (λ y. getD-set-other xs n i z 0 (λ o. let w : i ≡ n = o in absurd (omega arith)) ∙ F .filled i y) (eq-or-lt-of-le (omega arith));
+      filled = λ i k.
+          ⊎-elim
+          (λ y. ap (λ (a : ℕ). getD (set xs n z) a 0) y
+          ∙ (getD-set-same xs n z 0 (let o = F .long in omega arith) ∙ (e ∙ ap g (sym y))))
+          (λ y. getD-set-other xs n i z 0 (λ o. let w : i ≡ n = o in absurd (omega arith)) ∙ F .filled i y)
+          (eq-or-lt-of-le (omega arith));
     })
 
 pub all-raised : {xs ys ws : List ℕ} → length ws ≡ 4352 → ((u : ℕ) → u < 4096 → getD ws u 0 ≡ u) → Raised xs ys ws 4096
-all-raised l h = record { long = l; within = omega arith; small = λ i k. let e = h i k in omega arith; listed = λ u k n. record { place = u; from = omega arith; below = k; is = h u k } }
+all-raised l h =
+    record {
+      long = l;
+      within = omega arith;
+      small = λ i k. let e = h i k in omega arith;
+      listed = λ u k n. record { place = u; from = omega arith; below = k; is = h u k };
+    }
 
 -- who has no core time at s has none at the day after it
-pub core-never : {d f g : List ℕ} {q : Query} {s te lo next : ℕ} {xs ys : List ℕ} → te < never → CoreTimesAre d f g (frameOf q s te lo) xs → CoreTimesAre d f g (frameOf q (s + 1) te next) ys → (v : ℕ) → estimate xs v ≡ never → estimate ys v ≡ never
+pub core-never : {d f g : List ℕ} {q : Query} {s te lo next : ℕ} {xs ys : List ℕ}
+    → te < never
+    → CoreTimesAre d f g (frameOf q s te lo) xs
+    → CoreTimesAre d f g (frameOf q (s + 1) te next) ys
+    → (v : ℕ) → estimate xs v ≡ never
+    → estimate ys v ≡ never
 core-never {d} {f} {g} {q} {s} {te} {xs = xs} {ys = ys} fits C D v e =
     ⊎-elim (λ y. estimate-far ys v (D .long) (leb-true 4096 v y))
-    (λ y. let l = leb-false 4096 v y in estimate-at ys v (D .long) l ∙ (D .times v l ∙ core-time.account-never (tableOf d f g) q te fits (omega arith) v (sym (C .times v l) ∙ (sym (estimate-at xs v (C .long) l) ∙ e))))
+    (λ y. let l = leb-false 4096 v y in
+    estimate-at ys v (D .long) l
+    ∙ (D .times v l
+    ∙ core-time.account-never (tableOf d f g) q te fits (omega arith) v
+    (sym (C .times v l) ∙ (sym (estimate-at xs v (C .long) l) ∙ e))))
     (true-or-false (leb 4096 v))

@@ -291,7 +291,9 @@ module _ (d f s : List ℕ) (S : Sound d f s) where
           }
         where
           apart : (k : ℕ) → (k ≡ i → ⊥) → (k < i) ⊎ (i < k)
-          apart k n = ⊎-elim (λ z. ⊎-elim (λ w. absurd (n w)) _⊎_.inl (eq-or-lt-of-le (leb-true k i z))) (λ z. _⊎_.inr (leb-false k i z)) (true-or-false (leb k i))
+          apart k n =
+              ⊎-elim (λ z. ⊎-elim (λ w. absurd (n w)) _⊎_.inl (eq-or-lt-of-le (leb-true k i z)))
+              (λ z. _⊎_.inr (leb-false k i z)) (true-or-false (leb k i))
 
           both : (q r : Bool) → q ≡ true → r ≡ true → (q && r) ≡ true
           both q r e g = ap (λ (w : Bool). w && r) e ∙ g

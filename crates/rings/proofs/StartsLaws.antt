@@ -1,5 +1,6 @@
 -- The starts of a range (specs/Starts.antt): what a part above knows of a state that stays shut, and the loop of `first_time`.
---     start-sound, start-prepared, start-times, start-counts    what a start has: an accepted table, a scratch that is ready, the accounts' times, the rows' day counts
+--     start-sound, start-prepared, start-times, start-counts    what a start has: an accepted table, a scratch that
+--     is ready, the accounts' times, the rows' day counts
 --     times-long, slack-long                        how long its arrays are
 --     first-framed                                  what a start from nothing works on
 --     Least, least-start, least-next, least-end     the least core time of the rows dated s
@@ -62,7 +63,13 @@ least-start f lo = record { top = le-refl never; lower = λ i a b. absurd (omega
 
 pub least-next : {f : ℕ → ℕ} {lo j r time r′ : ℕ} → lo ≤ j → Least f lo j r → time ≡ f j → r′ ≡ min r time → Least f lo (j + 1) r′
 least-next {f} {lo} {j} {r} {time} {r′} o L et er =
-    record { top = let a = L .top in omega arith; lower = λ i a b. ⊎-elim (λ y. let z : f i ≡ f j = ap f y in omega arith) (λ l. let z = L .lower i a l in omega arith) (eq-or-lt-of-le (omega arith)); reached = which (true-or-false (leb r time)) }
+    record {
+      top = let a = L .top in omega arith;
+      lower = λ i a b.
+          ⊎-elim (λ y. let z : f i ≡ f j = ap f y in omega arith) (λ l. let z = L .lower i a l in omega arith)
+          (eq-or-lt-of-le (omega arith));
+      reached = which (true-or-false (leb r time));
+    }
   where
     old : r′ ≡ r → (r ≡ never) ⊎ ((i : ℕ) × (lo ≤ i) × (i < j) × (f i ≡ r)) → (r′ ≡ never) ⊎ ((i : ℕ) × (lo ≤ i) × (i < j + 1) × (f i ≡ r′))
     old e (_⊎_.inl n) = _⊎_.inl (e ∙ n)
@@ -72,7 +79,13 @@ least-next {f} {lo} {j} {r} {time} {r′} o L et er =
     which (_⊎_.inl y) = let a = leb-true r time y in old (omega arith) (L .reached)
     which (_⊎_.inr y) = let a = leb-false r time y in _⊎_.inr (j, o, omega arith, omega arith)
 
-pub least-end : {d f s : List ℕ} {p : Frame} {j next r : ℕ} → Framed d f s p → Split d (p .start + 1) next → j ≤ next → next ≤ j → Least (rowTime (tableOf d f s) (p .query) (p .stop) (p .start)) (p .lo) j r → Earliest (tableOf d f s) (p .query) (p .stop) (p .start) r
+pub least-end : {d f s : List ℕ} {p : Frame} {j next r : ℕ}
+    → Framed d f s p
+    → Split d (p .start + 1) next
+    → j ≤ next
+    → next ≤ j
+    → Least (rowTime (tableOf d f s) (p .query) (p .stop) (p .start)) (p .lo) j r
+    → Earliest (tableOf d f s) (p .query) (p .stop) (p .start) r
 unfolding dayOf at
 least-end {d} {f} {s} {p} {j} {next} {r} R N a b L = record { lower = lower; reached = reach (L .reached) }
   where
@@ -82,9 +95,15 @@ least-end {d} {f} {s} {p} {j} {next} {r} R N a b L = record { lower = lower; rea
         (λ y.
         let k = leb-false (length d) i y in
         ⊎-elim (λ x. let z = R .setting .before-lo i (ltb-true i (p .lo) x) in absurd (omega arith))
-        (λ x. ⊎-elim (λ v. let z = N .after i (leb-true next i v) k in absurd (omega arith)) (λ v. let g = leb-false next i v in L .lower i (ltb-false i (p .lo) x) (omega arith)) (true-or-false (leb next i))) (true-or-false (ltb i (p .lo)))) (true-or-false (leb (length d) i))
+        (λ x. ⊎-elim (λ v. let z = N .after i (leb-true next i v) k in absurd (omega arith))
+        (λ v. let g = leb-false next i v in L .lower i (ltb-false i (p .lo) x) (omega arith))
+        (true-or-false (leb next i)))
+        (true-or-false (ltb i (p .lo))))
+        (true-or-false (leb (length d) i))
 
-    reach : (r ≡ never) ⊎ ((i : ℕ) × (p .lo ≤ i) × (i < j) × (rowTime (tableOf d f s) (p .query) (p .stop) (p .start) i ≡ r)) → (r ≡ never) ⊎ DatedTime (tableOf d f s) (p .query) (p .stop) (p .start) r
+    reach : (r ≡ never)
+        ⊎ ((i : ℕ) × (p .lo ≤ i) × (i < j) × (rowTime (tableOf d f s) (p .query) (p .stop) (p .start) i ≡ r))
+        → (r ≡ never) ⊎ DatedTime (tableOf d f s) (p .query) (p .stop) (p .start) r
     reach (_⊎_.inl n) = _⊎_.inl n
     reach (_⊎_.inr w) =
         let l : w .0 < next = let y = w .2 in omega arith in

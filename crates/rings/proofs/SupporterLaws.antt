@@ -1,6 +1,7 @@
 -- Who loses a supporter (src/supporters.rt), and who waits for a scan by that.
 --     at-place, in-list         equal places, equal lists
---     under, dropped-supporter, dropped-supporter-on, dropped-supporter-less, queued-start, queued-dropped-supporter, queued-then     a loss, and the queue after it
+--     under, dropped-supporter, dropped-supporter-on, dropped-supporter-less, queued-start, queued-dropped-supporter,
+--     queued-then     a loss, and the queue after it
 --     DroppingSupported, dropping-start, dropping-out, dropping-late, dropping-stop, dropping-next      the walk of `drop_supported` in the adjacency
 --     leaving-start, leaving-row, leaving-last                          the rows that leave
 --     first-is, second-is, day-of, first-small, second-small             what the code reads of a row
@@ -59,24 +60,39 @@ pub record OneLess (y : Bool) (v : ℕ) (sp sp′ : List ℕ) : Type 0 where
   pub one : y ≡ true → getD sp′ v 0 ≤ getD sp v 0 - 1
   pub down : (w : ℕ) → getD sp′ w 0 ≤ getD sp w 0
 
-dropped-supporter-at : {y : Bool} {v tail r : ℕ} {sp ws sp′ ws′ : List ℕ} → v < 4096 → length sp ≡ 4096 → (L : DroppedSupporter y v tail sp ws sp′ ws′ r) → getD sp′ v 0 ≡ L .left
+dropped-supporter-at : {y : Bool} {v tail r : ℕ} {sp ws sp′ ws′ : List ℕ}
+    → v < 4096
+    → length sp ≡ 4096
+    → (L : DroppedSupporter y v tail sp ws sp′ ws′ r) → getD sp′ v 0 ≡ L .left
 dropped-supporter-at {v = v} {sp = sp} small len L = in-list v (L .stored) ∙ getD-set-same sp v (L .left) 0 (omega arith)
 
-dropped-supporter-else : {y : Bool} {v tail r : ℕ} {sp ws sp′ ws′ : List ℕ} → DroppedSupporter y v tail sp ws sp′ ws′ r → (w : ℕ) → (w ≡ v → ⊥) → getD sp′ w 0 ≡ getD sp w 0
+dropped-supporter-else : {y : Bool} {v tail r : ℕ} {sp ws sp′ ws′ : List ℕ}
+    → DroppedSupporter y v tail sp ws sp′ ws′ r
+    → (w : ℕ) → (w ≡ v → ⊥)
+    → getD sp′ w 0 ≡ getD sp w 0
 dropped-supporter-else {v = v} {sp = sp} L w n = in-list w (L .stored) ∙ getD-set-other sp v w (L .left) 0 n
 
-pub dropped-supporter-less : {y : Bool} {v tail r : ℕ} {sp ws sp′ ws′ : List ℕ} → v < 4096 → length sp ≡ 4096 → DroppedSupporter y v tail sp ws sp′ ws′ r → OneLess y v sp sp′
+pub dropped-supporter-less : {y : Bool} {v tail r : ℕ} {sp ws sp′ ws′ : List ℕ}
+    → v < 4096
+    → length sp ≡ 4096
+    → DroppedSupporter y v tail sp ws sp′ ws′ r
+    → OneLess y v sp sp′
 dropped-supporter-less {v = v} {sp = sp} {sp′ = sp′} small len L =
     let at-v = dropped-supporter-at small len L in
     record {
       long = ap length (L .stored) ∙ (length-set sp v (L .left) ∙ len);
       one = λ h. let m = L .dropped h in omega arith;
-      down = λ w. ⊎-elim (λ e. let a = at-place sp′ e in let b = at-place sp e in let m = L .less in omega arith) (λ n. let c = dropped-supporter-else L w n in omega arith) (same-or w v);
+      down = λ w.
+          ⊎-elim
+          (λ e. let a = at-place sp′ e in let b = at-place sp e in let m = L .less in omega arith)
+          (λ n. let c = dropped-supporter-else L w n in omega arith) (same-or w v);
     }
 
 -- what `lose` computes without a branch
 pub under : (y : Bool) (n : ℕ) {a : ℕ} → Picked (y && ltb 0 n) 1 0 a → a ≤ n
-under y n A = ⊎-elim (λ h. let e = ltb-true 0 n h in let m = picked-most A in omega arith) (λ h. let e = A .no (none y h) in omega arith) (true-or-false (ltb 0 n))
+under y n A =
+    ⊎-elim (λ h. let e = ltb-true 0 n h in let m = picked-most A in omega arith)
+    (λ h. let e = A .no (none y h) in omega arith) (true-or-false (ltb 0 n))
   where
     none : (w : Bool) → ltb 0 n ≡ false → (w && ltb 0 n) ≡ false
     none true h = h
@@ -85,35 +101,67 @@ under y n A = ⊎-elim (λ h. let e = ltb-true 0 n h in let m = picked-most A in
 pub dropped-supporter-on : {y : Bool} {v tail r : ℕ} {sp ws sp′ ws′ : List ℕ} → DroppedSupporter y v tail sp ws sp′ ws′ r → r ≤ tail + 1
 dropped-supporter-on L = ⊎-elim (λ e. let h = e .0 in omega arith) (λ e. omega arith) (L .ended)
 
-pub dropped-supporter : (y : Bool) (v tail : ℕ) (sp ws : List ℕ) {a b m : ℕ} {sp′ ws′ : List ℕ} → Picked (y && ltb 0 (getD sp v 0)) 1 0 a → Picked (y && eqb (getD sp v 0) 1) 1 0 b → sp′ ≡ set sp v (getD sp v 0 - a) → ws′ ≡ set ws tail v → m ≡ b → DroppedSupporter y v tail sp ws sp′ ws′ (tail + m)
+pub dropped-supporter : (y : Bool) (v tail : ℕ) (sp ws : List ℕ) {a b m : ℕ} {sp′ ws′ : List ℕ}
+    → Picked (y && ltb 0 (getD sp v 0)) 1 0 a
+    → Picked (y && eqb (getD sp v 0) 1) 1 0 b
+    → sp′ ≡ set sp v (getD sp v 0 - a)
+    → ws′ ≡ set ws tail v
+    → m ≡ b
+    → DroppedSupporter y v tail sp ws sp′ ws′ (tail + m)
 dropped-supporter y v tail sp ws {a} {b} {m} A B es ew em =
     record {
       left = getD sp v 0 - a;
       stored = es;
       less = omega arith;
-      dropped = λ h. ⊎-elim (λ k. let e = A .yes (both h k) in omega arith) (λ k. let e = ltb-false 0 (getD sp v 0) k in omega arith) (true-or-false (ltb 0 (getD sp v 0)));
+      dropped = λ h.
+          ⊎-elim (λ k. let e = A .yes (both h k) in omega arith)
+          (λ k. let e = ltb-false 0 (getD sp v 0) k in omega arith) (true-or-false (ltb 0 (getD sp v 0)));
       queued = ew;
-      ended = ⊎-elim (λ h. _⊎_.inr (let e = B .yes h in omega arith)) (λ h. let e = B .no h in _⊎_.inl (omega arith, λ z. stays z h)) (true-or-false (y && eqb (getD sp v 0) 1));
+      ended =
+          ⊎-elim (λ h. _⊎_.inr (let e = B .yes h in omega arith))
+          (λ h. let e = B .no h in _⊎_.inl (omega arith, λ z. stays z h)) (true-or-false (y && eqb (getD sp v 0) 1));
     }
   where
     stays : getD sp v 0 - a ≡ 0 → (y && eqb (getD sp v 0) 1) ≡ false → getD sp v 0 ≡ 0
     stays z h =
         ⊎-elim
-        (λ k. ⊎-elim (λ o. ⊎-elim (λ e. clash (both k e) h) (λ e. let c = A .yes (both k o) in let i = ltb-true 0 (getD sp v 0) o in absurd (eqb-false (getD sp v 0) 1 e (omega arith))) (true-or-false (eqb (getD sp v 0) 1))) (λ o. let e = ltb-false 0 (getD sp v 0) o in omega arith) (true-or-false (ltb 0 (getD sp v 0))))
+        (λ k. ⊎-elim
+        (λ o. ⊎-elim (λ e. clash (both k e) h)
+        (λ e.
+        let c = A .yes (both k o) in
+        let i = ltb-true 0 (getD sp v 0) o in
+        absurd (eqb-false (getD sp v 0) 1 e (omega arith)))
+        (true-or-false (eqb (getD sp v 0) 1)))
+        (λ o. let e = ltb-false 0 (getD sp v 0) o in omega arith) (true-or-false (ltb 0 (getD sp v 0))))
         (λ k. let c = A .no (not-first (ltb 0 (getD sp v 0)) k) in omega arith) (true-or-false y)
 
 pub queued-start : (tail : ℕ) (sp ws : List ℕ) → length ws ≡ 4352 → Queued tail sp ws tail sp ws
-queued-start tail sp ws l = record { long = l; grows = λ h. le-refl tail; front = λ i h o. refl; waits = λ h u k z. _⊎_.inl z; small = λ i a b. absurd (omega arith) }
+queued-start tail sp ws l =
+    record {
+      long = l;
+      grows = λ h. le-refl tail;
+      front = λ i h o. refl;
+      waits = λ h u k z. _⊎_.inl z;
+      small = λ i a b. absurd (omega arith);
+    }
 
 -- an account stands at the end of the queue, or behind it, and the rest stays
-pub queued-dropped-supporter : {y : Bool} {v tail r r′ : ℕ} {sp₀ ws₀ sp ws sp′ ws′ : List ℕ} → v < 4096 → r < 4352 → length sp ≡ 4096 → Queued tail sp₀ ws₀ r sp ws → DroppedSupporter y v r sp ws sp′ ws′ r′ → Queued tail sp₀ ws₀ r′ sp′ ws′
+pub queued-dropped-supporter : {y : Bool} {v tail r r′ : ℕ} {sp₀ ws₀ sp ws sp′ ws′ : List ℕ}
+    → v < 4096
+    → r < 4352
+    → length sp ≡ 4096
+    → Queued tail sp₀ ws₀ r sp ws
+    → DroppedSupporter y v r sp ws sp′ ws′ r′
+    → Queued tail sp₀ ws₀ r′ sp′ ws′
 queued-dropped-supporter {y} {v} {tail} {r} {r′} {sp₀} {ws₀} {sp} {ws} {sp′} {ws′} small room len Q L =
     record {
       long = ap length (L .queued) ∙ (length-set ws r v ∙ Q .long);
       grows = λ h. let a = up in let o = on .0 in omega arith;
       front = λ i h o. kept i (λ e. let a = up in omega arith) ∙ Q .front i h o;
       waits = λ h u k w. ⊎-elim (λ e. at-v (sym (at-place sp′ e) ∙ w) u e) (λ n. before u k (sym (dropped-supporter-else L u n) ∙ w)) (same-or u v);
-      small = λ i a b c. ⊎-elim (λ e. let m = at-place ws′ e in let n = there in omega arith) (λ n. subst (λ (m : ℕ). m < 4096) (sym (kept i n)) (Q .small i a (apart i n b) c)) (same-or i r);
+      small = λ i a b c.
+          ⊎-elim (λ e. let m = at-place ws′ e in let n = there in omega arith)
+          (λ n. subst (λ (m : ℕ). m < 4096) (sym (kept i n)) (Q .small i a (apart i n b) c)) (same-or i r);
     }
   where
     up : tail ≤ r
@@ -132,7 +180,18 @@ queued-dropped-supporter {y} {v} {tail} {r} {r′} {sp₀} {ws₀} {sp} {ws} {sp
     apart i n b = ⊎-elim (λ q. absurd (n q)) (λ k. k) (eq-or-lt-of-le (let o = on .1 in omega arith))
 
     before : (u : ℕ) → u < 4096 → getD sp u 0 ≡ 0 → (getD sp₀ u 0 ≡ 0) ⊎ Place ws′ tail r′ u
-    before u k w = ⊎-elim _⊎_.inl (λ P. let b = P .below in let o = on .0 in _⊎_.inr (record { place = P .place; from = P .from; below = omega arith; is = kept (P .place) (λ e. omega arith) ∙ P .is })) (Q .waits (omega arith) u k w)
+    before u k w =
+        ⊎-elim _⊎_.inl
+        (λ P.
+        let b = P .below in
+        let o = on .0 in
+        _⊎_.inr (record {
+          place = P .place;
+          from = P .from;
+          below = omega arith;
+          is = kept (P .place) (λ e. omega arith) ∙ P .is;
+        }))
+        (Q .waits (omega arith) u k w)
 
     at-v : getD sp′ v 0 ≡ 0 → (u : ℕ) → u ≡ v → (getD sp₀ u 0 ≡ 0) ⊎ Place ws′ tail r′ u
     at-v w u e =
@@ -144,13 +203,29 @@ queued-then {a} {b} {c} {sp} {ws} {sp₁} {ws₁} {sp₂} {ws₂} P Q =
     record {
       long = Q .long;
       grows = λ h. let m = Q .grows h in let n = P .grows (omega arith) in omega arith;
-      front = λ i h o. Q .front i (⊎-elim (λ y. let n = P .grows (leb-true b 4352 y) in omega arith) (λ y. let n = leb-false b 4352 y in omega arith) (true-or-false (leb b 4352))) o ∙ P .front i h o;
+      front = λ i h o.
+          Q .front i
+          (⊎-elim (λ y. let n = P .grows (leb-true b 4352 y) in omega arith)
+          (λ y. let n = leb-false b 4352 y in omega arith) (true-or-false (leb b 4352)))
+          o
+          ∙ P .front i h o;
       waits = λ h u l z.
           let m = Q .grows h in
           let n = P .grows (omega arith) in
-          ⊎-elim (λ y. ⊎-elim _⊎_.inl (λ p. let k = p .below in _⊎_.inr (record { place = p .place; from = p .from; below = omega arith; is = Q .front (p .place) k (omega arith) ∙ p .is })) (P .waits (omega arith) u l y))
+          ⊎-elim (λ y. ⊎-elim _⊎_.inl
+          (λ p. let k = p .below in
+          _⊎_.inr (record {
+            place = p .place;
+            from = p .from;
+            below = omega arith;
+            is = Q .front (p .place) k (omega arith) ∙ p .is;
+          }))
+          (P .waits (omega arith) u l y))
           (λ p. let k = p .from in _⊎_.inr (record { place = p .place; from = omega arith; below = p .below; is = p .is })) (Q .waits h u l z);
-      small = λ i h k o. ⊎-elim (λ y. Q .small i (leb-true b i y) k o) (λ y. let l = leb-false b i y in subst (λ (m : ℕ). m < 4096) (sym (Q .front i l o)) (P .small i h l o)) (true-or-false (leb b i));
+      small = λ i h k o.
+          ⊎-elim (λ y. Q .small i (leb-true b i y) k o)
+          (λ y. let l = leb-false b i y in subst (λ (m : ℕ). m < 4096) (sym (Q .front i l o)) (P .small i h l o))
+          (true-or-false (leb b i));
     }
 
 -- ---- who loses a supporter by a rise
@@ -161,10 +236,25 @@ module _ (t : Table) (x : ℕ → ℕ) (lo u old new : ℕ) (sp₀ : List ℕ) w
 
   module _ {b : ℕ} {sp : List ℕ} (O : DroppedSupported t x lo u b old new sp₀ sp) where
     -- what is left takes nothing
-    dropped-supported-all : (m : ℕ) → ((i : ℕ) → b ≤ i → i < m → leads t lo i ≡ true → touches t i u ≡ true → dayOf t i ≤ x (otherOf t i u) → x (otherOf t i u) < new → ⊥) → DroppedSupported t x lo u m old new sp₀ sp
-    dropped-supported-all m late = record { long = O .long; less = O .less; dropped = λ i k f h p o n. ⊎-elim (λ y. absurd (late i (leb-true b i y) k f h o n)) (λ y. O .dropped i (leb-false b i y) f h p o n) (true-or-false (leb b i)) }
+    dropped-supported-all : (m : ℕ)
+        → ((i : ℕ) → b ≤ i → i < m → leads t lo i ≡ true → touches t i u ≡ true → dayOf t i ≤ x (otherOf t i u)
+        → x (otherOf t i u) < new → ⊥)
+        → DroppedSupported t x lo u m old new sp₀ sp
+    dropped-supported-all m late =
+        record {
+          long = O .long;
+          less = O .less;
+          dropped = λ i k f h p o n. ⊎-elim (λ y. absurd (late i (leb-true b i y) k f h o n))
+              (λ y. O .dropped i (leb-false b i y) f h p o n) (true-or-false (leb b i));
+        }
 
-    dropped-supported-next : (j : ℕ) {y : Bool} {v tail r : ℕ} {ws sp′ ws′ : List ℕ} → ((i : ℕ) → b ≤ i → i < j → leads t lo i ≡ true → touches t i u ≡ true → x (otherOf t i u) < new → ⊥) → v ≡ otherOf t j u → v < 4096 → (leads t lo j ≡ true → old ≤ x v → dayOf t j ≤ x v → x v < new → y ≡ true) → DroppedSupporter y v tail sp ws sp′ ws′ r → DroppedSupported t x lo u (j + 1) old new sp₀ sp′
+    dropped-supported-next : (j : ℕ) {y : Bool} {v tail r : ℕ} {ws sp′ ws′ : List ℕ}
+        → ((i : ℕ) → b ≤ i → i < j → leads t lo i ≡ true → touches t i u ≡ true → x (otherOf t i u) < new → ⊥)
+        → v ≡ otherOf t j u
+        → v < 4096
+        → (leads t lo j ≡ true → old ≤ x v → dayOf t j ≤ x v → x v < new → y ≡ true)
+        → DroppedSupporter y v tail sp ws sp′ ws′ r
+        → DroppedSupported t x lo u (j + 1) old new sp₀ sp′
     dropped-supported-next j {y} {v} {sp′ = sp′} none ev small is-dropped L =
         let D = dropped-supporter-less small (O .long) L in
         record {
@@ -175,21 +265,32 @@ module _ (t : Table) (x : ℕ → ℕ) (lo u old new : ℕ) (sp₀ : List ℕ) w
               (λ z. let m = O .dropped i (leb-false b i z) f h p o n in let d = D .down (otherOf t i u) in omega arith) (true-or-false (leb b i));
         }
       where
-        here : (i : ℕ) → i ≡ j → leads t lo i ≡ true → old ≤ x (otherOf t i u) → dayOf t i ≤ x (otherOf t i u) → x (otherOf t i u) < new → getD sp′ (otherOf t i u) 0 ≤ getD sp₀ (otherOf t i u) 0 - 1
+        here : (i : ℕ)
+            → i ≡ j
+            → leads t lo i ≡ true
+            → old ≤ x (otherOf t i u)
+            → dayOf t i ≤ x (otherOf t i u)
+            → x (otherOf t i u) < new
+            → getD sp′ (otherOf t i u) 0 ≤ getD sp₀ (otherOf t i u) 0 - 1
         here i q f p o n =
             let e : otherOf t i u ≡ v = ap (λ (c : ℕ). otherOf t c u) q ∙ sym ev in
             let z : x (otherOf t i u) ≡ x v = ap x e in
             let g : dayOf t i ≡ dayOf t j = ap (dayOf t) q in
-            let d = dropped-supporter-less small (O .long) L .one (is-dropped (subst (λ (c : ℕ). leads t lo c ≡ true) q f) (omega arith) (omega arith) (omega arith)) in
+            let d = dropped-supporter-less small (O .long) L .one
+            (is-dropped (subst (λ (c : ℕ). leads t lo c ≡ true) q f) (omega arith) (omega arith) (omega arith)) in
             let a = at-place sp′ e in let c = at-place sp₀ e in let m = O .less v in omega arith
 
 -- the rows of u below b, which stand before place p, have been seen; the queue had tail entries, and has end
-pub record DroppingSupported (d f g scratch : List ℕ) (r : Frame) (xs : List ℕ) (u old new tail : ℕ) (sp₀ ws₀ : List ℕ) (b p end : ℕ) (sp ws : List ℕ) : Type 0 where
+pub record DroppingSupported (d f g scratch : List ℕ) (r : Frame) (xs : List ℕ) (u old new tail : ℕ)
+    (sp₀ ws₀ : List ℕ) (b p end : ℕ) (sp ws : List ℕ) : Type 0 where
   pub reading : Reading scratch u b p
   pub done : DroppedSupported (tableOf d f g) (estimate xs) (r .lo) u b old new sp₀ sp
   pub queued : Queued tail sp₀ ws₀ end sp ws
 
-module _ (d f g scratch : List ℕ) (r : Frame) (R : ReadyPruned d f g scratch r) (xs : List ℕ) (len : length xs ≡ 4096) {u : ℕ} (small : u < 4096) (E : Every (tableOf d f g) (estimate xs) (r .lo) u scratch) (D : Days (r .stop) xs) (old new : ℕ) (en : new ≡ getD xs u 0) (tail : ℕ) (sp₀ ws₀ : List ℕ) where
+module _ (d f g scratch : List ℕ) (r : Frame) (R : ReadyPruned d f g scratch r) (xs : List ℕ)
+    (len : length xs ≡ 4096) {u : ℕ} (small : u < 4096)
+    (E : Every (tableOf d f g) (estimate xs) (r .lo) u scratch) (D : Days (r .stop) xs) (old new : ℕ)
+    (en : new ≡ getD xs u 0) (tail : ℕ) (sp₀ ws₀ : List ℕ) where
   abbrev tw : Table
   tw = tableOf d f g
 
@@ -200,12 +301,23 @@ module _ (d f g scratch : List ℕ) (r : Frame) (R : ReadyPruned d f g scratch r
   over : {i : ℕ} → (i < r .lo) ⊎ (estimate xs (otherOf tw i u) ≡ never) → leads tw (r .lo) i ≡ true → estimate xs (otherOf tw i u) < new → ⊥
   over {i} o f h = let a = lead-from tw (r .lo) i f in let m = new-most in ⊎-elim (λ z. omega arith) (λ z. omega arith) o
 
-  pub dropping-start : {p : ℕ} → length sp₀ ≡ 4096 → length ws₀ ≡ 4352 → Reading scratch u (r .lo) p → DroppingSupported d f g scratch r xs u old new tail sp₀ ws₀ (r .lo) p tail sp₀ ws₀
+  pub dropping-start : {p : ℕ}
+      → length sp₀ ≡ 4096
+      → length ws₀ ≡ 4352
+      → Reading scratch u (r .lo) p
+      → DroppingSupported d f g scratch r xs u old new tail sp₀ ws₀ (r .lo) p tail sp₀ ws₀
   dropping-start l m A = record { reading = A; done = dropped-supported-start tw (estimate xs) (r .lo) u old new sp₀ l; queued = queued-start tail sp₀ ws₀ m }
 
-  module _ {b p end last : ℕ} {sp ws : List ℕ} (W : DroppingSupported d f g scratch r xs u old new tail sp₀ ws₀ b p end sp ws) (ee : last ≡ getD scratch u 0) where
+  module _ {b p end last : ℕ} {sp ws : List ℕ}
+      (W : DroppingSupported d f g scratch r xs u old new tail sp₀ ws₀ b p end sp ws)
+      (ee : last ≡ getD scratch u 0) where
     pub dropping-out : last ≤ p → DroppedSupported tw (estimate xs) (r .lo) u (length d) old new sp₀ sp × Queued tail sp₀ ws₀ end sp ws
-    dropping-out h = (dropped-supported-all tw (estimate xs) (r .lo) u old new sp₀ (W .done) (length d) (λ i a k z y p o. over (reading-out d f g scratch (R .sound) (R .pruned) small (W .reading) ee E h i a k y) z o), W .queued)
+    dropping-out h = (
+      dropped-supported-all tw (estimate xs) (r .lo) u old new sp₀ (W .done) (length d)
+          (λ i a k z y p o. over
+          (reading-out d f g scratch (R .sound) (R .pruned) small (W .reading) ee E h i a k y) z o),
+      W .queued,
+    )
 
     module _ (more : p < last) {it : Incident} (I : RowRead tw scratch (r .lo) u p it) where
       w-gap : (i : ℕ) → b ≤ i → i < it .row → touches tw i u ≡ true → (i < r .lo) ⊎ (estimate xs (otherOf tw i u) ≡ never)
@@ -231,23 +343,38 @@ module _ (d f g scratch : List ℕ) (r : Frame) (R : ReadyPruned d f g scratch r
             (λ i a k z y p o.
             let v = other-small tw (r .query) (r .start) (r .stop) (r .lo) (R .setting) i u k y in
             let gv = estimate-at xs (otherOf tw i u) len v in
-            ⊎-elim (λ m. over m z o) (λ w. ⊎-elim (λ m. omega arith) (λ m. ⊎-elim (λ c. omega arith) (λ c. let n = new-most in omega arith) (D (otherOf tw i u) v)) w) (dropping-late eu h i a k y)),
+            ⊎-elim (λ m. over m z o)
+            (λ w. ⊎-elim (λ m. omega arith)
+            (λ m. ⊎-elim (λ c. omega arith) (λ c. let n = new-most in omega arith) (D (otherOf tw i u) v))
+            w)
+            (dropping-late eu h i a k y)),
         W .queued,
       )
 
-      pub dropping-next : {w : Bool} {z own end′ : ℕ} {sp′ ws′ : List ℕ} → end < 4352 → z ≡ getD xs (it .other) 0 → own ≡ max old (it .day) → w ≡ (leb own z && ltb z new)
-          → DroppedSupporter (it .leads && w) (it .other) end sp ws sp′ ws′ end′ → DroppingSupported d f g scratch r xs u old new tail sp₀ ws₀ (it .row + 1) (p + 1) end′ sp′ ws′
+      pub dropping-next : {w : Bool} {z own end′ : ℕ} {sp′ ws′ : List ℕ}
+          → end < 4352
+          → z ≡ getD xs (it .other) 0
+          → own ≡ max old (it .day)
+          → w ≡ (leb own z && ltb z new)
+          → DroppedSupporter (it .leads && w) (it .other) end sp ws sp′ ws′ end′
+          → DroppingSupported d f g scratch r xs u old new tail sp₀ ws₀ (it .row + 1) (p + 1) end′ sp′ ws′
       dropping-next {w} {z} {own} room ez eo ew L =
           record {
             reading = reading-next d f g scratch (R .sound) (R .pruned) small (W .reading) ee more (I .row);
-            done = dropped-supported-next tw (estimate xs) (r .lo) u old new sp₀ (W .done) (it .row) (λ i a k z y o. over (w-gap i a k y) z o) (I .other) (I .small) dropped L;
+            done =
+                dropped-supported-next tw (estimate xs) (r .lo) u old new sp₀ (W .done) (it .row)
+                (λ i a k z y o. over (w-gap i a k y) z o) (I .other) (I .small) dropped L;
             queued = queued-dropped-supporter (I .small) room (W .done .long) (W .queued) L;
           }
         where
           time : z ≡ estimate xs (it .other)
           time = ez ∙ sym (estimate-at xs (it .other) len (I .small))
 
-          dropped : leads tw (r .lo) (it .row) ≡ true → old ≤ estimate xs (it .other) → dayOf tw (it .row) ≤ estimate xs (it .other) → estimate xs (it .other) < new → (it .leads && w) ≡ true
+          dropped : leads tw (r .lo) (it .row) ≡ true
+              → old ≤ estimate xs (it .other)
+              → dayOf tw (it .row) ≤ estimate xs (it .other)
+              → estimate xs (it .other) < new
+              → (it .leads && w) ≡ true
           dropped h a c n =
               let t = time in
               let e = I .day in
@@ -261,7 +388,10 @@ backed-lead t x lo c u i h = and-l (leads t lo i) (touches t i u and leb (value 
 
 backers-below : (t : Table) (x : ℕ → ℕ) (lo c u m : ℕ) → m ≤ lo → backers t x lo c u m ≡ 0
 unfolding backers
-backers-below t x lo c u m l = count-none (backing t x lo c u) m (λ i h. ⊎-elim (λ y. let b = lead-from t lo i (backed-lead t x lo c u i y) in absurd (omega arith)) (λ y. y) (true-or-false (backing t x lo c u i)))
+backers-below t x lo c u m l =
+    count-none (backing t x lo c u) m
+    (λ i h. ⊎-elim (λ y. let b = lead-from t lo i (backed-lead t x lo c u i y) in absurd (omega arith)) (λ y. y)
+    (true-or-false (backing t x lo c u i)))
 
 module _ (t : Table) (q : Query) (s hi lo : ℕ) (S : Setting t q s hi lo) (xs : List ℕ) (len : length xs ≡ 4096) (D : Days hi xs) where
   abbrev x : ℕ → ℕ
@@ -272,35 +402,79 @@ module _ (t : Table) (q : Query) (s hi lo : ℕ) (S : Setting t q s hi lo) (xs :
 
   module _ {j : ℕ} {sp₀ sp : List ℕ} (F : Leaving t x lo j sp₀ sp) where
     -- a row that backs nobody takes nothing
-    rest : (sp′ : List ℕ) (u : ℕ) → u < 4096 → getD sp′ u 0 ≤ getD sp u 0 → backing t x lo (x u) u j ≡ false → (x u ≡ never) ⊎ (getD sp′ u 0 ≤ getD sp₀ u 0 - backers t x lo (x u) u (j + 1))
+    rest : (sp′ : List ℕ) (u : ℕ)
+        → u < 4096
+        → getD sp′ u 0 ≤ getD sp u 0
+        → backing t x lo (x u) u j ≡ false
+        → (x u ≡ never) ⊎ (getD sp′ u 0 ≤ getD sp₀ u 0 - backers t x lo (x u) u (j + 1))
     rest sp′ u l h nb =
-        ⊎-elim _⊎_.inl (λ m. let b : backers t x lo (x u) u (j + 1) ≡ backers t x lo (x u) u j = ap (backers t x lo (x u) u) (add-one j) ∙ backers-no t q s hi lo S x (x u) u j nb in _⊎_.inr (omega arith)) (F .less u l)
+        ⊎-elim _⊎_.inl
+        (λ m. let b : backers t x lo (x u) u (j + 1)
+        ≡ backers t x lo (x u) u j = ap (backers t x lo (x u) u) (add-one j)
+        ∙ backers-no t q s hi lo S x (x u) u j nb in
+        _⊎_.inr (omega arith))
+        (F .less u l)
 
     -- one that backs u takes one at most
     taken : (sp′ : List ℕ) (u : ℕ) → u < 4096 → getD sp′ u 0 ≤ getD sp u 0 - 1 → (x u ≡ never) ⊎ (getD sp′ u 0 ≤ getD sp₀ u 0 - backers t x lo (x u) u (j + 1))
     taken sp′ u l h =
-        ⊎-elim (λ y. ⊎-elim _⊎_.inl (λ m. let b : backers t x lo (x u) u (j + 1) ≡ suc (backers t x lo (x u) u j) = ap (backers t x lo (x u) u) (add-one j) ∙ backers-yes t q s hi lo S x (x u) u j y in _⊎_.inr (omega arith)) (F .less u l))
+        ⊎-elim (λ y. ⊎-elim _⊎_.inl
+        (λ m. let b : backers t x lo (x u) u (j + 1)
+        ≡ suc (backers t x lo (x u) u j) = ap (backers t x lo (x u) u) (add-one j)
+        ∙ backers-yes t q s hi lo S x (x u) u j y in
+        _⊎_.inr (omega arith))
+        (F .less u l))
         (λ y. rest sp′ u l (omega arith) y) (true-or-false (backing t x lo (x u) u j))
 
     -- u, whose other account is v: it loses v by row j if it had it
-    gate : {y : Bool} {u v tail r : ℕ} {spa wsa spb wsb : List ℕ} (sp′ : List ℕ) → u < 4096 → otherOf t j u ≡ v → (leads t lo j ≡ true → x v ≤ x u → dayOf t j ≤ x u → x u < never → y ≡ true) → length spa ≡ 4096 → getD spa u 0 ≤ getD sp u 0 → getD sp′ u 0 ≤ getD spb u 0 → DroppedSupporter y u tail spa wsa spb wsb r → (x u ≡ never) ⊎ (getD sp′ u 0 ≤ getD sp₀ u 0 - backers t x lo (x u) u (j + 1))
+    gate : {y : Bool} {u v tail r : ℕ} {spa wsa spb wsb : List ℕ} (sp′ : List ℕ)
+        → u < 4096
+        → otherOf t j u ≡ v
+        → (leads t lo j ≡ true → x v ≤ x u → dayOf t j ≤ x u → x u < never → y ≡ true)
+        → length spa ≡ 4096
+        → getD spa u 0 ≤ getD sp u 0
+        → getD sp′ u 0 ≤ getD spb u 0
+        → DroppedSupporter y u tail spa wsa spb wsb r
+        → (x u ≡ never) ⊎ (getD sp′ u 0 ≤ getD sp₀ u 0 - backers t x lo (x u) u (j + 1))
     unfolding value
     gate {y} {u} {v} sp′ l ev dropped la ha hb L =
         ⊎-elim (λ h. taken sp′ u l (let m = dropped-supporter-less l la L .one h in omega arith))
-        (λ h. ⊎-elim (λ k. rest sp′ u l (let m = dropped-supporter-less l la L .down u in omega arith) (⊎-elim (λ z. let w = backing-e t q s hi lo S x (x u) u j z in let b = w .by in let c : x (otherOf t j u) ≡ x v = ap x ev in let o = S .fits in clash (dropped (w .is-lead) (omega arith) (omega arith) (omega arith)) h) (λ z. z) (true-or-false (backing t x lo (x u) u j)))) _⊎_.inl day-or)
+        (λ h. ⊎-elim
+        (λ k. rest sp′ u l (let m = dropped-supporter-less l la L .down u in omega arith)
+        (⊎-elim
+        (λ z.
+        let w = backing-e t q s hi lo S x (x u) u j z in
+        let b = w .by in
+        let c : x (otherOf t j u) ≡ x v = ap x ev in
+        let o = S .fits in
+        clash (dropped (w .is-lead) (omega arith) (omega arith) (omega arith)) h)
+        (λ z. z) (true-or-false (backing t x lo (x u) u j))))
+        _⊎_.inl day-or)
         (true-or-false y)
       where
         day-or : (x u ≤ hi) ⊎ (x u ≡ never)
         day-or = subst (λ (c : ℕ). (c ≤ hi) ⊎ (c ≡ never)) (sym (estimate-at xs u len l)) (D u l)
 
-    pub leaving-row : {y wa wb : Bool} {a b day xa xb tail mid r : ℕ} {ws sp₁ ws₁ sp₂ ws₂ : List ℕ} → j < size t → y ≡ leads t lo j → a ≡ firstOf t j → b ≡ secondOf t j → day ≡ dayOf t j → xa ≡ getD xs a 0 → xb ≡ getD xs b 0 → wa ≡ ((leb xb xa && leb day xa) && ltb xa never) → wb ≡ ((leb xa xb && leb day xb) && ltb xb never)
+    pub leaving-row : {y wa wb : Bool} {a b day xa xb tail mid r : ℕ} {ws sp₁ ws₁ sp₂ ws₂ : List ℕ}
+        → j < size t
+        → y ≡ leads t lo j
+        → a ≡ firstOf t j
+        → b ≡ secondOf t j
+        → day ≡ dayOf t j
+        → xa ≡ getD xs a 0
+        → xb ≡ getD xs b 0
+        → wa ≡ ((leb xb xa && leb day xa) && ltb xa never)
+        → wb ≡ ((leb xa xb && leb day xb) && ltb xb never)
         → DroppedSupporter (y && wa) a tail sp ws sp₁ ws₁ mid → DroppedSupporter (y && wb) b mid sp₁ ws₁ sp₂ ws₂ r → Leaving t x lo (j + 1) sp₀ sp₂
     leaving-row {y} {wa} {wb} {a} {b} {day} {xa} {xb} {sp₁ = sp₁} {sp₂ = sp₂} l ey ea eb ed exa exb ewa ewb A B =
         record {
           long = lessb .long;
           less = λ u h.
               ⊎-elim (λ k. ⊎-elim (λ e. at-a u (sym e)) (λ e. at-b u (sym e)) (touch-cases t j u k))
-              (λ k. rest sp₂ u h (le-trans (lessb .down u) (lessa .down u)) (⊎-elim (λ z. clash (backing-e t q s hi lo S x (x u) u j z .touch) k) (λ z. z) (true-or-false (backing t x lo (x u) u j)))) (true-or-false (touches t j u));
+              (λ k. rest sp₂ u h (le-trans (lessb .down u) (lessa .down u))
+              (⊎-elim (λ z. clash (backing-e t q s hi lo S x (x u) u j z .touch) k) (λ z. z)
+              (true-or-false (backing t x lo (x u) u j))))
+              (true-or-false (touches t j u));
         }
       where
         apart : firstOf t j < secondOf t j
@@ -327,12 +501,22 @@ module _ (t : Table) (q : Query) (s hi lo : ℕ) (S : Setting t q s hi lo) (xs :
         at-a : (u : ℕ) → u ≡ firstOf t j → (x u ≡ never) ⊎ (getD sp₂ u 0 ≤ getD sp₀ u 0 - backers t x lo (x u) u (j + 1))
         at-a u e =
             subst (λ (c : ℕ). (x c ≡ never) ⊎ (getD sp₂ c 0 ≤ getD sp₀ c 0 - backers t x lo (x c) c (j + 1))) (sym (e ∙ sym ea))
-            (gate sp₂ la (ap (otherOf t j) ea ∙ (other-first t j ∙ sym eb)) (λ f h k o. let m = ta in let n = tb in both (ey ∙ f) (ewa ∙ dropped-i xb xa day never (omega arith) (omega arith) (omega arith))) (F .long) (le-refl (getD sp a 0)) (lessb .down a) A)
+            (gate sp₂ la (ap (otherOf t j) ea ∙ (other-first t j ∙ sym eb))
+            (λ f h k o.
+            let m = ta in
+            let n = tb in
+            both (ey ∙ f) (ewa ∙ dropped-i xb xa day never (omega arith) (omega arith) (omega arith)))
+            (F .long) (le-refl (getD sp a 0)) (lessb .down a) A)
 
         at-b : (u : ℕ) → u ≡ secondOf t j → (x u ≡ never) ⊎ (getD sp₂ u 0 ≤ getD sp₀ u 0 - backers t x lo (x u) u (j + 1))
         at-b u e =
             subst (λ (c : ℕ). (x c ≡ never) ⊎ (getD sp₂ c 0 ≤ getD sp₀ c 0 - backers t x lo (x c) c (j + 1))) (sym (e ∙ sym eb))
-            (gate sp₂ lb (ap (otherOf t j) eb ∙ (other-second t j apart ∙ sym ea)) (λ f h k o. let m = ta in let n = tb in both (ey ∙ f) (ewb ∙ dropped-i xa xb day never (omega arith) (omega arith) (omega arith))) (lessa .long) (lessa .down b) (le-refl (getD sp₂ b 0)) B)
+            (gate sp₂ lb (ap (otherOf t j) eb ∙ (other-second t j apart ∙ sym ea))
+            (λ f h k o.
+            let m = ta in
+            let n = tb in
+            both (ey ∙ f) (ewb ∙ dropped-i xa xb day never (omega arith) (omega arith) (omega arith)))
+            (lessa .long) (lessa .down b) (le-refl (getD sp₂ b 0)) B)
 
 pub leaving-last : {t : Table} {x : ℕ → ℕ} {lo j next : ℕ} {sp₀ sp : List ℕ} → Leaving t x lo j sp₀ sp → j ≤ next → next ≤ j → Leaving t x lo next sp₀ sp
 leaving-last {t} {x} {lo} {sp₀ = sp₀} {sp = sp} F a b = subst (λ (m : ℕ). Leaving t x lo m sp₀ sp) (le-antisymm a b) F

@@ -24,10 +24,13 @@ use Rattle.rings.specs.Words.{_and_, no, every, tabulate, filterBy, Pair
 use Rattle.rings.specs.Table.{Table, size}
 use Rattle.rings.specs.Ring.{inRing}
 use Rattle.rings.specs.CoreTimes.{never, rowTime}
-use Rattle.rings.specs.Windows.{Window, windowsFrom, windows, Entry, smaller, minimal, IsMinimal, minimalOf, minimalWindows, Listed, Before, IsMinimalList, recalled, ListedInside}
+use Rattle.rings.specs.Windows.{Window, windowsFrom, windows, Entry, smaller, minimal, IsMinimal, minimalOf}
+use Rattle.rings.specs.Windows.{minimalWindows, Listed, Before, IsMinimalList, recalled, ListedInside}
 use Rattle.rings.specs.declared.Query.{Query}
 use Rattle.rings.proofs.WordLaws.{true-or-false, clash, and-i, and-l, and-r, no-i, no-e, every-i, every-e, same-truth}
-use Rattle.rings.proofs.ListLaws.{mem-tabulate, tabulate-mem, mem-flatten, flatten-mem, mem-filterBy, filterBy-mem, mem-map, map-mem, any-i, any-e, pair-tabulate, pair-flatten, pair-filterBy, pair-map, pair-weaken, pair-unique}
+use Rattle.rings.proofs.ListLaws.{mem-tabulate, tabulate-mem, mem-flatten, flatten-mem, mem-filterBy}
+use Rattle.rings.proofs.ListLaws.{filterBy-mem, mem-map, map-mem, any-i, any-e, pair-tabulate, pair-flatten}
+use Rattle.rings.proofs.ListLaws.{pair-filterBy, pair-map, pair-weaken, pair-unique}
 use Rattle.rings.proofs.RingLaws.{in-window, in-grows}
 use Rattle.rings.proofs.CoreTimeLaws.{time-day, row-time, row-reach-i, row-reach-e, row-later}
 
@@ -45,7 +48,11 @@ smaller-i s e s′ e′ w =
     and-i (le-leb s s′ (w .from)) (and-i (le-leb s′ e′ (w .order)) (and-i (le-leb e′ e (w .to)) (no-i differ)))
   where
     differ : eqb s s′ and eqb e e′ ≡ false
-    differ = ⊎-elim (λ h. absurd (w .other (eqb-true s s′ (and-l (eqb s s′) (eqb e e′) h), eqb-true e e′ (and-r (eqb s s′) (eqb e e′) h)))) (λ h. h) (true-or-false (eqb s s′ and eqb e e′))
+    differ =
+        ⊎-elim
+        (λ h. absurd
+        (w .other (eqb-true s s′ (and-l (eqb s s′) (eqb e e′) h), eqb-true e e′ (and-r (eqb s s′) (eqb e e′) h))))
+        (λ h. h) (true-or-false (eqb s s′ and eqb e e′))
 
 smaller-e : (s e s′ e′ : ℕ) → smaller s e s′ e′ ≡ true → Smaller s e s′ e′
 unfolding smaller
@@ -78,8 +85,15 @@ module _ (t : Table) (q : Query) where
       record {
         has = and-l (inRing t q s e j) all h;
         none-smaller = λ s′ e′ a b c d.
-            let k = every-e (none-inside j s e s′) (suc e) (every-e (λ s″. every (none-inside j s e s″) (suc e)) (suc e) (and-r (inRing t q s e j) all h) s′ (omega arith)) e′ (omega arith) in
-            ⊎-elim (λ y. clash (and-i (smaller-i s e s′ e′ (record { from = a; order = b; to = c; other = d })) y) (no-e (smaller s e s′ e′ and inRing t q s′ e′ j) k)) (λ y. y) (true-or-false (inRing t q s′ e′ j));
+            let k = every-e (none-inside j s e s′) (suc e)
+            (every-e (λ s″. every (none-inside j s e s″) (suc e)) (suc e) (and-r (inRing t q s e j) all h) s′
+            (omega arith))
+            e′ (omega arith) in
+            ⊎-elim
+            (λ y. clash
+            (and-i (smaller-i s e s′ e′ (record { from = a; order = b; to = c; other = d })) y)
+            (no-e (smaller s e s′ e′ and inRing t q s′ e′ j) k))
+            (λ y. y) (true-or-false (inRing t q s′ e′ j));
       }
 
   pub minimal-i : (j s e : ℕ) → IsMinimal t q j s e → minimal t q j s e ≡ true
@@ -88,7 +102,12 @@ module _ (t : Table) (q : Query) where
       and-i (m .has)
       (every-i (λ s′. every (none-inside j s e s′) (suc e)) (suc e)
       (λ s′ l. every-i (none-inside j s e s′) (suc e)
-      (λ e′ k. no-i (⊎-elim (λ y. let w = smaller-e s e s′ e′ (and-l (smaller s e s′ e′) (inRing t q s′ e′ j) y) in clash (and-r (smaller s e s′ e′) (inRing t q s′ e′ j) y) (m .none-smaller s′ e′ (w .from) (w .order) (w .to) (w .other))) (λ y. y) (true-or-false (smaller s e s′ e′ and inRing t q s′ e′ j))))))
+      (λ e′ k. no-i
+      (⊎-elim
+      (λ y. let w = smaller-e s e s′ e′ (and-l (smaller s e s′ e′) (inRing t q s′ e′ j) y) in
+      clash (and-r (smaller s e s′ e′) (inRing t q s′ e′ j) y)
+      (m .none-smaller s′ e′ (w .from) (w .order) (w .to) (w .other)))
+      (λ y. y) (true-or-false (smaller s e s′ e′ and inRing t q s′ e′ j))))))
 
   -- ---- by core times
 
@@ -106,7 +125,13 @@ module _ (t : Table) (q : Query) where
         day = time-day {s = s} {hi = hi} fits (row-time t q hi s j) (omega (arith, reached))
 
         now : rowTime t q hi s j ≡ e
-        now = ⊎-elim (λ a. a) (λ l. clash (row-reach-e t q hi s fits j (rowTime t q hi s j) (day .1) (le-refl (rowTime t q hi s j))) (m .none-smaller s (rowTime t q hi s j) (le-refl s) (day .0) reached (λ w. let x = w .1 in omega (arith, l)))) (eq-or-lt-of-le reached)
+        now =
+            ⊎-elim (λ a. a)
+            (λ l. clash
+            (row-reach-e t q hi s fits j (rowTime t q hi s j) (day .1) (le-refl (rowTime t q hi s j)))
+            (m .none-smaller s (rowTime t q hi s j) (le-refl s) (day .0) reached
+            (λ w. let x = w .1 in omega (arith, l))))
+            (eq-or-lt-of-le reached)
 
         later : rowTime t q hi (suc s) j ≡ e → ⊥
         later a =
@@ -115,7 +140,11 @@ module _ (t : Table) (q : Query) where
 
     pub minimal-of-times : (j s e : ℕ) → e ≤ hi → rowTime t q hi s j ≡ e → (rowTime t q hi (suc s) j ≡ e → ⊥) → IsMinimal t q j s e
     minimal-of-times j s e h now later =
-        record { has = row-reach-e t q hi s fits j e h (omega arith); none-smaller = λ s′ e′ a b c d. ⊎-elim (λ y. absurd (inside s′ e′ a b c d y)) (λ y. y) (true-or-false (inRing t q s′ e′ j)) }
+        record {
+          has = row-reach-e t q hi s fits j e h (omega arith);
+          none-smaller = λ s′ e′ a b c d. ⊎-elim (λ y. absurd (inside s′ e′ a b c d y)) (λ y. y)
+              (true-or-false (inRing t q s′ e′ j));
+        }
       where
         inside : (s′ e′ : ℕ) → s ≤ s′ → s′ ≤ e′ → e′ ≤ e → ((s ≡ s′) × (e ≡ e′) → ⊥) → inRing t q s′ e′ j ≡ true → ⊥
         inside s′ e′ a b c d y =
@@ -157,7 +186,10 @@ module _ (t : Table) (q : Query) where
       wider a w = let f = w .from in record { start = w .start; end = w .end; from = omega arith; order = w .order; to = w .to; is-minimal = w .is-minimal }
 
       go : (n a : ℕ) → e - a ≤ n → inRing t q a e j ≡ true → Inner j a e
-      go zero a l y = last a y (⊎-elim (λ z. let o : suc a ≤ e = in-order (suc a) e j z in absurd (omega arith)) (λ z. z) (true-or-false (inRing t q (suc a) e j)))
+      go zero a l y =
+          last a y
+          (⊎-elim (λ z. let o : suc a ≤ e = in-order (suc a) e j z in absurd (omega arith)) (λ z. z)
+          (true-or-false (inRing t q (suc a) e j)))
       go (suc n) a l y = ⊎-elim (λ z. wider a (go n (suc a) (omega arith) z)) (λ z. last a y z) (true-or-false (inRing t q (suc a) e j))
 
   pub minimal-inner : (j s e : ℕ) → Inner j s e → inRing t q s e j ≡ true
@@ -185,7 +217,9 @@ pub windows-i : (lo hi : ℕ) (w : Window) → OfRange lo hi w → Mem w (window
 unfolding windows windowsFrom
 windows-i lo hi w o =
     let a = o .from in let b = o .order in let c = o .to in
-    mem-flatten (mem-tabulate (windowsFrom hi) lo (suc hi - lo) (w .start) a (omega arith)) (mem-tabulate (λ e. record { start = w .start; end = e }) (w .start) (suc hi - w .start) (w .end) b (omega arith))
+    mem-flatten (mem-tabulate (windowsFrom hi) lo (suc hi - lo) (w .start) a (omega arith))
+    (mem-tabulate (λ e. record { start = w .start; end = e }) (w .start) (suc hi - w .start) (w .end) b
+    (omega arith))
 
 -- by start, then end
 abbrev pub Earlier : Window → Window → Type 0
@@ -195,9 +229,14 @@ pub windows-order : (lo hi : ℕ) → Pairwise Earlier (windows lo hi)
 unfolding windows windowsFrom
 windows-order lo hi =
     pair-flatten Earlier (tabulate (windowsFrom hi) lo (suc hi - lo))
-    (λ ws m. let b = tabulate-mem (windowsFrom hi) lo (suc hi - lo) m in subst (Pairwise Earlier) (sym (b .is)) (pair-tabulate Earlier (λ e. record { start = b .it; end = e }) (b .it) (suc hi - b .it) (λ x y l k o. _⊎_.inr (refl, k))))
+    (λ ws m. let b = tabulate-mem (windowsFrom hi) lo (suc hi - lo) m in
+    subst (Pairwise Earlier) (sym (b .is))
+    (pair-tabulate Earlier (λ e. record { start = b .it; end = e }) (b .it) (suc hi - b .it)
+    (λ x y l k o. _⊎_.inr (refl, k))))
     (pair-tabulate (λ xs ys. (x y : Window) → Mem x xs → Mem y ys → Earlier x y) (windowsFrom hi) lo (suc hi - lo)
-    (λ a b l k o x y m n. _⊎_.inl (starts a b x y k (tabulate-mem (λ e. record { start = a; end = e }) a (suc hi - a) m .is) (tabulate-mem (λ e. record { start = b; end = e }) b (suc hi - b) n .is))))
+    (λ a b l k o x y m n. _⊎_.inl
+    (starts a b x y k (tabulate-mem (λ e. record { start = a; end = e }) a (suc hi - a) m .is)
+    (tabulate-mem (λ e. record { start = b; end = e }) b (suc hi - b) n .is))))
   where
     starts : (a b : ℕ) (x y : Window) → a < b → {e f : ℕ} → x ≡ record { start = a; end = e } → y ≡ record { start = b; end = f } → x .start < y .start
     starts a b x y k p r =
@@ -250,21 +289,32 @@ module _ (t : Table) (q : Query) (lo hi : ℕ) where
   abbrev test : ℕ → Window → Bool
   test j w = minimal t q j (w .start) (w .end)
 
-  pub of-row-e : (j : ℕ) (x : Entry) → Mem x (minimalOf t q lo hi j) → (x .row ≡ j) × OfRange lo hi (record { start = x .start; end = x .end }) × IsMinimal t q j (x .start) (x .end)
+  pub of-row-e : (j : ℕ) (x : Entry)
+      → Mem x (minimalOf t q lo hi j)
+      → (x .row ≡ j) × OfRange lo hi (record { start = x .start; end = x .end }) × IsMinimal t q j (x .start) (x .end)
   unfolding minimalOf
   of-row-e j x m =
       let a = map-mem (entry j) (filterBy (test j) (windows lo hi)) m in
       let b = filterBy-mem (test j) (windows lo hi) (a .member) in
       let w = a .it in
       let ps : w .start ≡ x .start = ap (λ (z : Entry). z .start) (sym (a .is)) in
-      let pe : w .end ≡ x .end = ap (λ (z : Entry). z .end) (sym (a .is)) in
-      (ap (λ (z : Entry). z .row) (a .is), subst (OfRange lo hi) (λ i. record { start = ps i; end = pe i }) (windows-e lo hi w (b .0)), subst (λ (v : Window). IsMinimal t q j (v .start) (v .end)) (λ i. record { start = ps i; end = pe i }) (minimal-e t q j (w .start) (w .end) (b .1)))
+      let pe : w .end ≡ x .end = ap (λ (z : Entry). z .end) (sym (a .is)) in (
+        ap (λ (z : Entry). z .row) (a .is),
+        subst (OfRange lo hi) (λ i. record { start = ps i; end = pe i }) (windows-e lo hi w (b .0)),
+        subst (λ (v : Window). IsMinimal t q j (v .start) (v .end)) (λ i. record { start = ps i; end = pe i })
+            (minimal-e t q j (w .start) (w .end) (b .1)),
+      )
 
-  pub of-row-i : (x : Entry) → OfRange lo hi (record { start = x .start; end = x .end }) → IsMinimal t q (x .row) (x .start) (x .end) → Mem x (minimalOf t q lo hi (x .row))
+  pub of-row-i : (x : Entry)
+      → OfRange lo hi (record { start = x .start; end = x .end })
+      → IsMinimal t q (x .row) (x .start) (x .end)
+      → Mem x (minimalOf t q lo hi (x .row))
   unfolding minimalOf
   of-row-i x o m =
       mem-map (entry (x .row)) (filterBy (test (x .row)) (windows lo hi))
-      (mem-filterBy (test (x .row)) (windows lo hi) (windows-i lo hi (record { start = x .start; end = x .end }) o) (minimal-i t q (x .row) (x .start) (x .end) m))
+      (mem-filterBy (test (x .row)) (windows lo hi)
+      (windows-i lo hi (record { start = x .start; end = x .end }) o)
+      (minimal-i t q (x .row) (x .start) (x .end) m))
 
   -- two minimal windows of one row do not begin on one day: the shorter lies inside the longer
   starts-rise : (j : ℕ) (v w : Window) → test j v ≡ true → test j w ≡ true → Earlier v w → v .start < w .start
@@ -273,7 +323,9 @@ module _ (t : Table) (q : Query) (lo hi : ℕ) where
       let has = minimal-e t q j (v .start) (v .end) a .has in
       let longer = minimal-e t q j (w .start) (w .end) b in
       let x = r .0 in let y = r .1 in
-      clash has (longer .none-smaller (v .start) (v .end) (omega arith) (in-order t q (v .start) (v .end) j has) (omega arith) (λ z. let u = z .1 in omega arith))
+      clash has
+      (longer .none-smaller (v .start) (v .end) (omega arith) (in-order t q (v .start) (v .end) j has)
+      (omega arith) (λ z. let u = z .1 in omega arith))
 
   -- nor does the earlier one end with the later one or behind it: it would have that one inside. So ends rise with starts
   pub ends-rise : (x y : Entry) → Listed t q lo hi x → Listed t q lo hi y → x .row ≡ y .row → x .start < y .start → x .end < y .end
@@ -286,7 +338,8 @@ module _ (t : Table) (q : Query) (lo hi : ℕ) where
   unfolding minimalOf
   row-order j =
       pair-map (entry j) Before (filterBy (test j) (windows lo hi))
-      (pair-weaken Earlier (λ v w. Before (entry j v) (entry j w)) (filterBy (test j) (windows lo hi)) (pair-filterBy Earlier (test j) (windows lo hi) (windows-order lo hi))
+      (pair-weaken Earlier (λ v w. Before (entry j v) (entry j w)) (filterBy (test j) (windows lo hi))
+      (pair-filterBy Earlier (test j) (windows lo hi) (windows-order lo hi))
       (λ v w m n e.
       let a = filterBy-mem (test j) (windows lo hi) m in
       let b = filterBy-mem (test j) (windows lo hi) n in
@@ -308,23 +361,34 @@ module _ (t : Table) (q : Query) (lo hi : ℕ) where
           let l = b .below in
           let e = c .0 in
           let o = c .1 in
-          record { in-table = omega arith; from = o .from; order = o .order; to = o .to; is-minimal = subst (λ (j : ℕ). IsMinimal t q j (x .start) (x .end)) (sym e) (c .2) }
+          record {
+            in-table = omega arith;
+            from = o .from;
+            order = o .order;
+            to = o .to;
+            is-minimal = subst (λ (j : ℕ). IsMinimal t q j (x .start) (x .end)) (sym e) (c .2);
+          }
 
       whole-list : (x : Entry) → Listed t q lo hi x → Mem x (flatten rows)
       whole-list x l =
           let h = l .in-table in
-          mem-flatten (mem-tabulate (minimalOf t q lo hi) 0 (size t) (x .row) (omega arith) (omega arith)) (of-row-i x (record { from = l .from; order = l .order; to = l .to }) (l .is-minimal))
+          mem-flatten
+          (mem-tabulate (minimalOf t q lo hi) 0 (size t) (x .row) (omega arith) (omega arith))
+          (of-row-i x (record { from = l .from; order = l .order; to = l .to }) (l .is-minimal))
 
       ordered : Pairwise Before (flatten rows)
       ordered =
-          pair-flatten Before rows (λ xs m. let b = tabulate-mem (minimalOf t q lo hi) 0 (size t) m in subst (Pairwise Before) (sym (b .is)) (row-order (b .it)))
+          pair-flatten Before rows
+          (λ xs m. let b = tabulate-mem (minimalOf t q lo hi) 0 (size t) m in
+          subst (Pairwise Before) (sym (b .is)) (row-order (b .it)))
           (pair-tabulate (λ xs ys. (x y : Entry) → Mem x xs → Mem y ys → Before x y) (minimalOf t q lo hi) 0 (size t)
           (λ a b l k o x y m n. let u = of-row-e a x m .0 in let v = of-row-e b y n .0 in _⊎_.inl (omega arith)))
 
   -- and is the only such list
   pub list-only : (es : List Entry) → IsMinimalList t q lo hi es → es ≡ minimalWindows t q lo hi
   list-only es l =
-      pair-unique Before before-strict es (minimalWindows t q lo hi) (l .in-order) (list-is .in-order) (λ x m. list-is .whole x (l .each x m)) (λ x m. l .whole x (list-is .each x m))
+      pair-unique Before before-strict es (minimalWindows t q lo hi) (l .in-order) (list-is .in-order)
+      (λ x m. list-is .whole x (l .each x m)) (λ x m. l .whole x (list-is .each x m))
 
   -- 001, Lemma 3 by such a list: a row is in the ring of a window of the range exactly if an entry of it lies inside
   module _ (es : List Entry) (L : IsMinimalList t q lo hi es) (s e j : ℕ) where

@@ -144,14 +144,17 @@ pub count-less : (p r : ℕ → Bool) (n j : ℕ) → ((i : ℕ) → i < n → p
 unfolding count
 count-less p r zero j h l f g = absurd (not-suc-le-zero l)
 count-less p r (suc n) j h l f g =
-    ⊎-elim (λ q. rw (sucIf-no (count p n) (rw q at f), sucIf-yes (count r n) (rw q at g)) (let m : count p n ≤ count r n = count-mono p r n (λ i k. h i (omega (arith, k))) in omega arith))
+    ⊎-elim (λ q. rw (sucIf-no (count p n) (rw q at f), sucIf-yes (count r n) (rw q at g))
+    (let m : count p n ≤ count r n = count-mono p r n (λ i k. h i (omega (arith, k))) in omega arith))
     (λ k. let m : count p n < count r n = count-less p r n j (λ i o. h i (omega (arith, o))) k f g in sucIf-less m)
     (eq-or-lt-of-le (le-of-suc-le-suc l))
   where
     sucIf-less : count p n < count r n → sucIf (p n) (count p n) < sucIf (r n) (count r n)
     sucIf-less m =
         ⊎-elim (λ a. rw (sucIf-yes (count p n) a, sucIf-yes (count r n) (h n (le-refl (suc n)) a)) (omega arith))
-        (λ a. ⊎-elim (λ b. rw (sucIf-no (count p n) a, sucIf-yes (count r n) b) (omega arith)) (λ b. rw (sucIf-no (count p n) a, sucIf-no (count r n) b) m) (true-or-false (r n))) (true-or-false (p n))
+        (λ a. ⊎-elim (λ b. rw (sucIf-no (count p n) a, sucIf-yes (count r n) b) (omega arith))
+        (λ b. rw (sucIf-no (count p n) a, sucIf-no (count r n) b) m) (true-or-false (r n)))
+        (true-or-false (p n))
 
 pub count-same : (p r : ℕ → Bool) (n : ℕ) → ((i : ℕ) → i < n → p i ≡ r i) → count p n ≡ count r n
 unfolding count
@@ -191,7 +194,9 @@ marked-tabulate f n j h = getD-tabulate f 0 n j false h ∙ ap f (zero-add j)
 
 pub marked-below : (m : List Bool) (j : ℕ) → marked m j ≡ true → j < length m
 unfolding marked
-marked-below m j h = ⊎-elim (λ e. clash h (List·getD-eq-default m false (leb-true (length m) j e))) (λ e. leb-false (length m) j e) (true-or-false (leb (length m) j))
+marked-below m j h =
+    ⊎-elim (λ e. clash h (List·getD-eq-default m false (leb-true (length m) j e))) (λ e. leb-false (length m) j e)
+    (true-or-false (leb (length m) j))
 
 -- a mark of a list made by `tabulate`
 pub marked-tabulate-e : (f : ℕ → Bool) (n j : ℕ) → marked (tabulate f 0 n) j ≡ true → (j < n) × (f j ≡ true)
@@ -203,6 +208,10 @@ pub marked-tabulate-i : (f : ℕ → Bool) (n j : ℕ) → j < n → f j ≡ tru
 marked-tabulate-i f n j l h = marked-tabulate f n j l ∙ h
 
 -- row sets with the same rows are one
-pub same-marks : (m m′ : List Bool) → length m ≡ length m′ → ((j : ℕ) → marked m j ≡ true → marked m′ j ≡ true) → ((j : ℕ) → marked m′ j ≡ true → marked m j ≡ true) → m ≡ m′
+pub same-marks : (m m′ : List Bool)
+    → length m ≡ length m′
+    → ((j : ℕ) → marked m j ≡ true → marked m′ j ≡ true)
+    → ((j : ℕ) → marked m′ j ≡ true → marked m j ≡ true)
+    → m ≡ m′
 unfolding marked
 same-marks m m′ e f g = ext-getD false m m′ e (λ i l. same-truth (getD m i false) (getD m′ i false) (f i) (g i))

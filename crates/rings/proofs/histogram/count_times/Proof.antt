@@ -17,7 +17,9 @@ use Rattle.rings.proofs.slices.clear.Reads as clear-reads
 use Rattle.rings.proofs.times.row_time.Reads as row-time-reads
 
 abbrev Inv-loop : tie.InvT-loop
-Inv-loop days first second frame end times counts₀ j₀ counts j = (frame .lo ≤ j) × (j ≤ end) × Histogram (rowTime (tableOf days first second) (frame .query) (frame .stop) (frame .start)) j counts
+Inv-loop days first second frame end times counts₀ j₀ counts j =
+    (frame .lo ≤ j) × (j ≤ end)
+    × Histogram (rowTime (tableOf days first second) (frame .query) (frame .stop) (frame .start)) j counts
 
 abbrev μ-loop : tie.MeasureT-loop
 μ-loop days first second frame end times counts₀ j₀ counts j = end - j

@@ -15,7 +15,12 @@ use Rattle.rings.proofs.histogram.drop_count.Reads as drop-count-reads
 use Rattle.rings.proofs.times.row_time.Reads as row-time-reads
 
 abbrev Inv-loop : tie.InvT-loop
-Inv-loop days first second frame next end times counts₀ j₀ counts j = (frame .lo ≤ j) × (j ≤ next) × Histogram (mixed (rowTime (tableOf days first second) (frame .query) (frame .stop) (frame .start)) (timeBy (tableOf days first second) (estimate times) (frame .start + 1) (frame .stop)) j) (length days) counts
+Inv-loop days first second frame next end times counts₀ j₀ counts j =
+    (frame .lo ≤ j) × (j ≤ next)
+    × Histogram
+    (mixed (rowTime (tableOf days first second) (frame .query) (frame .stop) (frame .start))
+    (timeBy (tableOf days first second) (estimate times) (frame .start + 1) (frame .stop)) j)
+    (length days) counts
 
 abbrev μ-loop : tie.MeasureT-loop
 μ-loop days first second frame next end times counts₀ j₀ counts j = next - j

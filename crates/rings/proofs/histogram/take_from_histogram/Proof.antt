@@ -90,8 +90,11 @@ returns-2 c =
     let if1 = c .before .before .before .before .if1 in
     let args = c .before .before .before .before .before .before .args in
     let pre = c .before .before .before .before .before .before .pre in (
-      record
-          { counted = λ h. take-end (args .counts .now) (picked-as (wide .ensures) (pick .ensures)) (one .ensures) (pre (not-false _ (if1 .left)) .has); same = λ h. clash (not-false _ (if1 .left)) h },
+      record {
+        counted = λ h. take-end (args .counts .now) (picked-as (wide .ensures) (pick .ensures)) (one .ensures)
+            (pre (not-false _ (if1 .left)) .has);
+        same = λ h. clash (not-false _ (if1 .left)) h;
+      },
       λ h. clash (not-false _ (if1 .left)) h,
     )
 

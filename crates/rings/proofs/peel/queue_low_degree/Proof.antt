@@ -4,7 +4,8 @@
 use native.Mathlib.Omega.{arith}
 use Prim.Native.Nat.{_-_}
 use Rattle.rings.proofs.PeelLoopLaws.{QueueingLowDegree}
-use Rattle.rings.proofs.PeelStartLaws.{low-degree-start, low-degree-end, low-degree-small, low-degree-room, low-degree-left, low-degree-keep, low-degree-removal}
+use Rattle.rings.proofs.PeelStartLaws.{low-degree-start, low-degree-end, low-degree-small, low-degree-room}
+use Rattle.rings.proofs.PeelStartLaws.{low-degree-left, low-degree-keep, low-degree-removal}
 use Rattle.rings.proofs.peel.queue_low_degree.Statement.{statement}
 use Rattle.rings.proofs.peel.queue_low_degree.Tie as tie
 use Rattle.rings.proofs.peel.queue_low_degree.Reads as reads

@@ -2,7 +2,9 @@
 -- Assumes nothing.
 use native.Mathlib.Omega.{arith}
 use Prim.Native.Nat.{_-_}
-use Rattle.rings.proofs.RemoveAccountLaws.{RemovingAccount, head-small, head-place, removing-small, removing-start, removing-stands, removing-few, removing-stop, removing-out, removing-room, removing-drop, removing-skip}
+use Rattle.rings.proofs.RemoveAccountLaws.{RemovingAccount, head-small, head-place, removing-small}
+use Rattle.rings.proofs.RemoveAccountLaws.{removing-start, removing-stands, removing-few, removing-stop}
+use Rattle.rings.proofs.RemoveAccountLaws.{removing-out, removing-room, removing-drop, removing-skip}
 use Rattle.rings.proofs.peel.remove_account.Statement.{statement}
 use Rattle.rings.proofs.peel.remove_account.Tie as tie
 use Rattle.rings.proofs.peel.remove_account.Reads as reads

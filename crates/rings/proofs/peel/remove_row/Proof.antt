@@ -3,7 +3,9 @@
 -- Assumes nothing.
 use native.Mathlib.Omega.{arith}
 use mathlib.Core.Path.{refl}
-use Rattle.rings.proofs.PeelLoopLaws.{remove-row-below, remove-row-place, remove-row-accounts, remove-row-old, remove-row-a-removed, remove-row-b-removed, remove-row-room-a, remove-row-room-b, remove-row-now, remove-row-left}
+use Rattle.rings.proofs.PeelLoopLaws.{remove-row-below, remove-row-place, remove-row-accounts, remove-row-old}
+use Rattle.rings.proofs.PeelLoopLaws.{remove-row-a-removed, remove-row-b-removed, remove-row-room-a}
+use Rattle.rings.proofs.PeelLoopLaws.{remove-row-room-b, remove-row-now, remove-row-left}
 use borrow.Author.Needs.{needs}
 use Rattle.rings.proofs.peel.remove_row.Statement.{statement}
 use Rattle.rings.proofs.peel.remove_row.Tie as tie

@@ -141,7 +141,9 @@ loop-again c =
     wide-to-start c .args in
     record {
       cursor = loop .inv .cursor;
-      pruning = pruning-next (pre .pruned) (pre .account) (loop .inv .pruning) (omega (arith, loop .inv .cursor, loop-test .taken)) (row-at .ensures .row) (put .ensures)
+      pruning =
+          pruning-next (pre .pruned) (pre .account) (loop .inv .pruning)
+          (omega (arith, loop .inv .cursor, loop-test .taken)) (row-at .ensures .row) (put .ensures)
           (λ n. wide .ensures ∙ one .ensures .yes (pruning-timed (args .times .now) (pre .times) (row-at .ensures .small) (row-at .ensures .other) n))
           (omega (arith, wide .ensures, picked-most (one .ensures)));
     }

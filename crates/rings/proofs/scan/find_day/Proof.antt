@@ -14,7 +14,10 @@ use Rattle.rings.proofs.scan.find_day.Lts as lts
 use Rattle.rings.proofs.scan.scan_on_day.Reads as scan-on-day-reads
 
 abbrev Inv-loop : tie.InvT-loop
-Inv-loop days first second scratch frame times scan walked₀ c₀ walked c = Short (tableOf days first second) (estimate times) (frame .start) (frame .query .k) (frame .stop) (getD times (scan .account) 0) (scan .account) c × (walked ≤ scan .budget + 32768)
+Inv-loop days first second scratch frame times scan walked₀ c₀ walked c =
+    Short (tableOf days first second) (estimate times) (frame .start) (frame .query .k) (frame .stop)
+    (getD times (scan .account) 0) (scan .account) c
+    × (walked ≤ scan .budget + 32768)
 
 abbrev μ-loop : tie.MeasureT-loop
 μ-loop days first second scratch frame times scan walked₀ c₀ walked c = 65535 - c
@@ -168,4 +171,5 @@ pub find-day-spec : {M : Type 1} → statement M
 find-day-spec =
     tie.close
     (
-    tie.spec Inv-loop μ-loop loop-holds returns scan-on-day-requires add-walked add-t14 sub-t15 returns-2 returns-3 add-both add-t16 sub-t17 returns-4 loop-less loop-again returns-5)
+    tie.spec Inv-loop μ-loop loop-holds returns scan-on-day-requires add-walked add-t14 sub-t15 returns-2
+    returns-3 add-both add-t16 sub-t17 returns-4 loop-less loop-again returns-5)

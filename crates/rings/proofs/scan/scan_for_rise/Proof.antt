@@ -43,6 +43,23 @@ Inv-loop days first second scratch frame times scan tail queue₀ last p₀ coun
 abbrev μ-loop : tie.MeasureT-loop
 μ-loop days first second scratch frame times scan tail queue₀ last p₀ count₀ above₀ more₀ moved₀ end₀ queue p count above more moved end = last - p
 
+-- ---- the ways back, from a place of the code to an earlier one
+
+abbrev loop-to-start : tie.At-loop Inv-loop μ-loop → tie.Start Inv-loop μ-loop
+loop-to-start c = c .before .before .before .before .before .before .before .before
+
+abbrev greater-to-start : tie.After-greater Inv-loop μ-loop → tie.Start Inv-loop μ-loop
+greater-to-start c = loop-to-start (c .before .before .before .before .before .before .before)
+
+abbrev wide-to-start : tie.After-wide Inv-loop μ-loop → tie.Start Inv-loop μ-loop
+wide-to-start c = greater-to-start (c .before .before .before .before .before .before .before .before .before)
+
+abbrev wide-to-else1 : tie.After-wide Inv-loop μ-loop → tie.Else1 Inv-loop μ-loop
+wide-to-else1 c = c .before .before .before .before .before .before .before .before .before .before .before .before
+
+abbrev one2-to-greater : tie.After-one2 Inv-loop μ-loop → tie.After-greater Inv-loop μ-loop
+one2-to-greater c = c .before .before .before .before .before .before .before .before .before .before
+
 entry-requires : tie.Need-entry-requires Inv-loop μ-loop
 entry-requires c κs =
     let pre = c .before .before .before .before .before .before .pre in
@@ -70,7 +87,7 @@ loop-holds c =
 
 day-at-requires : tie.Need-day-at-requires Inv-loop μ-loop
 day-at-requires c κs =
-    let pre = c .before .before .before .before .before .before .before .before .before .pre in
+    let pre = loop-to-start (c .before) .pre in
     let loop = c .before .loop in
     let loop-test = c .loop-test in
     stands-place (
@@ -89,7 +106,7 @@ sub-t26 c =
 same-length : tie.Need-same-length Inv-loop μ-loop
 same-length c =
     let loop = c .before .before .before .before .before .loop in
-    let pre = c .before .before .before .before .before .before .before .before .before .before .before .before .before .pre in
+    let pre = loop-to-start (c .before .before .before .before .before) .pre in
     loop .inv .rise-scan .behind .long ∙ sym (pre .1 .long)
 
 returns : tie.Need-returns Inv-loop μ-loop
@@ -99,7 +116,7 @@ returns c =
     let day-at = c .before .before .before .day-at in
     let loop-test = c .before .before .before .before .loop-test in
     let loop = c .before .before .before .before .before .loop in
-    let pre = c .before .before .before .before .before .before .before .before .before .before .before .before .before .pre in
+    let pre = loop-to-start (c .before .before .before .before .before) .pre in
     let row =
     row-known (reading-stands _ _ _ _ (pre .0 .lent .opened .sound) (pre .0 .lent .opened .pruned) (pre .0 .lent .small)
     (loop .inv .rise-scan .reading) (loop .inv .cursor) (loop-test .taken)) _ (day-at .ensures)
@@ -124,7 +141,7 @@ returns c =
 
 row-at-requires : tie.Need-row-at-requires Inv-loop μ-loop
 row-at-requires c κs =
-    let pre = c .before .before .before .before .before .before .before .before .before .before .before .before .pre in
+    let pre = loop-to-start (c .before .before .before .before) .pre in
     let loop = c .before .before .before .before .loop in
     let loop-test = c .before .before .before .loop-test in
     reading-stands _ _ _ _ (pre .0 .lent .opened .sound) (pre .0 .lent .opened .pruned) (pre .0 .lent .small)
@@ -134,7 +151,7 @@ add-p : tie.Need-add-p Inv-loop μ-loop
 add-p c =
     let loop-test = c .before .before .before .before .loop-test in
     let loop = c .before .before .before .before .before .loop in
-    let pre = c .before .before .before .before .before .before .before .before .before .before .before .before .before .pre in
+    let pre = loop-to-start (c .before .before .before .before .before) .pre in
     omega (
       arith,
       reading-few _ _ _ _ (pre .0 .lent .opened .sound) (pre .0 .lent .opened .pruned) (pre .0 .lent .small) (loop .inv .rise-scan .reading)
@@ -149,7 +166,7 @@ mul-x c =
 shared-slice-read-x : tie.Need-shared-slice-read-x Inv-loop μ-loop
 shared-slice-read-x c =
     let row-at = c .before .row-at in
-    let pre = c .before .before .before .before .before .before .before .before .before .before .before .before .before .before .pre in
+    let pre = loop-to-start (c .before .before .before .before .before .before) .pre in
     omega (arith, row-at .ensures .small, pre .0 .lent .long)
 
 greater-requires : tie.Need-greater-requires Inv-loop μ-loop
@@ -160,7 +177,7 @@ put-requires c κs =
     let row-at = c .before .before .before .before .row-at in
     let loop-test = c .before .before .before .before .before .before .before .before .loop-test in
     let loop = c .before .before .before .before .before .before .before .before .before .loop in
-    let pre = c .before .before .before .before .before .before .before .before .before .before .before .before .before .before .before .before .before .pre in
+    let pre = greater-to-start (c .before .before) .pre in
     record {
       place = omega (
         arith,
@@ -184,9 +201,10 @@ add-end : tie.Need-add-end Inv-loop μ-loop
 add-end c =
     let one = c .before .one in
     let wide = c .wide in
-    let loop-test = c .before .before .before .before .before .before .before .before .before .before .before .before .before .before .before .loop-test in
-    let loop = c .before .before .before .before .before .before .before .before .before .before .before .before .before .before .before .before .loop in
-    let pre = c .before .before .before .before .before .before .before .before .before .before .before .before .before .before .before .before .before .before .before .before .before .before .before .before .pre in
+    let loop-test = wide-to-else1 c .before .before .before .loop-test in
+    let loop = wide-to-else1 c .before .before .before .before .loop in
+    let pre = wide-to-start c
+    .pre in
     omega (arith, picked-most (one .ensures), wide .ensures, pre .1 .room, loop .inv .cursor, loop .inv .room, loop-test .taken)
 
 one-requires-2 : tie.Need-one-requires-2 Inv-loop μ-loop
@@ -195,10 +213,10 @@ one-requires-2 c κs = search needs
 add-moved : tie.Need-add-moved Inv-loop μ-loop
 add-moved c =
     let one2 = c .one2 in
-    let row-at = c .before .before .before .before .before .before .before .before .before .before .before .before .row-at in
-    let loop-test = c .before .before .before .before .before .before .before .before .before .before .before .before .before .before .before .before .loop-test in
-    let loop = c .before .before .before .before .before .before .before .before .before .before .before .before .before .before .before .before .before .loop in
-    let pre = c .before .before .before .before .before .before .before .before .before .before .before .before .before .before .before .before .before .before .before .before .before .before .before .before .before .pre in
+    let row-at = one2-to-greater c .before .before .row-at in
+    let loop-test = wide-to-else1 (c .before) .before .before .before .loop-test in
+    let loop = wide-to-else1 (c .before) .before .before .before .before .loop in
+    let pre = wide-to-start (c .before) .pre in
     omega (
       arith,
       picked-most (one2 .ensures),
@@ -209,16 +227,16 @@ add-moved c =
 
 note-row-requires : tie.Need-note-row-requires Inv-loop μ-loop
 note-row-requires c κs =
-    let row-at = c .before .before .before .before .before .before .before .before .before .before .before .before .row-at in
-    let loop-test = c .before .before .before .before .before .before .before .before .before .before .before .before .before .before .before .before .loop-test in
-    let loop = c .before .before .before .before .before .before .before .before .before .before .before .before .before .before .before .before .before .loop in
-    let pre = c .before .before .before .before .before .before .before .before .before .before .before .before .before .before .before .before .before .before .before .before .before .before .before .before .before .pre in
+    let row-at = one2-to-greater c .before .before .row-at in
+    let loop-test = wide-to-else1 (c .before) .before .before .before .loop-test in
+    let loop = wide-to-else1 (c .before) .before .before .before .before .loop in
+    let pre = wide-to-start (c .before) .pre in
     day-scan-few _ _ _ _ _ (pre .0 .lent .opened) _ (pre .0 .lent .long) (pre .0 .lent .days) (pre .0 .lent .small) (pre .0 .in-range) (pre .0 .every)
     (as-day-scan (loop .inv .rise-scan)) (loop .inv .cursor) (loop-test .taken) (row-at .ensures)
 
 loop-less : tie.Need-loop-less Inv-loop μ-loop
 loop-less c =
-    let loop-test = c .before .before .before .before .before .before .before .before .before .before .before .before .before .before .before .before .before .loop-test in
+    let loop-test = wide-to-else1 (c .before .before) .before .before .before .loop-test in
     omega (arith, loop-test .taken)
 
 loop-again : tie.Need-loop-again Inv-loop μ-loop
@@ -228,14 +246,14 @@ loop-again c =
     let wide = c .before .before .wide in
     let one = c .before .before .before .one in
     let put = c .before .before .before .before .before .before .before .before .put in
-    let greater = c .before .before .before .before .before .before .before .before .before .before .before .greater in
-    let if1 = c .before .before .before .before .before .before .before .before .before .before .before .before .before .before .if1 in
-    let is-over = c .before .before .before .before .before .before .before .before .before .before .before .before .before .before .before .is-over in
-    let row-at = c .before .before .before .before .before .before .before .before .before .before .before .before .before .row-at in
-    let day-at = c .before .before .before .before .before .before .before .before .before .before .before .before .before .before .before .before .day-at in
-    let loop-test = c .before .before .before .before .before .before .before .before .before .before .before .before .before .before .before .before .before .loop-test in
-    let loop = c .before .before .before .before .before .before .before .before .before .before .before .before .before .before .before .before .before .before .loop in
-    let pre = c .before .before .before .before .before .before .before .before .before .before .before .before .before .before .before .before .before .before .before .before .before .before .before .before .before .before .pre in
+    let greater = one2-to-greater (c .before) .greater in
+    let if1 = wide-to-else1 (c .before .before) .if1 in
+    let is-over = wide-to-else1 (c .before .before) .before .is-over in
+    let row-at = one2-to-greater (c .before) .before .before .row-at in
+    let day-at = wide-to-else1 (c .before .before) .before .before .day-at in
+    let loop-test = wide-to-else1 (c .before .before) .before .before .before .loop-test in
+    let loop = wide-to-else1 (c .before .before) .before .before .before .before .loop in
+    let pre = wide-to-start (c .before .before) .pre in
     let day = same-day (row-at .ensures) (day-at .ensures) in
     record {
       cursor = loop .inv .cursor;
@@ -263,14 +281,14 @@ sub-t35 c =
 same-length-2 : tie.Need-same-length-2 Inv-loop μ-loop
 same-length-2 c =
     let loop = c .before .before .loop in
-    let pre = c .before .before .before .before .before .before .before .before .before .before .pre in
+    let pre = loop-to-start (c .before .before) .pre in
     loop .inv .rise-scan .behind .long ∙ sym (pre .1 .long)
 
 returns-2 : tie.Need-returns-2 Inv-loop μ-loop
 returns-2 c =
     let loop-test = c .before .loop-test in
     let loop = c .before .before .loop in
-    let pre = c .before .before .before .before .before .before .before .before .before .before .pre in
+    let pre = loop-to-start (c .before .before) .pre in
     record {
       found =
           record {
@@ -293,4 +311,7 @@ pub scan-for-rise-spec : {M : Type 1} → statement M
 scan-for-rise-spec =
     tie.close
     (
-    tie.spec Inv-loop μ-loop entry-requires loop-holds day-at-requires is-over-requires sub-t26 same-length returns row-at-requires add-p mul-x shared-slice-read-x greater-requires put-requires one-requires wide-requires add-end one-requires-2 add-moved note-row-requires loop-less loop-again sub-t35 same-length-2 returns-2)
+    tie.spec Inv-loop μ-loop entry-requires loop-holds day-at-requires is-over-requires sub-t26 same-length
+    returns row-at-requires add-p mul-x shared-slice-read-x greater-requires put-requires one-requires
+    wide-requires add-end one-requires-2 add-moved note-row-requires loop-less loop-again sub-t35 same-length-2
+    returns-2)

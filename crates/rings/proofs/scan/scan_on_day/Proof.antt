@@ -37,6 +37,11 @@ Inv-loop days first second scratch frame times scan last p₀ count₀ above₀ 
 abbrev μ-loop : tie.MeasureT-loop
 μ-loop days first second scratch frame times scan last p₀ count₀ above₀ more₀ p count above more = last - p
 
+-- ---- the ways back, from a place of the code to an earlier one
+
+abbrev is-over-to-start : tie.After-is-over Inv-loop μ-loop → tie.Start Inv-loop μ-loop
+is-over-to-start c = c .before .before .before .before .before .before .before .before .before .before
+
 entry-requires : tie.Need-entry-requires Inv-loop μ-loop
 entry-requires c κs =
     let pre = c .before .before .before .before .before .pre in
@@ -79,7 +84,7 @@ returns c =
     let loop-test = c .before .before .before .before .loop-test in
     let loop = c .before .before .before .before .before .loop in
     let if1 = c .before .if1 in
-    let pre = c .before .before .before .before .before .before .before .before .before .before .before .before .pre in
+    let pre = is-over-to-start (c .before .before) .pre in
     let row =
     row-known (reading-stands _ _ _ _ (pre .lent .opened .sound) (pre .lent .opened .pruned) (pre .lent .small)
     (loop .inv .day-scan .reading) (loop .inv .cursor) (loop-test .taken)) _ (day-at .ensures)
@@ -96,7 +101,7 @@ returns c =
 
 row-at-requires : tie.Need-row-at-requires Inv-loop μ-loop
 row-at-requires c κs =
-    let pre = c .before .before .before .before .before .before .before .before .before .before .before .pre in
+    let pre = is-over-to-start (c .before) .pre in
     let loop = c .before .before .before .before .loop in
     let loop-test = c .before .before .before .loop-test in
     reading-stands _ _ _ _ (pre .lent .opened .sound) (pre .lent .opened .pruned) (pre .lent .small)
@@ -106,7 +111,7 @@ add-p : tie.Need-add-p Inv-loop μ-loop
 add-p c =
     let loop-test = c .before .before .before .before .loop-test in
     let loop = c .before .before .before .before .before .loop in
-    let pre = c .before .before .before .before .before .before .before .before .before .before .before .before .pre in
+    let pre = is-over-to-start (c .before .before) .pre in
     omega (
       arith,
       reading-few _ _ _ _ (pre .lent .opened .sound) (pre .lent .opened .pruned) (pre .lent .small) (loop .inv .day-scan .reading) (loop .inv .cursor)
@@ -121,7 +126,7 @@ mul-greater c =
 shared-slice-read-greater : tie.Need-shared-slice-read-greater Inv-loop μ-loop
 shared-slice-read-greater c =
     let row-at = c .before .row-at in
-    let pre = c .before .before .before .before .before .before .before .before .before .before .before .before .before .pre in
+    let pre = is-over-to-start (c .before .before .before) .pre in
     omega (arith, row-at .ensures .small, pre .lent .long)
 
 greater-requires : tie.Need-greater-requires Inv-loop μ-loop
@@ -135,7 +140,7 @@ note-row-requires c κs =
     let row-at = c .before .before .before .row-at in
     let loop-test = c .before .before .before .before .before .before .before .loop-test in
     let loop = c .before .before .before .before .before .before .before .before .loop in
-    let pre = c .before .before .before .before .before .before .before .before .before .before .before .before .before .before .before .pre in
+    let pre = is-over-to-start (c .before .before .before .before .before) .pre in
     day-scan-few _ _ _ _ _ (pre .lent .opened) _ (pre .lent .long) (pre .lent .days) (pre .lent .small) (pre .in-range) (pre .every) (loop .inv .day-scan)
     (loop .inv .cursor) (loop-test .taken) (row-at .ensures)
 
@@ -155,7 +160,7 @@ loop-again c =
     let day-at = c .before .before .before .before .before .before .before .day-at in
     let loop-test = c .before .before .before .before .before .before .before .before .loop-test in
     let loop = c .before .before .before .before .before .before .before .before .before .loop in
-    let pre = c .before .before .before .before .before .before .before .before .before .before .before .before .before .before .before .before .pre in
+    let pre = is-over-to-start (c .before .before .before .before .before .before) .pre in
     let day = same-day (row-at .ensures) (day-at .ensures) in
     record {
       cursor = loop .inv .cursor;
@@ -197,4 +202,6 @@ pub scan-on-day-spec : {M : Type 1} → statement M
 scan-on-day-spec =
     tie.close
     (
-    tie.spec Inv-loop μ-loop entry-requires loop-holds day-at-requires is-over-requires sub-t20 returns row-at-requires add-p mul-greater shared-slice-read-greater greater-requires pick-requires note-row-requires loop-less loop-again sub-t24 returns-2)
+    tie.spec Inv-loop μ-loop entry-requires loop-holds day-at-requires is-over-requires sub-t20 returns
+    row-at-requires add-p mul-greater shared-slice-read-greater greater-requires pick-requires note-row-requires
+    loop-less loop-again sub-t24 returns-2)

@@ -1,5 +1,7 @@
 use Rattle.rings.proofs.IncidentLaws.{lead-reads}
-use Rattle.rings.proofs.SupporterLaws.{dropped-supporter-less, queued-start, queued-dropped-supporter, dropped-supporter-on, leaving-row, first-is, second-is, day-of, first-small, second-small}
+use Rattle.rings.proofs.SupporterLaws.{dropped-supporter-less, queued-start, queued-dropped-supporter}
+use Rattle.rings.proofs.SupporterLaws.{dropped-supporter-on, leaving-row, first-is, second-is, day-of}
+use Rattle.rings.proofs.SupporterLaws.{first-small, second-small}
 use mathlib.Core.Path.{refl}
 use native.Mathlib.Omega.{arith}
 use borrow.Author.Needs.{needs}
@@ -101,7 +103,9 @@ drop-supporter-requires-2 c κs =
     let small = first-small _ _ _ (pre .0 .placed .sound) (pre .1) (entry .ensures) in
     record {
       slack-long = dropped-supporter-less small (pre .0 .slack-long) (drop-supporter .ensures) .long;
-      queue-long = (queued-dropped-supporter small (omega (arith, if1 .left)) (pre .0 .slack-long) (queued-start _ _ _ (pre .0 .queue-long)) (drop-supporter .ensures)) .long;
+      queue-long =
+          (queued-dropped-supporter small (omega (arith, if1 .left)) (pre .0 .slack-long)
+          (queued-start _ _ _ (pre .0 .queue-long)) (drop-supporter .ensures)) .long;
       small = second-small _ _ _ (pre .0 .placed .sound) (pre .1) (entry2 .ensures);
       room = omega (arith, if1 .left, dropped-supporter-on (drop-supporter .ensures));
     }
@@ -135,7 +139,8 @@ returns-2 c =
       leaving = λ h sp F. leaving-row _ _ _ _ _ (pre .0 .placed .setting) _ (pre .0 .times-long) (pre .0 .days) F (pre .1)
           (lead-reads _ _ _ sound (pre .1) _ (args .scratch .now) (pre .0 .placed .paired .pairs) (leads .ensures))
           (first-is _ _ _ sound (pre .1) (entry .ensures)) (second-is _ _ _ sound (pre .1) (entry2 .ensures))
-          (day-of _ _ _ sound (pre .1) refl) refl refl (loses-supporter .ensures) (loses-supporter2 .ensures) (drop-supporter .ensures) (drop-supporter2 .ensures);
+          (day-of _ _ _ sound (pre .1) refl) refl refl (loses-supporter .ensures) (loses-supporter2 .ensures)
+          (drop-supporter .ensures) (drop-supporter2 .ensures);
     }
 
 pub drop-leaving-row-spec : {M : Type 1} → statement M

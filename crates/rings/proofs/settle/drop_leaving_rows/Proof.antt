@@ -13,7 +13,11 @@ use Rattle.rings.proofs.settle.drop_leaving_rows.Lts as lts
 use Rattle.rings.proofs.settle.drop_leaving_row.Reads as drop-leaving-row-reads
 
 abbrev Inv-loop : tie.InvT-loop
-Inv-loop days first second scratch frame next times slack₀ queue₀ tail₀ j₀ slack queue tail j = (j ≤ next) × (length slack ≡ 4096) × (length queue ≡ 4352) × (tail ≤ 4352 → Queued 0 slack₀ queue₀ tail slack queue × Leaving (tableOf days first second) (estimate times) (frame .lo) j slack₀ slack)
+Inv-loop days first second scratch frame next times slack₀ queue₀ tail₀ j₀ slack queue tail j =
+    (j ≤ next) × (length slack ≡ 4096) × (length queue ≡ 4352)
+    × (tail ≤ 4352
+    → Queued 0 slack₀ queue₀ tail slack queue
+    × Leaving (tableOf days first second) (estimate times) (frame .lo) j slack₀ slack)
 
 abbrev μ-loop : tie.MeasureT-loop
 μ-loop days first second scratch frame next times slack₀ queue₀ tail₀ j₀ slack queue tail j = next - j

@@ -121,7 +121,9 @@ returns-2 : tie.Need-returns-2
 returns-2 c =
     let settle-far = c .before .before .before .before .before .before .before .before .settle-far in
     let near2 = c .before .before .before .before .before .before .before .before .before .before .before .before .before .before .near2 in
-    let settle-near = c .before .before .before .before .before .before .before .before .before .before .before .before .before .before .before .before .before .before .before .before .before .before .before .before .settle-near in
+    let settle-near = c .before .before .before .before .before .before .before .before .before .before .before
+    .before .before .before .before .before .before .before .before .before .before .before
+    .before .before .settle-near in
     let args = settle-far-arg4-to-start (c .before .before .before .before .before .before .before .before .before) .args in
     unmoved-attempt (args .counting) _ (settle-far .result) (rw (near2 .given .1) at (settle-near .ensures)) (settle-far .ensures)
 

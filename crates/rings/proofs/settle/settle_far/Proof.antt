@@ -169,7 +169,9 @@ drop-supported-requires c κs =
           (if1 .left) (w .covered);
       days = account-days (args .times .now) (omega (arith, w .opened .setting .fits)) (w .times-long) (h .small) (w .days) (found-day .day-found);
       now-is = account-now (args .times .now) (omega (arith, w .opened .setting .fits)) (w .times-long) (h .small) (w .days) (found-day .day-found);
-      counted = λ y. account-counts-before-rise (args .times .now) (omega (arith, w .opened .setting .fits)) (w .times-long) (h .small) (w .days) (found-day .day-found)
+      counted = λ y.
+          account-counts-before-rise (args .times .now) (omega (arith, w .opened .setting .fits)) (w .times-long)
+          (h .small) (w .days) (found-day .day-found)
           (if1 .left) (w .counted y .in-days) (w .counted y .counts-are);
     }
 
@@ -195,7 +197,8 @@ returns-3 c =
 add-t21 : tie.Need-add-t21
 add-t21 c =
     let outcome = else2-to-put (c .before) .before .before .before .before .outcome in
-    let find-day = c .before .before .before .before .before .before .before .before .before .before .before .before .before .before .before .before .before .before .before .before .before .find-day in
+    let find-day = c .before .before .before .before .before .before .before .before .before .before .before
+    .before .before .before .before .before .before .before .before .before .before .find-day in
     let found-day = rw (outcome .given .1) at (find-day .ensures) in
     let pre = else2-to-start (c .before) .pre in
     let w = pre .working in
@@ -205,7 +208,9 @@ add-t21 c =
 add-t43 : tie.Need-add-t43
 add-t43 c =
     let outcome = else2-to-put (c .before .before) .before .before .before .before .outcome in
-    let find-day = c .before .before .before .before .before .before .before .before .before .before .before .before .before .before .before .before .before .before .before .before .before .before .find-day in
+    let find-day = c .before .before .before .before .before .before .before .before .before .before .before
+    .before .before .before .before .before .before .before .before .before .before .before
+    .find-day in
     let found-day = rw (outcome .given .1) at (find-day .ensures) in
     let pre = else2-to-start (c .before .before) .pre in
     let w = pre .working in
@@ -215,7 +220,9 @@ add-t43 c =
 add-t44 : tie.Need-add-t44
 add-t44 c =
     let outcome = else2-to-put (c .before .before .before) .before .before .before .before .outcome in
-    let find-day = c .before .before .before .before .before .before .before .before .before .before .before .before .before .before .before .before .before .before .before .before .before .before .before .find-day in
+    let find-day = c .before .before .before .before .before .before .before .before .before .before .before
+    .before .before .before .before .before .before .before .before .before .before .before .before
+    .find-day in
     let found-day = rw (outcome .given .1) at (find-day .ensures) in
     let pre = else2-to-start (c .before .before .before) .pre in
     let w = pre .working in
@@ -243,7 +250,9 @@ returns-4 c =
     let put = else2-to-put (c .before .before .before) .put in
     let args = else2-to-start (c .before .before .before) .args in
     let outcome = else2-to-put (c .before .before .before) .before .before .before .before .outcome in
-    let find-day = c .before .before .before .before .before .before .before .before .before .before .before .before .before .before .before .before .before .before .before .before .before .before .before .find-day in
+    let find-day = c .before .before .before .before .before .before .before .before .before .before .before
+    .before .before .before .before .before .before .before .before .before .before .before .before
+    .find-day in
     let found-day = rw (outcome .given .1) at (find-day .ensures) in
     let pre = else2-to-start (c .before .before .before) .pre in
     let w = pre .working in

@@ -280,7 +280,8 @@ move-in-histogram-requires c κs =
     let if4 = queue3-to-else4 (c .before .before) .if4 in
     let slack-above = queue3-to-else4 (c .before .before) .before .slack-above in
     let if3 = queue3-to-else4 (c .before .before) .before .before .before .if3 in
-    let scan-for-rise = c .before .before .before .before .before .before .before .before .before .before .before .before .before .before .before .before .before .before .before .before .scan-for-rise in
+    let scan-for-rise = c .before .before .before .before .before .before .before .before .before .before .before
+    .before .before .before .before .before .before .before .before .before .scan-for-rise in
     let if1 = queue3-to-else1 (c .before .before) .if1 in
     let args = queue3-to-start (c .before .before) .args in
     let pre = queue3-to-start (c .before .before) .pre in
@@ -337,7 +338,9 @@ returns-5 c =
     let if4 = counts-to-put (c .before .before .before .before .before) .before .before .if4 in
     let slack-above = counts-to-put (c .before .before .before .before .before) .before .before .before .slack-above in
     let if3 = queue3-to-else4 (c .before .before .before .before .before .before .before .before .before) .before .before .before .if3 in
-    let scan-for-rise = c .before .before .before .before .before .before .before .before .before .before .before .before .before .before .before .before .before .before .before .before .before .before .before .before .before .before .before .scan-for-rise in
+    let scan-for-rise = c .before .before .before .before .before .before .before .before .before .before .before
+    .before .before .before .before .before .before .before .before .before .before .before
+    .before .before .before .before .before .scan-for-rise in
     let if1 = queue3-to-else1 (c .before .before .before .before .before .before .before .before .before) .if1 in
     let args = counts-to-start (c .before .before .before .before .before) .args in
     let pre = counts-to-start (c .before .before .before .before .before) .pre in

@@ -14,7 +14,9 @@ use Rattle.rings.proofs.choice.lesser.Reads as lesser-reads
 use Rattle.rings.proofs.times.row_time.Reads as row-time-reads
 
 abbrev Inv-loop : tie.InvT-loop
-Inv-loop days first second frame next end times least₀ j₀ least j = (frame .lo ≤ j) × (j ≤ next) × Least (rowTime (tableOf days first second) (frame .query) (frame .stop) (frame .start)) (frame .lo) j least
+Inv-loop days first second frame next end times least₀ j₀ least j =
+    (frame .lo ≤ j) × (j ≤ next)
+    × Least (rowTime (tableOf days first second) (frame .query) (frame .stop) (frame .start)) (frame .lo) j least
 
 abbrev μ-loop : tie.MeasureT-loop
 μ-loop days first second frame next end times least₀ j₀ least j = next - j

@@ -8,7 +8,9 @@ use Rattle.rings.specs.declared.frame.Frame.{Frame}
 use Rattle.rings.specs.declared.supporters.Rise.{Rise}
 use Rattle.rings.proofs.PrunedLaws.{reading-few, reading-stands}
 use Rattle.rings.proofs.CountingLaws.{counted-so, counted-added}
-use Rattle.rings.proofs.CountedDropLaws.{CountedDropping, counted-dropping-start, counted-dropping-out, counted-dropping-stop, counted-dropping-asks, counted-dropping-next, counted-dropping-adds}
+use Rattle.rings.proofs.CountedDropLaws.{CountedDropping, counted-dropping-start, counted-dropping-out}
+use Rattle.rings.proofs.CountedDropLaws.{counted-dropping-stop, counted-dropping-asks, counted-dropping-next}
+use Rattle.rings.proofs.CountedDropLaws.{counted-dropping-adds}
 use borrow.Author.Needs.{needs}
 use Rattle.rings.proofs.supporters.drop_supported.Statement.{statement}
 use Rattle.rings.proofs.supporters.drop_supported.Tie as tie
@@ -27,7 +29,8 @@ record Held (days first second scratch : List ℕ) (frame : Frame) (times : List
     (counting : Bool) (counts₀ : List ℕ) (last : ℕ) (slack queue counts : List ℕ) (p end moved : ℕ) : Type 0 where
   cursor : last ≡ getD scratch (rise .account) 0
   counts-long : length counts ≡ length counts₀
-  counted-dropping : CountedDropping days first second scratch frame times (rise .account) (rise .old) (rise .new) tail slack₀ queue₀ counting counts₀ p end moved slack queue counts
+  counted-dropping : CountedDropping days first second scratch frame times (rise .account) (rise .old)
+      (rise .new) tail slack₀ queue₀ counting counts₀ p end moved slack queue counts
 
 abbrev Inv-loop : tie.InvT-loop
 Inv-loop days first second scratch frame times rise tail slack₀ queue₀ counting counts₀ last until p₀ end₀ moved₀ slack queue counts p end moved =
