@@ -13,7 +13,7 @@ use Prim.Native.Nat.{ℕ, _+_, _*_, _≤_, _<_}
 use mathlib.Core.Path.{_≡_}
 use mathlib.Core.List.{List, map}
 use lib.ListN.{length, getD, take}
-use Rattle.text.specs.Layout.{mostInput}
+use Rattle.text.specs.Layout.{entryBytes, mostRows, mostInput}
 use Rattle.text.specs.Print.{entryLines}
 use Rattle.text.specs.Table.{number, place, count}
 use Rattle.text.specs.declared.table.TableRead.{TableRead}
@@ -22,7 +22,7 @@ use Rattle.rings.specs.Table.{tableOf}
 use Rattle.rings.specs.Ring.{query}
 use Rattle.listing.specs.Listing.{ListedRing}
 use Rattle.listing.specs.ListingCall.{Columns}
-use Rattle.listing.specs.Program.{Outcome, stopped, readerLine, unlessRefused, listed}
+use Rattle.listing.specs.Program.{Outcome, stopped, readerLine, unlessRefused, mostListed, listed}
 use Rattle.listing.specs.ProgramText.{lineOf, listAnswer, listOutput}
 use Rattle.listing.specs.declared.Printed.{Printed}
 use Rattle.listing.specs.declared.program.Asked.{Asked}
@@ -30,9 +30,9 @@ use Rattle.listing.specs.declared.program.Asked.{Asked}
 -- the columns of the program hold as many rows as an input can have
 pub record Readable (text d f s : List ℕ) : Type 0 where
   pub short : length text ≤ mostInput
-  pub days : length d ≡ 1024
-  pub first : length f ≡ 1024
-  pub second : length s ≡ 1024
+  pub days : length d ≡ mostRows
+  pub first : length f ≡ mostRows
+  pub second : length s ≡ mostRows
 
 unfoldable pub askedBy : TableRead → ℕ → ℕ → ℕ → Asked
 askedBy a k lo hi = unlessRefused Asked.Refused (number a) (readerLine (place a)) (Asked.Rows k lo hi (count a))
@@ -46,7 +46,7 @@ asked (Asked.Rows k lo hi n) d f s = listed (tableOf (take n d) (take n f) (take
 asked (Asked.Refused number line) d f s = stopped number line
 
 pub record Asks (o : Outcome) (a : Asked) (d f s : List ℕ) : Type 0 where
-  pub most : rowsOf a ≤ 1024
+  pub most : rowsOf a ≤ mostRows
   pub is : o ≡ asked a d f s
 
 unfoldable pub entryAt : Columns (List ℕ) → ℕ → ListedRing
@@ -59,7 +59,7 @@ unfoldable pub ringLines : List ListedRing → List ℕ
 ringLines ls = entryLines (map lineOf ls)
 
 pub record Rising (c : Columns (List ℕ)) (n : ℕ) : Type 0 where
-  pub most : n ≤ 2048
+  pub most : n ≤ mostListed
   pub in-starts : n ≤ length (c .starts)
   pub in-ends : n ≤ length (c .ends)
   pub in-rows : n ≤ length (c .rows)
@@ -67,7 +67,7 @@ pub record Rising (c : Columns (List ℕ)) (n : ℕ) : Type 0 where
 
 pub record Printable (c : Columns (List ℕ)) (n : ℕ) (output : List ℕ) : Type 0 where
   pub rising : Rising c n
-  pub room : 22 * (n + 1) ≤ length output
+  pub room : entryBytes * (n + 1) ≤ length output
 
 pub record Prints (o : Outcome) (a : Printed) (old now : List ℕ) : Type 0 where
   pub answer : a ≡ listAnswer o (length old)

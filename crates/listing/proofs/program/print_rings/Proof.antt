@@ -6,7 +6,7 @@ use lib.ListN.{replicate}
 use borrow.Author.Needs.{needs}
 use Rattle.rings.specs.Table.{tableOf}
 use Rattle.listing.specs.ListingCall.{each}
-use Rattle.listing.specs.Program.{listed}
+use Rattle.listing.specs.Program.{mostListed, programScratch, listed}
 use Rattle.rings.specs.Ring.{query}
 use Rattle.listing.specs.Program.{found}
 use Rattle.listing.proofs.AnswerLaws.{refused-place, listed-rings, listed-none, rings-are, rings-rise, answer-refused, answer-as}
@@ -50,7 +50,7 @@ write-listing-requires c κs =
     let list-rings = list-rings′ in
     let rings = rings′ in
     rings-rise (tableOf (a .days .now) (a .first .now) (a .second .now)) (query (a .k)) (a .ts) (a .te)
-    (list-rings .ensures .0) (each (replicate 2048 0)) (list-rings .ensures .1 .0) (rings .given .1)
+    (list-rings .ensures .0) (each (replicate mostListed 0)) (list-rings .ensures .1 .0) (rings .given .1)
 
 same-length : tie.Need-same-length
 same-length c = search needs
@@ -73,7 +73,7 @@ returns c =
     sym
     (
     rings-are (tableOf (a .days .now) (a .first .now) (a .second .now)) (query (a .k)) (a .ts) (a .te)
-    (list-rings .ensures .0) (each (replicate 2048 0)) (list-rings .ensures .1 .0) (rings .given .1)
+    (list-rings .ensures .0) (each (replicate mostListed 0)) (list-rings .ensures .1 .0) (rings .given .1)
     )
     )
     ) (write-listing .ensures)
@@ -93,8 +93,8 @@ refused-requires c κs =
     omega (
       arith,
       pre,
-      refused-place (tableOf (a .days .now) (a .first .now) (a .second .now)) (query (a .k)) (a .ts) (a .te) (each 2048)
-          12288 (sym (list-rings .ensures .0) ∙ rings2 .given .1),
+      refused-place (tableOf (a .days .now) (a .first .now) (a .second .now)) (query (a .k)) (a .ts) (a .te) (each mostListed)
+          programScratch (sym (list-rings .ensures .0) ∙ rings2 .given .1),
     )
 
 returns-2 : tie.Need-returns-2
