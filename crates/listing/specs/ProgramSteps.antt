@@ -1,6 +1,6 @@
 -- The listing program step by step: what its functions hand to each other.
 --     Readable text d f s    a text that is not too long, and columns for its rows
---     askedBy t k lo hi  what an input asks for, by what the reader says of its rows
+--     askedBy t q lo hi  what an input asks for, by what the reader says of its rows
 --     rowsOf a           how many rows an input has
 --     asked a d f s      the outcome of what is asked, the rows standing in front of the columns d, f, s
 --     Asks o a d f s     an input of the outcome o asks for a
@@ -19,7 +19,7 @@ use Rattle.text.specs.Table.{number, place, count}
 use Rattle.text.specs.declared.table.TableRead.{TableRead}
 use Rattle.rings.specs.Words.{tabulate}
 use Rattle.rings.specs.Table.{tableOf}
-use Rattle.rings.specs.Ring.{query}
+use Rattle.rings.specs.declared.Query.{Query}
 use Rattle.listing.specs.Listing.{ListedRing}
 use Rattle.listing.specs.ListingCall.{Columns}
 use Rattle.listing.specs.Program.{Outcome, stopped, readerLine, unlessRefused, mostListed, listed}
@@ -34,15 +34,15 @@ pub record Readable (text d f s : List ℕ) : Type 0 where
   pub first : length f ≡ mostRows
   pub second : length s ≡ mostRows
 
-unfoldable pub askedBy : TableRead → ℕ → ℕ → ℕ → Asked
-askedBy a k lo hi = unlessRefused Asked.Refused (number a) (readerLine (place a)) (Asked.Rows k lo hi (count a))
+unfoldable pub askedBy : TableRead → Query → ℕ → ℕ → Asked
+askedBy a q lo hi = unlessRefused Asked.Refused (number a) (readerLine (place a)) (Asked.Rows q lo hi (count a))
 
 unfoldable pub rowsOf : Asked → ℕ
-rowsOf (Asked.Rows k lo hi n) = n
+rowsOf (Asked.Rows q lo hi n) = n
 rowsOf (Asked.Refused number line) = 0
 
 unfoldable pub asked : Asked → List ℕ → List ℕ → List ℕ → Outcome
-asked (Asked.Rows k lo hi n) d f s = listed (tableOf (take n d) (take n f) (take n s)) (query k) lo hi
+asked (Asked.Rows q lo hi n) d f s = listed (tableOf (take n d) (take n f) (take n s)) q lo hi
 asked (Asked.Refused number line) d f s = stopped number line
 
 pub record Asks (o : Outcome) (a : Asked) (d f s : List ℕ) : Type 0 where

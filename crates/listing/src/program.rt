@@ -3,7 +3,6 @@ ghost use mathlib.Core.Path.{_≡_};
 ghost use Prim.Native.Nat.{_≤_};
 ghost use lib.ListN.{length};
 ghost use Rattle.rings.specs.Refusals.{placeNumber, placeOf};
-ghost use Rattle.rings.specs.Ring.{query};
 ghost use Rattle.rings.specs.Table.{tableOf as columns};
 ghost use Rattle.text.specs.Layout.{entryBytes, mostRows, mostInput};
 ghost use Rattle.text.specs.Line.{queryNumber, queryPlace};
@@ -45,7 +44,7 @@ pub const MOST_OUTPUT: usize = ENTRY_BYTES * (MOST_LISTED + 1);
 // What an input asks for: the listing of a query over so many rows, or nothing, by a refusal.
 pub enum Asked {
     Rows {
-        k: u16,
+        query: Query,
         ts: u16,
         te: u16,
         count: usize,
@@ -94,15 +93,20 @@ fn reader_line(line: usize) -> usize
 }
 
 // What the reader's answer comes to.
-fn asked_by(read: TableRead, k: u16, ts: u16, te: u16) -> Asked
+fn asked_by(read: TableRead, query: Query, ts: u16, te: u16) -> Asked
     requires { ⌜ place read ≤ mostInput ⌝ }
-    ensures { λ r. ⌜ r ≡ askedBy read k ts te ⌝ }
+    ensures { λ r. ⌜ r ≡ askedBy read query ts te ⌝ }
 {
     let told = report_table(read);
     let number = told.number;
     let count = told.count;
     if number == 0 {
-        return Asked::Rows { k, ts, te, count };
+        return Asked::Rows {
+            query,
+            ts,
+            te,
+            count,
+        };
     }
     let line = reader_line(told.place);
     Asked::Refused { number, line }
@@ -122,7 +126,7 @@ fn bad_query(line: QueryRead) -> Asked
 // The rows behind the query line, into columns that hold as many as an input can have.
 fn read_rows(
     text: &[u8],
-    k: u16,
+    query: Query,
     ts: u16,
     te: u16,
     days: &mut [u16],
@@ -132,11 +136,11 @@ fn read_rows(
     requires { ⌜ Readable (now text) (now days) (now first) (now second) ⌝ }
     ensures { λ r. ⌜ (
         let rows = now (text .entry) in
-        let o = fromRows (tableReadOf rows mostRows mostRows mostRows) (tableOf rows) (query k) ts te in
+        let o = fromRows (tableReadOf rows mostRows mostRows mostRows) (tableOf rows) query ts te in
         Asks o r (now (days .exit)) (now (first .exit)) (now (second .exit))) ⌝ }
 {
     let read = read_table(text, days, first, second);
-    asked_by(read, k, ts, te)
+    asked_by(read, query, ts, te)
 }
 
 // The query line, then the rows.
@@ -147,7 +151,15 @@ fn read_input(input: &[u8], days: &mut [u16], first: &mut [u16], second: &mut [u
     let line = read_query(input);
     match line {
         QueryRead::Query(k, ts, te) => {
-            return read_rows(&input[QUERY_BYTES..], k, ts, te, days, first, second);
+            return read_rows(
+                &input[QUERY_BYTES..],
+                Query { k },
+                ts,
+                te,
+                days,
+                first,
+                second,
+            );
         }
         QueryRead::BadLine => {
             return bad_query(line);
@@ -206,14 +218,14 @@ fn print_rings(
     days: &[u16],
     first: &[u16],
     second: &[u16],
-    k: u16,
+    query: Query,
     ts: u16,
     te: u16,
     output: &mut [u8],
 ) -> Printed
     requires { ⌜ length (now days) ≤ mostRows ⌝ }
     ensures { λ r. ⌜ (
-        let o = listed (columns (now (days .entry)) (now (first .entry)) (now (second .entry))) (query k) ts te in
+        let o = listed (columns (now (days .entry)) (now (first .entry)) (now (second .entry))) query ts te in
         Prints o r (now (output .entry)) (now (output .exit))) ⌝ }
 {
     let mut starts = [0u16; MOST_LISTED];
@@ -224,7 +236,7 @@ fn print_rings(
         days,
         first,
         second,
-        Query { k },
+        query,
         ts,
         te,
         &mut starts,
@@ -258,12 +270,17 @@ pub fn list_text(input: &[u8], output: &mut [u8]) -> Printed
         Asked::Refused { number, line } => {
             return Printed::Refused { number, line };
         }
-        Asked::Rows { k, ts, te, count } => {
+        Asked::Rows {
+            query,
+            ts,
+            te,
+            count,
+        } => {
             return print_rings(
                 &days[..count],
                 &first[..count],
                 &second[..count],
-                k,
+                query,
                 ts,
                 te,
                 output,

@@ -6,9 +6,7 @@ use lib.ListN.{replicate}
 use borrow.Author.Needs.{needs}
 use Rattle.rings.specs.Table.{tableOf}
 use Rattle.listing.specs.ListingCall.{each}
-use Rattle.listing.specs.Program.{mostListed, programScratch, listed}
-use Rattle.rings.specs.Ring.{query}
-use Rattle.listing.specs.Program.{found}
+use Rattle.listing.specs.Program.{found, mostListed, programScratch, listed}
 use Rattle.listing.proofs.AnswerLaws.{refused-place, listed-rings, listed-none, rings-are, rings-rise, answer-refused, answer-as}
 use Rattle.listing.proofs.program.print_rings.Statement.{statement}
 use Rattle.listing.proofs.program.print_rings.Tie as tie
@@ -49,7 +47,7 @@ write-listing-requires c κs =
     let a = args in
     let list-rings = list-rings′ in
     let rings = rings′ in
-    rings-rise (tableOf (a .days .now) (a .first .now) (a .second .now)) (query (a .k)) (a .ts) (a .te)
+    rings-rise (tableOf (a .days .now) (a .first .now) (a .second .now)) (a .query) (a .ts) (a .te)
     (list-rings .ensures .0) (each (replicate mostListed 0)) (list-rings .ensures .1 .0) (rings .given .1)
 
 same-length : tie.Need-same-length
@@ -67,12 +65,12 @@ returns c =
     let rings = rings′ in
     answer-as
     (
-    listed-rings (tableOf (a .days .now) (a .first .now) (a .second .now)) (query (a .k)) (a .ts) (a .te)
+    listed-rings (tableOf (a .days .now) (a .first .now) (a .second .now)) (a .query) (a .ts) (a .te)
     (list-rings .ensures .0) (rings .given .1) ∙ ap found
     (
     sym
     (
-    rings-are (tableOf (a .days .now) (a .first .now) (a .second .now)) (query (a .k)) (a .ts) (a .te)
+    rings-are (tableOf (a .days .now) (a .first .now) (a .second .now)) (a .query) (a .ts) (a .te)
     (list-rings .ensures .0) (each (replicate mostListed 0)) (list-rings .ensures .1 .0) (rings .given .1)
     )
     )
@@ -93,7 +91,7 @@ refused-requires c κs =
     omega (
       arith,
       pre,
-      refused-place (tableOf (a .days .now) (a .first .now) (a .second .now)) (query (a .k)) (a .ts) (a .te) (each mostListed)
+      refused-place (tableOf (a .days .now) (a .first .now) (a .second .now)) (a .query) (a .ts) (a .te) (each mostListed)
           programScratch (sym (list-rings .ensures .0) ∙ rings2 .given .1),
     )
 
@@ -106,10 +104,10 @@ returns-2 c =
     let a = args in
     let rings2 = rings2′ in
     let list-rings = list-rings′ in
-    answer-refused (listed (tableOf (a .days .now) (a .first .now) (a .second .now)) (query (a .k)) (a .ts) (a .te))
+    answer-refused (listed (tableOf (a .days .now) (a .first .now) (a .second .now)) (a .query) (a .ts) (a .te))
     (a .output .now) (rings2 .given .0 .0)
     (
-    listed-none (tableOf (a .days .now) (a .first .now) (a .second .now)) (query (a .k)) (a .ts) (a .te)
+    listed-none (tableOf (a .days .now) (a .first .now) (a .second .now)) (a .query) (a .ts) (a .te)
     (list-rings .ensures .0) (rings2 .given .1)
     ) (c .refused .ensures)
 
