@@ -83,7 +83,12 @@ put-wrote out at bytes {r} h e q =
 module _ (c : Columns (List ℕ)) where
   pub print-start : (old : List ℕ) → Printing c old old entryBytes 0
   unfolding entriesAt tabulate ringLines entryLines pasted
-  print-start old = record { next = refl; long = refl; is = sym (ap (λ (l : List ℕ). l ++ drop entryBytes old) (append-nil (take entryBytes old)) ∙ take-append-drop entryBytes old) }
+  print-start old =
+      record {
+        next = refl;
+        long = refl;
+        is = sym (ap (λ (l : List ℕ). l ++ drop entryBytes old) (append-nil (take entryBytes old)) ∙ take-append-drop entryBytes old);
+      }
 
   pub print-next : {old now now′ : List ℕ} {at i n : ℕ} {r : Put} → Printing c old now at i → i < n → entryBytes * (n + 1) ≤ length old
       → r ≡ putOf now at (line (entryAt c i)) → now′ ≡ written r now at (line (entryAt c i))
@@ -118,7 +123,10 @@ module _ (c : Columns (List ℕ)) where
       listing-length (map lineOf (entriesAt c n))
       ∙ omega (arith, length-map (entriesAt c n) lineOf, entries-length c n)
 
-  pub text-none : (output : List ℕ) (n : ℕ) {a : Printed} → length output < entryBytes * (n + 1) → a ≡ refusedOf NoRoom → Prints (found (entriesAt c n)) a output output
+  pub text-none : (output : List ℕ) (n : ℕ) {a : Printed}
+      → length output < entryBytes * (n + 1)
+      → a ≡ refusedOf NoRoom
+      → Prints (found (entriesAt c n)) a output output
   unfolding listAnswer listOutput fitted refusedOf
   text-none output n h e = rw e (record { answer = rw (text-size n, lt-leb (entryBytes * (n + 1)) (length output) h); output = refl })
 
@@ -131,7 +139,10 @@ module _ (c : Columns (List ℕ)) where
       let a : o₁ ≡ pasted output 0 header = put-wrote output 0 header (omega arith) e q in
       let b : o₂ ≡ pasted output 0 (listText es) =
       w ∙ ap (λ (x : List ℕ). pasted x entryBytes (ringLines es)) a ∙ pasted-pasted output 0 header (ringLines es) (omega arith) in
-      record { answer = rw (text-size n, le-leb (entryBytes * (n + 1)) (length output) h); output = b ∙ pasted-start output (listText es) (length (listText es)) refl }
+      record {
+        answer = rw (text-size n, le-leb (entryBytes * (n + 1)) (length output) h);
+        output = b ∙ pasted-start output (listText es) (length (listText es)) refl;
+      }
 
 -- ---- the columns that Listing wrote
 

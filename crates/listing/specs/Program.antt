@@ -78,7 +78,7 @@ fromList (Listed.Refused r) ls = stoppedBy r
 abbrev pub mostListed : ℕ
 mostListed = 2048
 
--- what 9 asks for with as many rows as an input can have: 12,288
+-- what 9 asks for (rings: Checks.scratchCheck) with as many rows as an input can have: 12,288
 abbrev pub programScratch : ℕ
 programScratch = 8192 + 4 * mostRows
 

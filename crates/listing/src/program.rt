@@ -32,9 +32,9 @@ use text::read_table;
 use text::report_query;
 use text::report_table;
 
-// The program's columns hold the listing of 2,048 rings, its scratch is enough for 1,024 rows, and the text of 2,048
-// rings is 45,078 bytes. The definitions are mostListed, programScratch (specs/Program.antt) and mostOutput
-// (specs/ProgramText.antt).
+// The program's columns hold the listing of 2,048 rings. Its scratch is what rings asks for with 1,024 rows (9). The
+// text of 2,048 rings is 45,078 bytes. The definitions are mostListed, programScratch (specs/Program.antt) and
+// mostOutput (specs/ProgramText.antt).
 const MOST_LISTED: usize = 2048;
 
 const SCRATCH: usize = 8192 + 4 * MOST_ROWS;

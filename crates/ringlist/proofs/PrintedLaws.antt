@@ -33,7 +33,8 @@ prints-refused out n line {r} {now} l e w =
     let fits : 0 + length (refusedLine n line) ≤ length out = omega arith in
     let is = put-wrote out 0 (refusedLine n line) fits e w in (
       counts refusedBytes now (omega (arith, ap length is, pasted-length out 0 (refusedLine n line) fits)),
-      ap (take refusedBytes) (is ∙ pasted-start out (refusedLine n line) refusedBytes size) ∙ take-at (refusedLine n line) (drop refusedBytes out) refusedBytes size,
+      ap (take refusedBytes) (is ∙ pasted-start out (refusedLine n line) refusedBytes size)
+          ∙ take-at (refusedLine n line) (drop refusedBytes out) refusedBytes size,
     )
 
 pub prints-found : (input : List ℕ) {n : ℕ} {now : List ℕ} → TextAnswer (outcome input) n now → Counts n now × (take n now ≡ programText input)
