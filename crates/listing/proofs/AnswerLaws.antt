@@ -29,7 +29,7 @@ use Rattle.rings.specs.declared.refusal.Verdict.the-variants.{Accepted, Refused
 use Rattle.rings.proofs.CheckLaws.{accepted-right, when-accepted}
 use Rattle.listing.specs.Listing.{ListedRing, listing}
 use Rattle.listing.specs.ListingCall.{Columns, each, withEntries, listingChecks, summed, listingAnswer, listingColumns}
-use Rattle.listing.specs.Program.{Outcome, found, stopped, placeLine, inputLine, stoppedBy, fromList, listed}
+use Rattle.listing.specs.Program.{Outcome, found, stopped, placeLine, inputLine, stoppedBy, fromList, mostListed, programScratch, listed}
 use Rattle.listing.specs.ProgramText.{refusedOf, listAnswer, listOutput}
 use Rattle.listing.specs.ProgramSteps.{entriesAt, Rising, Prints}
 use Rattle.listing.specs.declared.Listed.{Listed}
@@ -153,7 +153,7 @@ unfolding over
 column-long part ls old c =
     omega (arith, length-append (map part ls) (drop (length (map part ls)) old), length-map ls part)
 
-module _ (t : Table) (q : Query) (lo hi : ℕ) {r : Listed} (is : r ≡ listingAnswer t q lo hi (each 2048) 12288) where
+module _ (t : Table) (q : Query) (lo hi : ℕ) {r : Listed} (is : r ≡ listingAnswer t q lo hi (each mostListed) programScratch) where
   pub listed-rings : {n sum : ℕ} → r ≡ Listed.Rings n sum → listed t q lo hi ≡ found (listing t q lo hi)
   unfolding listed fromList
   listed-rings e = ap (λ (x : Listed). fromList x (listing t q lo hi)) (sym is ∙ e)
@@ -162,15 +162,15 @@ module _ (t : Table) (q : Query) (lo hi : ℕ) {r : Listed} (is : r ≡ listingA
   unfolding listed fromList
   listed-none e = ap (λ (x : Listed). fromList x (listing t q lo hi)) (sym is ∙ e)
 
-  behind : {n sum : ℕ} → r ≡ Listed.Rings n sum → Summed (listingChecks t q lo hi (each 2048) 12288) (listing t q lo hi) n
+  behind : {n sum : ℕ} → r ≡ Listed.Rings n sum → Summed (listingChecks t q lo hi (each mostListed) programScratch) (listing t q lo hi) n
   unfolding listingAnswer
-  behind e = summed-rings (listingChecks t q lo hi (each 2048) 12288) (listing t q lo hi) (sym is ∙ e)
+  behind e = summed-rings (listingChecks t q lo hi (each mostListed) programScratch) (listing t q lo hi) (sym is ∙ e)
 
   pub rings-count : {n sum : ℕ} → r ≡ Listed.Rings n sum → n ≡ length (listing t q lo hi)
   rings-count e = behind e .counts
 
-  pub rings-most : {n sum : ℕ} → r ≡ Listed.Rings n sum → n ≤ 2048
-  rings-most e = omega (arith, behind e .counts, rings-room t q lo hi (each 2048) 12288 (behind e .accepted))
+  pub rings-most : {n sum : ℕ} → r ≡ Listed.Rings n sum → n ≤ mostListed
+  rings-most e = omega (arith, behind e .counts, rings-room t q lo hi (each mostListed) programScratch (behind e .accepted))
 
   module _ (old : Columns (List ℕ)) {c : Columns (List ℕ)} (w : c ≡ listingColumns r t q lo hi old) {n sum : ℕ} (e : r ≡ Listed.Rings n sum) where
     columns : c ≡ withEntries (listing t q lo hi) old

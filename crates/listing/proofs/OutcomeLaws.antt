@@ -12,7 +12,7 @@ use lib.ListN.{length, take, drop, length-append, length-map, length-drop}
 use lib.Seq.{take-at}
 use lib.Dec.{leb, ltb}
 use borrow.Author.Tests.{ltb-false, le-leb}
-use Rattle.text.specs.Layout.{queryBytes, mostInput}
+use Rattle.text.specs.Layout.{queryBytes, entryBytes, mostRows, mostInput}
 use Rattle.text.specs.Line.{linesOf, rowOf, queryOf}
 use Rattle.text.specs.Table.{dayOf, daysOf, tableReadOf, place}
 use Rattle.text.specs.Print.{refusedLine}
@@ -31,8 +31,8 @@ use Rattle.rings.specs.declared.refusal.Refusal.the-variants.{BadRange, BadLeng
 use Rattle.listing.specs.Listing.{ListedRing, listing}
 use Rattle.listing.specs.ListingCall.{each, listingAnswer}
 use Rattle.listing.specs.Program.{Outcome, found, stopped, placeLine, inputLine, stoppedBy, unlessRefused, tableOf}
-use Rattle.listing.specs.Program.{fromList, listed, fromRows, badQuery, fromQuery, unlessLong, outcome}
-use Rattle.listing.specs.ProgramText.{lineOf, listText, outcomeText, fitted, listAnswer, listOutput}
+use Rattle.listing.specs.Program.{fromList, mostListed, programScratch, listed, fromRows, badQuery, fromQuery, unlessLong, outcome}
+use Rattle.listing.specs.ProgramText.{lineOf, listText, outcomeText, mostOutput, fitted, listAnswer, listOutput}
 use Rattle.listing.specs.declared.Listed.{Listed}
 use Rattle.listing.specs.declared.Printed.{Printed}
 use Rattle.listing.proofs.ReadingLaws.{lines-most, place-lines, reader-most}
@@ -51,7 +51,7 @@ lineIn (found ls) = 0
 lineIn (stopped n line) = line
 
 pub record Bounded (o : Outcome) : Type 0 where
-  pub rings : ringsIn o ≤ 2048
+  pub rings : ringsIn o ≤ mostListed
   pub number : numberIn o ≤ 14
   pub line : lineIn o ≤ mostInput + 2
 
@@ -83,34 +83,34 @@ unfolding inputLine placeOf
 line-most r = place-most (ruleOf r .place)
 
 by-list : (t : Table) (q : Query) (lo hi : ℕ) (a : Listed)
-    → listingAnswer t q lo hi (each 2048) 12288 ≡ a
+    → listingAnswer t q lo hi (each mostListed) programScratch ≡ a
     → size t ≤ mostInput
     → Bounded (fromList a (listing t q lo hi))
 unfolding fromList stoppedBy ringsIn numberIn lineIn
 by-list t q lo hi (Listed.Rings n sum) e h =
     record { rings = omega (arith, rings-count t q lo hi (sym e) refl, rings-most t q lo hi (sym e) refl); number = omega arith; line = omega arith }
 by-list t q lo hi (Listed.Refused r) e h =
-    stops (numberOf r) (inputLine r) (number-most r) (omega (arith, line-most r, refused-place t q lo hi (each 2048) 12288 e))
+    stops (numberOf r) (inputLine r) (number-most r) (omega (arith, line-most r, refused-place t q lo hi (each mostListed) programScratch e))
 
 rows-most : (text : List ℕ) → size (tableOf text) ≤ length text
 unfolding tableOf daysOf
 rows-most text = omega (arith, lines-most text, length-map (linesOf text) (λ (l : List ℕ). dayOf (rowOf l)))
 
 by-rows : (text : List ℕ) (q : Query) (lo hi : ℕ) (r : TableRead)
-    → r ≡ tableReadOf text 1024 1024 1024
+    → r ≡ tableReadOf text mostRows mostRows mostRows
     → length text ≤ mostInput
     → Bounded (fromRows r (tableOf text) q lo hi)
 unfolding fromRows unlessRefused listed
 by-rows text q lo hi (TableRead.Rows n) e h =
-    by-list (tableOf text) q lo hi (listingAnswer (tableOf text) q lo hi (each 2048) 12288) refl (omega (arith, rows-most text))
-by-rows text q lo hi (TableRead.BadLine n) e h = stops _ _ (omega arith) (omega (arith, reader-most n, place-lines text 1024 1024 1024 e))
-by-rows text q lo hi (TableRead.BadField n) e h = stops _ _ (omega arith) (omega (arith, reader-most n, place-lines text 1024 1024 1024 e))
-by-rows text q lo hi (TableRead.BadNumber n) e h = stops _ _ (omega arith) (omega (arith, reader-most n, place-lines text 1024 1024 1024 e))
+    by-list (tableOf text) q lo hi (listingAnswer (tableOf text) q lo hi (each mostListed) programScratch) refl (omega (arith, rows-most text))
+by-rows text q lo hi (TableRead.BadLine n) e h = stops _ _ (omega arith) (omega (arith, reader-most n, place-lines text mostRows mostRows mostRows e))
+by-rows text q lo hi (TableRead.BadField n) e h = stops _ _ (omega arith) (omega (arith, reader-most n, place-lines text mostRows mostRows mostRows e))
+by-rows text q lo hi (TableRead.BadNumber n) e h = stops _ _ (omega arith) (omega (arith, reader-most n, place-lines text mostRows mostRows mostRows e))
 by-rows text q lo hi TableRead.NoRoom e h = stops _ _ (omega arith) (omega (arith, reader-most 0))
 
 by-query : (q : QueryRead) (text : List ℕ) → length text ≤ mostInput → Bounded (fromQuery q text)
 unfolding fromQuery badQuery
-by-query (QueryRead.Query k lo hi) text h = by-rows text (record { k = k }) lo hi (tableReadOf text 1024 1024 1024) refl h
+by-query (QueryRead.Query k lo hi) text h = by-rows text (record { k = k }) lo hi (tableReadOf text mostRows mostRows mostRows) refl h
 by-query QueryRead.BadLine text h = stops _ _ (omega arith) (omega arith)
 by-query QueryRead.BadField text h = stops _ _ (omega arith) (omega arith)
 by-query QueryRead.BadNumber text h = stops _ _ (omega arith) (omega arith)
@@ -126,11 +126,11 @@ bounded input = by-length input (ltb mostInput (length input)) refl
 
 -- ---- an output that holds every text
 
-text-length : (ls : List ListedRing) → length (listText ls) ≡ 22 * (length ls + 1)
+text-length : (ls : List ListedRing) → length (listText ls) ≡ entryBytes * (length ls + 1)
 unfolding listText
 text-length ls = listing-length (map lineOf ls) ∙ omega (arith, length-map ls lineOf)
 
-fits : (ls : List ListedRing) → Bounded (found ls) → length (listText ls) ≤ 45078
+fits : (ls : List ListedRing) → Bounded (found ls) → length (listText ls) ≤ mostOutput
 unfolding ringsIn
 fits ls b = omega (arith, text-length ls, b .rings)
 
@@ -147,7 +147,7 @@ pub record RefusedAnswer (o : Outcome) (n line : ℕ) (old now : List ℕ) : Typ
 text-by : (o : Outcome)
     → Bounded o
     → (old : List ℕ) {n : ℕ} {now : List ℕ}
-    → length old ≡ 45078
+    → length old ≡ mostOutput
     → Printed.Text n ≡ listAnswer o (length old)
     → now ≡ listOutput (Printed.Text n) o old
     → TextAnswer o n now
@@ -165,7 +165,7 @@ text-by (stopped k line) b old l e w = let z : _≡_ {A = ℕ} 0 1 = cc in absur
 refused-by : (o : Outcome)
     → Bounded o
     → (old : List ℕ) {n line : ℕ} {now : List ℕ}
-    → length old ≡ 45078
+    → length old ≡ mostOutput
     → Printed.Refused n line ≡ listAnswer o (length old)
     → now ≡ listOutput (Printed.Refused n line) o old
     → RefusedAnswer o n line old now
@@ -180,7 +180,7 @@ refused-by (stopped k at) b old {n} {line} l e w =
     record { number = omega (arith, b .number); place = omega (arith, b .line); kept = w; is = λ i. refusedLine (p i) (q i) }
 
 -- by the answer a of the list call
-module _ (input old : List ℕ) {a : Printed} {now : List ℕ} (l : length old ≡ 45078)
+module _ (input old : List ℕ) {a : Printed} {now : List ℕ} (l : length old ≡ mostOutput)
     (e : a ≡ listAnswer (outcome input) (length old)) (w : now ≡ listOutput a (outcome input) old) where
   pub text-answer : {n : ℕ} → a ≡ Printed.Text n → TextAnswer (outcome input) n now
   text-answer q = text-by (outcome input) (bounded input) old l (sym q ∙ e) (w ∙ ap (λ (x : Printed). listOutput x (outcome input) old) q)

@@ -12,6 +12,7 @@ use native.Mathlib.Numerals.{add-one}
 use native.Mathlib.Omega.{arith}
 use lib.ListN.{length, getD, take, drop, take-append-drop, length-append, length-map, List·getD-append, List·getD-map}
 use borrow.Author.Tests.{le-leb, lt-leb}
+use Rattle.text.specs.Layout.{entryBytes}
 use Rattle.text.specs.Print.{header, listingLine, entryLines, listingText, pasted, putOf, written}
 use Rattle.text.specs.declared.print.Put.{Put}
 use Rattle.text.proofs.Tests.{pick-true}
@@ -45,7 +46,7 @@ unfolding ringLines entryLines lineOf
 lines-more [] x = append-nil (line x)
 lines-more (l ∷ ls) x = ap (λ (t : List ℕ). line l ++ t) (lines-more ls x) ∙ sym (append-assoc (line l) (ringLines ls) (line x))
 
-lines-length : (ls : List ListedRing) → length (ringLines ls) ≡ 22 * length ls
+lines-length : (ls : List ListedRing) → length (ringLines ls) ≡ entryBytes * length ls
 unfolding ringLines entryLines lineOf
 lines-length [] = refl
 lines-length (x ∷ ls) =
@@ -66,9 +67,9 @@ module _ (c : Columns (List ℕ)) where
 
 -- the first i lines stand behind the header
 pub record Printing (c : Columns (List ℕ)) (old now : List ℕ) (at i : ℕ) : Type 0 where
-  pub next : at ≡ 22 * (i + 1)
+  pub next : at ≡ entryBytes * (i + 1)
   pub long : length now ≡ length old
-  pub is : now ≡ pasted old 22 (ringLines (entriesAt c i))
+  pub is : now ≡ pasted old entryBytes (ringLines (entriesAt c i))
 
 pub put-wrote : (out : List ℕ) (at : ℕ) (bytes : List ℕ) {r : Put} {now : List ℕ}
     → at + length bytes ≤ length out
@@ -80,57 +81,68 @@ put-wrote out at bytes {r} h e q =
     q ∙ ap (λ (p : Put). written p out at bytes) (e ∙ pick-true _ _ _ (le-leb (at + length bytes) (length out) h))
 
 module _ (c : Columns (List ℕ)) where
-  pub print-start : (old : List ℕ) → Printing c old old 22 0
+  pub print-start : (old : List ℕ) → Printing c old old entryBytes 0
   unfolding entriesAt tabulate ringLines entryLines pasted
-  print-start old = record { next = refl; long = refl; is = sym (ap (λ (l : List ℕ). l ++ drop 22 old) (append-nil (take 22 old)) ∙ take-append-drop 22 old) }
+  print-start old =
+      record {
+        next = refl;
+        long = refl;
+        is = sym (ap (λ (l : List ℕ). l ++ drop entryBytes old) (append-nil (take entryBytes old)) ∙ take-append-drop entryBytes old);
+      }
 
-  pub print-next : {old now now′ : List ℕ} {at i n : ℕ} {r : Put} → Printing c old now at i → i < n → 22 * (n + 1) ≤ length old
+  pub print-next : {old now now′ : List ℕ} {at i n : ℕ} {r : Put} → Printing c old now at i → i < n → entryBytes * (n + 1) ≤ length old
       → r ≡ putOf now at (line (entryAt c i)) → now′ ≡ written r now at (line (entryAt c i))
-      → Printing c old now′ (at + 22) (i + 1)
+      → Printing c old now′ (at + entryBytes) (i + 1)
   print-next {old} {now} {now′} {at} {i} {n} p h room e q =
       let x = entryAt c i in
       let es = entriesAt c i in
-      let one : length (line x) ≡ 22 = line-length (x .start) (x .end) (span x) (x .rows) in
-      let all : length (ringLines es) ≡ 22 * i = lines-length es ∙ ap (λ (k : ℕ). 22 * k) (entries-length c i) in
+      let one : length (line x) ≡ entryBytes = line-length (x .start) (x .end) (span x) (x .rows) in
+      let all : length (ringLines es) ≡ entryBytes * i = lines-length es ∙ ap (λ (k : ℕ). entryBytes * k) (entries-length c i) in
       let fits : at + length (line x) ≤ length now = omega (arith, p .next, p .long) in
       let w : now′ ≡ pasted now at (line x) = put-wrote now at (line x) fits e q in
-      let place : at ≡ 22 + length (ringLines es) = omega (arith, p .next) in
+      let place : at ≡ entryBytes + length (ringLines es) = omega (arith, p .next) in
       record {
         next = omega (arith, p .next);
         long = ap length w ∙ pasted-length now at (line x) fits ∙ p .long;
         is =
             w
             ∙ ap (λ (b : List ℕ). pasted b at (line x)) (p .is)
-            ∙ ap (λ (k : ℕ). pasted (pasted old 22 (ringLines es)) k (line x)) place
-            ∙ pasted-pasted old 22 (ringLines es) (line x) (omega arith)
-            ∙ ap (pasted old 22) (sym (lines-next c i));
+            ∙ ap (λ (k : ℕ). pasted (pasted old entryBytes (ringLines es)) k (line x)) place
+            ∙ pasted-pasted old entryBytes (ringLines es) (line x) (omega arith)
+            ∙ ap (pasted old entryBytes) (sym (lines-next c i));
       }
 
-  pub print-end : {old now : List ℕ} {at i n : ℕ} → Printing c old now at i → i ≤ n → n ≤ i → now ≡ pasted old 22 (ringLines (entriesAt c n))
-  print-end {old} {now} {at} {i} {n} p a b = let e : i ≡ n = omega arith in subst (λ (k : ℕ). now ≡ pasted old 22 (ringLines (entriesAt c k))) e (p .is)
+  pub print-end : {old now : List ℕ} {at i n : ℕ} → Printing c old now at i → i ≤ n → n ≤ i → now ≡ pasted old entryBytes (ringLines (entriesAt c n))
+  print-end {old} {now} {at} {i} {n} p a b = let e : i ≡ n = omega arith in subst (λ (k : ℕ). now ≡ pasted old entryBytes (ringLines (entriesAt c k))) e (p .is)
 
   -- ---- the text
 
-  text-size : (n : ℕ) → length (listText (entriesAt c n)) ≡ 22 * (n + 1)
+  text-size : (n : ℕ) → length (listText (entriesAt c n)) ≡ entryBytes * (n + 1)
   unfolding listText
   text-size n =
       listing-length (map lineOf (entriesAt c n))
       ∙ omega (arith, length-map (entriesAt c n) lineOf, entries-length c n)
 
-  pub text-none : (output : List ℕ) (n : ℕ) {a : Printed} → length output < 22 * (n + 1) → a ≡ refusedOf NoRoom → Prints (found (entriesAt c n)) a output output
+  pub text-none : (output : List ℕ) (n : ℕ) {a : Printed}
+      → length output < entryBytes * (n + 1)
+      → a ≡ refusedOf NoRoom
+      → Prints (found (entriesAt c n)) a output output
   unfolding listAnswer listOutput fitted refusedOf
-  text-none output n h e = rw e (record { answer = rw (text-size n, lt-leb (22 * (n + 1)) (length output) h); output = refl })
+  text-none output n h e = rw e (record { answer = rw (text-size n, lt-leb (entryBytes * (n + 1)) (length output) h); output = refl })
 
-  pub text-done : (output : List ℕ) (n : ℕ) {r : Put} {o₁ o₂ : List ℕ} → 22 * (n + 1) ≤ length output
-      → r ≡ putOf output 0 header → o₁ ≡ written r output 0 header → o₂ ≡ pasted o₁ 22 (ringLines (entriesAt c n))
-      → Prints (found (entriesAt c n)) (Printed.Text (22 * (n + 1))) output o₂
+  pub text-done : (output : List ℕ) (n : ℕ) {r : Put} {o₁ o₂ : List ℕ} → entryBytes * (n + 1) ≤ length output
+      → r ≡ putOf output 0 header → o₁ ≡ written r output 0 header → o₂ ≡ pasted o₁ entryBytes (ringLines (entriesAt c n))
+      → Prints (found (entriesAt c n)) (Printed.Text (entryBytes * (n + 1))) output o₂
   unfolding listAnswer listOutput fitted outcomeText over listText listingText ringLines
   text-done output n {r} {o₁} {o₂} h e q w =
       let es = entriesAt c n in
       let a : o₁ ≡ pasted output 0 header = put-wrote output 0 header (omega arith) e q in
       let b : o₂ ≡ pasted output 0 (listText es) =
-      w ∙ ap (λ (x : List ℕ). pasted x 22 (ringLines es)) a ∙ pasted-pasted output 0 header (ringLines es) (omega arith) in
-      record { answer = rw (text-size n, le-leb (22 * (n + 1)) (length output) h); output = b ∙ pasted-start output (listText es) (length (listText es)) refl }
+      w ∙ ap (λ (x : List ℕ). pasted x entryBytes (ringLines es)) a ∙ pasted-pasted output 0 header (ringLines es) (omega arith) in
+      record {
+        answer = rw (text-size n, le-leb (entryBytes * (n + 1)) (length output) h);
+        output = b ∙ pasted-start output (listText es) (length (listText es)) refl;
+      }
 
 -- ---- the columns that Listing wrote
 

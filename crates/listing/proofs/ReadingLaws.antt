@@ -19,7 +19,7 @@ use lib.ListN.{length, take, drop, length-take, length-drop}
 use lib.Seq.{take-at, take-length}
 use lib.Dec.{leb, eqb}
 use borrow.Author.Tests.{leb-true, lt-ltb, le-ltb}
-use Rattle.text.specs.Layout.{queryLayout, queryBytes, mostInput}
+use Rattle.text.specs.Layout.{queryLayout, queryBytes, mostRows, mostInput}
 use Rattle.text.specs.Line.{prepend, linesOf, firstLine, isWhole, rowOf, queryFrom, queryOf, queryNumber, queryPlace}
 use Rattle.text.specs.Report.{tableReport}
 use Rattle.text.specs.Table.{dayOf, firstOf, secondOf, daysOf, firstsOf, secondsOf, faultOr, judgedFrom, roomFor, tableReadOf, filled, place}
@@ -31,10 +31,11 @@ use Rattle.text.proofs.Tests.{true-or-false}
 use Rattle.text.proofs.LineLaws.{step-none, step-short, whole-fits}
 use Rattle.text.proofs.RowsLaws.{column-length}
 use Rattle.rings.specs.Table.{tableOf as columns}
+use Rattle.rings.specs.Ring.{query}
+use Rattle.rings.specs.declared.Query.{Query}
 use Rattle.rings.specs.declared.refusal.Refusal.the-variants.{TooLarge}
 use Rattle.listing.specs.Program.{Outcome, stopped, readerLine, stoppedBy, unlessRefused, tableOf}
 use Rattle.listing.specs.Program.{listed, fromRows, badQuery, fromQuery, unlessLong, outcome}
-use Rattle.rings.specs.Ring.{query}
 use Rattle.listing.specs.ProgramSteps.{Readable, askedBy, rowsOf, asked, Asks}
 use Rattle.listing.specs.declared.program.Asked.{Asked}
 
@@ -112,20 +113,20 @@ unfolding unlessRefused
 unless-some f zero line x h = absurd (h refl)
 unless-some f (suc n) line x h = refl
 
-module _ (read : TableRead) (k lo hi : ℕ) {told : Report} (e : told ≡ tableReport read) where
-  pub told-rows : told .number ≡ 0 → Asked.Rows k lo hi (told .count) ≡ askedBy read k lo hi
+module _ (read : TableRead) (q : Query) (lo hi : ℕ) {told : Report} (e : told ≡ tableReport read) where
+  pub told-rows : told .number ≡ 0 → Asked.Rows q lo hi (told .count) ≡ askedBy read q lo hi
   unfolding askedBy unlessRefused
   told-rows z =
-      let rows : Asked = Asked.Rows k lo hi (told .count) in
+      let rows : Asked = Asked.Rows q lo hi (told .count) in
       sym (ap (λ (n : ℕ). unlessRefused Asked.Refused n (readerLine (told .place)) rows) z)
-      ∙ ap (λ (t : Report). unlessRefused Asked.Refused (t .number) (readerLine (t .place)) (Asked.Rows k lo hi (t .count))) e
+      ∙ ap (λ (t : Report). unlessRefused Asked.Refused (t .number) (readerLine (t .place)) (Asked.Rows q lo hi (t .count))) e
 
-  pub told-refused : {line : ℕ} → (told .number ≡ 0 → ⊥) → line ≡ readerLine (told .place) → Asked.Refused (told .number) line ≡ askedBy read k lo hi
+  pub told-refused : {line : ℕ} → (told .number ≡ 0 → ⊥) → line ≡ readerLine (told .place) → Asked.Refused (told .number) line ≡ askedBy read q lo hi
   unfolding askedBy
   told-refused some l =
       ap (Asked.Refused (told .number)) l
-      ∙ (sym (unless-some Asked.Refused (told .number) (readerLine (told .place)) (Asked.Rows k lo hi (told .count)) some)
-      ∙ ap (λ (t : Report). unlessRefused Asked.Refused (t .number) (readerLine (t .place)) (Asked.Rows k lo hi (t .count))) e)
+      ∙ (sym (unless-some Asked.Refused (told .number) (readerLine (told .place)) (Asked.Rows q lo hi (told .count)) some)
+      ∙ ap (λ (t : Report). unlessRefused Asked.Refused (t .number) (readerLine (t .place)) (Asked.Rows q lo hi (t .count))) e)
 
 -- ---- rows
 
@@ -148,31 +149,31 @@ room-rows room n TableRead.NoRoom e = absurd-eq (cc)
 front : (values column : List ℕ) {now : List ℕ} (n : ℕ) → length values ≡ n → now ≡ values ++ drop n column → take n now ≡ values
 front values column n e q = ap (take n) q ∙ take-at values (drop n column) n e
 
-module _ (text : List ℕ) (k lo hi : ℕ) (days first second : List ℕ) {days′ first′ second′ : List ℕ} where
+module _ (text : List ℕ) (q : Query) (lo hi : ℕ) (days first second : List ℕ) {days′ first′ second′ : List ℕ} where
   by-answer : (r : TableRead)
-      → tableReadOf text 1024 1024 1024 ≡ r
+      → tableReadOf text mostRows mostRows mostRows ≡ r
       → days′ ≡ filled r (daysOf text) days
       → first′ ≡ filled r (firstsOf text) first
       → second′ ≡ filled r (secondsOf text) second
-      → Asks (fromRows r (tableOf text) (query k) lo hi) (askedBy r k lo hi) days′ first′ second′
+      → Asks (fromRows r (tableOf text) q lo hi) (askedBy r q lo hi) days′ first′ second′
   unfolding rowsOf asked askedBy unlessRefused fromRows listed tableReadOf tableOf daysOf firstsOf secondsOf
   by-answer (TableRead.Rows n) e d f s =
-      let r = room-rows 1024 n (judgedFrom 0 (linesOf text)) e in
+      let r = room-rows mostRows n (judgedFrom 0 (linesOf text)) e in
       let a : take n days′ ≡ daysOf text = front (daysOf text) days n (column-length text n (r .is) dayOf) d in
       let b : take n first′ ≡ firstsOf text = front (firstsOf text) first n (column-length text n (r .is) firstOf) f in
       let c : take n second′ ≡ secondsOf text = front (secondsOf text) second n (column-length text n (r .is) secondOf) s in
-      record { most = r .fits; is = λ i. listed (record { days = sym a i; first = sym b i; second = sym c i }) (query k) lo hi }
+      record { most = r .fits; is = λ i. listed (record { days = sym a i; first = sym b i; second = sym c i }) q lo hi }
   by-answer (TableRead.BadLine n) e d f s = record { most = omega arith; is = refl }
   by-answer (TableRead.BadField n) e d f s = record { most = omega arith; is = refl }
   by-answer (TableRead.BadNumber n) e d f s = record { most = omega arith; is = refl }
   by-answer TableRead.NoRoom e d f s = record { most = omega arith; is = refl }
 
   pub rows-asked : (r : TableRead) {a : Asked} → r ≡ tableReadOf text (length days) (length first) (length second) → Readable text days first second
-      → days′ ≡ filled r (daysOf text) days → first′ ≡ filled r (firstsOf text) first → second′ ≡ filled r (secondsOf text) second → a ≡ askedBy r k lo hi
-      → Asks (fromRows (tableReadOf text 1024 1024 1024) (tableOf text) (query k) lo hi) a days′ first′ second′
-  rows-asked r e fits d f s q =
-      let t : tableReadOf text 1024 1024 1024 ≡ r = sym (e ∙ rw (fits .days, fits .first, fits .second)) in
-      rw (t, q) (by-answer r t d f s)
+      → days′ ≡ filled r (daysOf text) days → first′ ≡ filled r (firstsOf text) first → second′ ≡ filled r (secondsOf text) second → a ≡ askedBy r q lo hi
+      → Asks (fromRows (tableReadOf text mostRows mostRows mostRows) (tableOf text) q lo hi) a days′ first′ second′
+  rows-asked r e fits d f s w =
+      let t : tableReadOf text mostRows mostRows mostRows ≡ r = sym (e ∙ rw (fits .days, fits .first, fits .second)) in
+      rw (t, w) (by-answer r t d f s)
 
 -- ---- the query line
 
@@ -200,7 +201,7 @@ module _ (input : List ℕ) (short : length input ≤ mostInput) where
   rest-is = ap (λ (k : ℕ). take k (drop queryBytes input)) (sym (length-drop queryBytes input)) ∙ take-length (drop queryBytes input)
 
   pub asks-query : {r : QueryRead} {k lo hi : ℕ} {a : Asked} {d f s : List ℕ} → r ≡ queryOf input → r ≡ QueryRead.Query k lo hi
-      → Asks (fromRows (tableReadOf (take (length input - queryBytes) (drop queryBytes input)) 1024 1024 1024)
+      → Asks (fromRows (tableReadOf (take (length input - queryBytes) (drop queryBytes input)) mostRows mostRows mostRows)
       (tableOf (take (length input - queryBytes) (drop queryBytes input))) (query k) lo hi)
       a d f s
       → Asks (outcome input) a d f s
@@ -208,7 +209,7 @@ module _ (input : List ℕ) (short : length input ≤ mostInput) where
   asks-query {r} {k} {lo} {hi} e q h =
       record {
         most = h .most;
-        is = by-query (sym q ∙ e) ∙ ap (λ (l : List ℕ). fromRows (tableReadOf l 1024 1024 1024) (tableOf l) (query k) lo hi) (sym rest-is) ∙ h .is;
+        is = by-query (sym q ∙ e) ∙ ap (λ (l : List ℕ). fromRows (tableReadOf l mostRows mostRows mostRows) (tableOf l) (query k) lo hi) (sym rest-is) ∙ h .is;
       }
 
   pub asks-none : {r : QueryRead} (q : QueryRead) {a : Asked} {d f s : List ℕ} → r ≡ queryOf input → r ≡ q → fromQuery q (drop queryBytes input) ≡ badQuery q
@@ -226,13 +227,13 @@ module _ {o : Outcome} {a : Asked} {d f s : List ℕ} (h : Asks o a d f s) where
   unfolding asked
   asked-none e = h .is ∙ ap (λ (x : Asked). asked x d f s) e
 
-  pub asked-most : {k lo hi n : ℕ} → a ≡ Asked.Rows k lo hi n → n ≤ 1024
+  pub asked-most : {q : Query} {lo hi n : ℕ} → a ≡ Asked.Rows q lo hi n → n ≤ mostRows
   unfolding rowsOf
   asked-most e = omega (arith, h .most, ap rowsOf e)
 
-  pub part-most : {k lo hi n : ℕ} (l : List ℕ) → a ≡ Asked.Rows k lo hi n → length (take n l) ≤ 1024
-  part-most {k} {lo} {hi} {n} l e = omega (arith, asked-most e, length-take n l, min-le-left n (length l))
+  pub part-most : {q : Query} {lo hi n : ℕ} (l : List ℕ) → a ≡ Asked.Rows q lo hi n → length (take n l) ≤ mostRows
+  part-most {q} {lo} {hi} {n} l e = omega (arith, asked-most e, length-take n l, min-le-left n (length l))
 
-  pub asked-rows : {k lo hi n : ℕ} → a ≡ Asked.Rows k lo hi n → o ≡ listed (columns (take n d) (take n f) (take n s)) (query k) lo hi
+  pub asked-rows : {q : Query} {lo hi n : ℕ} → a ≡ Asked.Rows q lo hi n → o ≡ listed (columns (take n d) (take n f) (take n s)) q lo hi
   unfolding asked
   asked-rows e = h .is ∙ ap (λ (x : Asked). asked x d f s) e

@@ -9,18 +9,20 @@
 --     unlessRefused      an answer for a refusal's number and input line, or another where the number is 0
 --     tableOf rows       the table that the text of the rows holds
 --     fromList           the outcome by Listing's answer
+--     mostListed         the rings that the program lists
+--     programScratch     the numbers of its scratch
 --     listed t q lo hi   the outcome of Listing, for a table that was read
 --     fromRows           the outcome by what the reader says of the rows
 --     badQuery a         the outcome for a query line that is refused
 --     fromQuery          the outcome by what the query line holds
 --     unlessLong b o     the outcome o, or 2 where the input is too long
 --     outcome input      the outcome of an input
-use Prim.Native.Nat.{ℕ, zero, suc, _+_}
+use Prim.Native.Nat.{ℕ, zero, suc, _+_, _*_}
 use mathlib.Core.Bool.{Bool, true, false}
 use mathlib.Core.List.{List}
 use lib.ListN.{length, drop}
 use lib.Dec.{ltb}
-use Rattle.text.specs.Layout.{queryBytes, mostInput}
+use Rattle.text.specs.Layout.{queryBytes, mostRows, mostInput}
 use Rattle.text.specs.Line.{queryOf, queryNumber, queryPlace}
 use Rattle.text.specs.Table.{daysOf, firstsOf, secondsOf, tableReadOf, number, place}
 use Rattle.text.specs.declared.lines.QueryRead.{QueryRead}
@@ -72,9 +74,16 @@ unfoldable pub fromList : Listed → List ListedRing → Outcome
 fromList (Listed.Rings n sum) ls = found ls
 fromList (Listed.Refused r) ls = stoppedBy r
 
--- 01: "then lists into columns of 2,048". 12,288 numbers of scratch are enough for 1,024 rows
+-- 01: "then lists into columns of 2,048"
+abbrev pub mostListed : ℕ
+mostListed = 2048
+
+-- what 9 asks for (rings: Checks.scratchCheck) with as many rows as an input can have: 12,288
+abbrev pub programScratch : ℕ
+programScratch = 8192 + 4 * mostRows
+
 unfoldable pub listed : Table → Query → ℕ → ℕ → Outcome
-listed t q lo hi = fromList (listingAnswer t q lo hi (each 2048) 12288) (listing t q lo hi)
+listed t q lo hi = fromList (listingAnswer t q lo hi (each mostListed) programScratch) (listing t q lo hi)
 
 unfoldable pub fromRows : TableRead → Table → Query → ℕ → ℕ → Outcome
 fromRows a t q lo hi = unlessRefused stopped (number a) (readerLine (place a)) (listed t q lo hi)
@@ -85,7 +94,7 @@ badQuery a = stopped (queryNumber a) (queryPlace a)
 -- 01: "It reads the query line first (11, 12, 13 at line 1; 11 when input is empty), then the rows". 18,448 bytes hold a query and 1,024 rows:
 -- there is room for them
 unfoldable pub fromQuery : QueryRead → List ℕ → Outcome
-fromQuery (QueryRead.Query k lo hi) rows = fromRows (tableReadOf rows 1024 1024 1024) (tableOf rows) (record { k = k }) lo hi
+fromQuery (QueryRead.Query k lo hi) rows = fromRows (tableReadOf rows mostRows mostRows mostRows) (tableOf rows) (record { k = k }) lo hi
 fromQuery QueryRead.BadLine rows = badQuery QueryRead.BadLine
 fromQuery QueryRead.BadField rows = badQuery QueryRead.BadField
 fromQuery QueryRead.BadNumber rows = badQuery QueryRead.BadNumber

@@ -1,6 +1,6 @@
 -- The listing program step by step: what its functions hand to each other.
 --     Readable text d f s    a text that is not too long, and columns for its rows
---     askedBy t k lo hi  what an input asks for, by what the reader says of its rows
+--     askedBy t q lo hi  what an input asks for, by what the reader says of its rows
 --     rowsOf a           how many rows an input has
 --     asked a d f s      the outcome of what is asked, the rows standing in front of the columns d, f, s
 --     Asks o a d f s     an input of the outcome o asks for a
@@ -13,16 +13,16 @@ use Prim.Native.Nat.{ℕ, _+_, _*_, _≤_, _<_}
 use mathlib.Core.Path.{_≡_}
 use mathlib.Core.List.{List, map}
 use lib.ListN.{length, getD, take}
-use Rattle.text.specs.Layout.{mostInput}
+use Rattle.text.specs.Layout.{entryBytes, mostRows, mostInput}
 use Rattle.text.specs.Print.{entryLines}
 use Rattle.text.specs.Table.{number, place, count}
 use Rattle.text.specs.declared.table.TableRead.{TableRead}
 use Rattle.rings.specs.Words.{tabulate}
 use Rattle.rings.specs.Table.{tableOf}
-use Rattle.rings.specs.Ring.{query}
+use Rattle.rings.specs.declared.Query.{Query}
 use Rattle.listing.specs.Listing.{ListedRing}
 use Rattle.listing.specs.ListingCall.{Columns}
-use Rattle.listing.specs.Program.{Outcome, stopped, readerLine, unlessRefused, listed}
+use Rattle.listing.specs.Program.{Outcome, stopped, readerLine, unlessRefused, mostListed, listed}
 use Rattle.listing.specs.ProgramText.{lineOf, listAnswer, listOutput}
 use Rattle.listing.specs.declared.Printed.{Printed}
 use Rattle.listing.specs.declared.program.Asked.{Asked}
@@ -30,23 +30,23 @@ use Rattle.listing.specs.declared.program.Asked.{Asked}
 -- the columns of the program hold as many rows as an input can have
 pub record Readable (text d f s : List ℕ) : Type 0 where
   pub short : length text ≤ mostInput
-  pub days : length d ≡ 1024
-  pub first : length f ≡ 1024
-  pub second : length s ≡ 1024
+  pub days : length d ≡ mostRows
+  pub first : length f ≡ mostRows
+  pub second : length s ≡ mostRows
 
-unfoldable pub askedBy : TableRead → ℕ → ℕ → ℕ → Asked
-askedBy a k lo hi = unlessRefused Asked.Refused (number a) (readerLine (place a)) (Asked.Rows k lo hi (count a))
+unfoldable pub askedBy : TableRead → Query → ℕ → ℕ → Asked
+askedBy a q lo hi = unlessRefused Asked.Refused (number a) (readerLine (place a)) (Asked.Rows q lo hi (count a))
 
 unfoldable pub rowsOf : Asked → ℕ
-rowsOf (Asked.Rows k lo hi n) = n
+rowsOf (Asked.Rows q lo hi n) = n
 rowsOf (Asked.Refused number line) = 0
 
 unfoldable pub asked : Asked → List ℕ → List ℕ → List ℕ → Outcome
-asked (Asked.Rows k lo hi n) d f s = listed (tableOf (take n d) (take n f) (take n s)) (query k) lo hi
+asked (Asked.Rows q lo hi n) d f s = listed (tableOf (take n d) (take n f) (take n s)) q lo hi
 asked (Asked.Refused number line) d f s = stopped number line
 
 pub record Asks (o : Outcome) (a : Asked) (d f s : List ℕ) : Type 0 where
-  pub most : rowsOf a ≤ 1024
+  pub most : rowsOf a ≤ mostRows
   pub is : o ≡ asked a d f s
 
 unfoldable pub entryAt : Columns (List ℕ) → ℕ → ListedRing
@@ -59,7 +59,7 @@ unfoldable pub ringLines : List ListedRing → List ℕ
 ringLines ls = entryLines (map lineOf ls)
 
 pub record Rising (c : Columns (List ℕ)) (n : ℕ) : Type 0 where
-  pub most : n ≤ 2048
+  pub most : n ≤ mostListed
   pub in-starts : n ≤ length (c .starts)
   pub in-ends : n ≤ length (c .ends)
   pub in-rows : n ≤ length (c .rows)
@@ -67,7 +67,7 @@ pub record Rising (c : Columns (List ℕ)) (n : ℕ) : Type 0 where
 
 pub record Printable (c : Columns (List ℕ)) (n : ℕ) (output : List ℕ) : Type 0 where
   pub rising : Rising c n
-  pub room : 22 * (n + 1) ≤ length output
+  pub room : entryBytes * (n + 1) ≤ length output
 
 pub record Prints (o : Outcome) (a : Printed) (old now : List ℕ) : Type 0 where
   pub answer : a ≡ listAnswer o (length old)

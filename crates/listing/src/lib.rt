@@ -6,6 +6,7 @@ mod program;
 
 pub use list::list_rings;
 pub use longest::longest_list;
+pub use program::MOST_OUTPUT;
 pub use program::list_text;
 pub use rings::Counted;
 pub use rings::Query;

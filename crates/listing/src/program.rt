@@ -3,9 +3,8 @@ ghost use mathlib.Core.Path.{_≡_};
 ghost use Prim.Native.Nat.{_≤_};
 ghost use lib.ListN.{length};
 ghost use Rattle.rings.specs.Refusals.{placeNumber, placeOf};
-ghost use Rattle.rings.specs.Ring.{query};
 ghost use Rattle.rings.specs.Table.{tableOf as columns};
-ghost use Rattle.text.specs.Layout.{mostInput};
+ghost use Rattle.text.specs.Layout.{entryBytes, mostRows, mostInput};
 ghost use Rattle.text.specs.Line.{queryNumber, queryPlace};
 ghost use Rattle.text.specs.Table.{place, tableReadOf};
 ghost use Rattle.text.specs.Print.{pasted};
@@ -20,6 +19,7 @@ use rings::Place;
 use rings::Query;
 use rings::Refusal;
 use rings::tell;
+use text::ENTRY_BYTES;
 use text::MOST_INPUT;
 use text::MOST_ROWS;
 use text::QUERY_BYTES;
@@ -32,15 +32,19 @@ use text::read_table;
 use text::report_query;
 use text::report_table;
 
-// The program's columns hold the listing of 2,048 rings, and its scratch is enough for 1,024 rows.
-const LISTED: usize = 2048;
+// The program's columns hold the listing of 2,048 rings. Its scratch is what rings asks for with 1,024 rows (9). The
+// text of 2,048 rings is 45,078 bytes. The definitions are mostListed, programScratch (specs/Program.antt) and
+// mostOutput (specs/ProgramText.antt).
+const MOST_LISTED: usize = 2048;
 
-const SCRATCH: usize = 12288;
+const SCRATCH: usize = 8192 + 4 * MOST_ROWS;
+
+pub const MOST_OUTPUT: usize = ENTRY_BYTES * (MOST_LISTED + 1);
 
 // What an input asks for: the listing of a query over so many rows, or nothing, by a refusal.
 pub enum Asked {
     Rows {
-        k: u16,
+        query: Query,
         ts: u16,
         te: u16,
         count: usize,
@@ -53,7 +57,7 @@ pub enum Asked {
 
 // The input line of a place of rings: row 0 stands in input line 2.
 fn place_line(place: Place) -> usize
-    requires { ⌜ placeNumber place ≤ 1024 ⌝ }
+    requires { ⌜ placeNumber place ≤ mostRows ⌝ }
     ensures { λ n. ⌜ n ≡ placeLine place ⌝ }
 {
     match place {
@@ -65,7 +69,7 @@ fn place_line(place: Place) -> usize
 
 // A refusal of rings: its number, and its input line or 0.
 fn refused(r: Refusal) -> Printed
-    requires { ⌜ placeOf r ≤ 1024 ⌝ }
+    requires { ⌜ placeOf r ≤ mostRows ⌝ }
     ensures { λ p. ⌜ p ≡ refusedOf r ⌝ }
 {
     let told = tell(r);
@@ -89,15 +93,20 @@ fn reader_line(line: usize) -> usize
 }
 
 // What the reader's answer comes to.
-fn asked_by(read: TableRead, k: u16, ts: u16, te: u16) -> Asked
+fn asked_by(read: TableRead, query: Query, ts: u16, te: u16) -> Asked
     requires { ⌜ place read ≤ mostInput ⌝ }
-    ensures { λ r. ⌜ r ≡ askedBy read k ts te ⌝ }
+    ensures { λ r. ⌜ r ≡ askedBy read query ts te ⌝ }
 {
     let told = report_table(read);
     let number = told.number;
     let count = told.count;
     if number == 0 {
-        return Asked::Rows { k, ts, te, count };
+        return Asked::Rows {
+            query,
+            ts,
+            te,
+            count,
+        };
     }
     let line = reader_line(told.place);
     Asked::Refused { number, line }
@@ -114,10 +123,10 @@ fn bad_query(line: QueryRead) -> Asked
     }
 }
 
-// The rows behind the query line, into columns of 1,024.
+// The rows behind the query line, into columns that hold as many as an input can have.
 fn read_rows(
     text: &[u8],
-    k: u16,
+    query: Query,
     ts: u16,
     te: u16,
     days: &mut [u16],
@@ -127,11 +136,11 @@ fn read_rows(
     requires { ⌜ Readable (now text) (now days) (now first) (now second) ⌝ }
     ensures { λ r. ⌜ (
         let rows = now (text .entry) in
-        let o = fromRows (tableReadOf rows 1024 1024 1024) (tableOf rows) (query k) ts te in
+        let o = fromRows (tableReadOf rows mostRows mostRows mostRows) (tableOf rows) query ts te in
         Asks o r (now (days .exit)) (now (first .exit)) (now (second .exit))) ⌝ }
 {
     let read = read_table(text, days, first, second);
-    asked_by(read, k, ts, te)
+    asked_by(read, query, ts, te)
 }
 
 // The query line, then the rows.
@@ -142,7 +151,15 @@ fn read_input(input: &[u8], days: &mut [u16], first: &mut [u16], second: &mut [u
     let line = read_query(input);
     match line {
         QueryRead::Query(k, ts, te) => {
-            return read_rows(&input[QUERY_BYTES..], k, ts, te, days, first, second);
+            return read_rows(
+                &input[QUERY_BYTES..],
+                Query { k },
+                ts,
+                te,
+                days,
+                first,
+                second,
+            );
         }
         QueryRead::BadLine => {
             return bad_query(line);
@@ -156,25 +173,25 @@ fn read_input(input: &[u8], days: &mut [u16], first: &mut [u16], second: &mut [u
     }
 }
 
-// The lines of the first `count` entries, behind the header's 22 bytes.
+// The lines of the first `count` entries, behind the header.
 fn write_lines(starts: &[u16], ends: &[u16], rows: &[u16], count: usize, output: &mut [u8])
     requires { ⌜ Printable (columnsOf (now starts) (now ends) (now rows)) count (now output) ⌝ }
     ensures { λ _. ⌜ (
         let c = columnsOf (now (starts .entry)) (now (ends .entry)) (now (rows .entry)) in
-        now (output .exit) ≡ pasted (now (output .entry)) 22 (ringLines (entriesAt c count))) ⌝ }
+        now (output .exit) ≡ pasted (now (output .entry)) entryBytes (ringLines (entriesAt c count))) ⌝ }
 {
-    let mut at: usize = 22;
+    let mut at: usize = ENTRY_BYTES;
     let mut i: usize = 0;
     while i < count {
         let start = starts[i];
         let end = ends[i];
         put_line(output, at, start, end, end - start, rows[i]);
-        at += 22;
+        at += ENTRY_BYTES;
         i += 1;
     }
 }
 
-// The text of the first `count` entries, all of it or nothing: 22 bytes for the header and for each entry.
+// The text of the first `count` entries, all of it or nothing. The header is as long as an entry.
 fn write_listing(
     starts: &[u16],
     ends: &[u16],
@@ -187,7 +204,7 @@ fn write_listing(
         let o = found (entriesAt (columnsOf (now (starts .entry)) (now (ends .entry)) (now (rows .entry))) count) in
         Prints o r (now (output .entry)) (now (output .exit))) ⌝ }
 {
-    let size = 22 * (count + 1);
+    let size = ENTRY_BYTES * (count + 1);
     if output.len() < size {
         return refused(Refusal::NoRoom);
     }
@@ -201,25 +218,25 @@ fn print_rings(
     days: &[u16],
     first: &[u16],
     second: &[u16],
-    k: u16,
+    query: Query,
     ts: u16,
     te: u16,
     output: &mut [u8],
 ) -> Printed
-    requires { ⌜ length (now days) ≤ 1024 ⌝ }
+    requires { ⌜ length (now days) ≤ mostRows ⌝ }
     ensures { λ r. ⌜ (
-        let o = listed (columns (now (days .entry)) (now (first .entry)) (now (second .entry))) (query k) ts te in
+        let o = listed (columns (now (days .entry)) (now (first .entry)) (now (second .entry))) query ts te in
         Prints o r (now (output .entry)) (now (output .exit))) ⌝ }
 {
-    let mut starts = [0u16; LISTED];
-    let mut ends = [0u16; LISTED];
-    let mut rows = [0u16; LISTED];
+    let mut starts = [0u16; MOST_LISTED];
+    let mut ends = [0u16; MOST_LISTED];
+    let mut rows = [0u16; MOST_LISTED];
     let mut scratch = [0u16; SCRATCH];
     let rings = list_rings(
         days,
         first,
         second,
-        Query { k },
+        query,
         ts,
         te,
         &mut starts,
@@ -253,12 +270,17 @@ pub fn list_text(input: &[u8], output: &mut [u8]) -> Printed
         Asked::Refused { number, line } => {
             return Printed::Refused { number, line };
         }
-        Asked::Rows { k, ts, te, count } => {
+        Asked::Rows {
+            query,
+            ts,
+            te,
+            count,
+        } => {
             return print_rings(
                 &days[..count],
                 &first[..count],
                 &second[..count],
-                k,
+                query,
                 ts,
                 te,
                 output,

@@ -6,29 +6,30 @@ ghost use lib.ListN.{length, take};
 ghost use Rattle.io.specs.Counts.{Counts};
 ghost use Rattle.text.specs.Layout.{mostInput};
 ghost use Rattle.text.specs.Print.{refusedLine};
-ghost use Rattle.listing.specs.ProgramText.{programText};
+ghost use Rattle.listing.specs.ProgramText.{mostOutput, programText};
 ghost use Rattle.listing.specs.ProgramInput.{Brought};
 use libc::STDIN_FILENO;
 use libc::STDOUT_FILENO;
+use listing::MOST_OUTPUT;
 use listing::Printed;
 use listing::list_text;
 use text::MOST_INPUT;
+use text::REFUSED_BYTES;
 use text::put_refused;
 
-// The refused line, of 19 bytes.
+// The refused line.
 fn refuse(number: u32, line: usize, output: &mut [u8]) -> usize
-    requires { ⌜ (number ≤ 14) × (line ≤ mostInput + 2) × (length (now output) ≡ 45078) ⌝ }
+    requires { ⌜ (number ≤ 14) × (line ≤ mostInput + 2) × (length (now output) ≡ mostOutput) ⌝ }
     ensures { λ r. ⌜ Counts r (now (output .exit)) ⌝ }
     ensures { λ r. ⌜ take r (now (output .exit)) ≡ refusedLine number line ⌝ }
 {
     put_refused(output, number as u16, line as u16);
-    19
+    REFUSED_BYTES
 }
 
-// What the program prints for an input, from the output's start on; its length. 45,078 bytes hold the listing of
-// 2,048 rings.
+// What the program prints for an input, from the output's start on; its length.
 fn print(input: &[u8], output: &mut [u8]) -> usize
-    requires { ⌜ length (now output) ≡ 45078 ⌝ }
+    requires { ⌜ length (now output) ≡ mostOutput ⌝ }
     ensures { λ r. ⌜ Counts r (now (output .exit)) ⌝ }
     ensures { λ r. ⌜ take r (now (output .exit)) ≡ programText (now (input .entry)) ⌝ }
 {
@@ -44,11 +45,10 @@ fn print(input: &[u8], output: &mut [u8]) -> usize
 }
 
 // What the program prints for the input of which a read brought so many bytes into the buffer. The buffer has one
-// byte more than an input
-// may have: a longer one is seen to be too long, and of any other all is there.
+// byte more than an input may have: a longer one is seen to be too long, and of any other all is there.
 fn answer(buffer: &[u8], read: usize, output: &mut [u8]) -> usize
     requires { ⌜ Counts read (now buffer) ⌝ }
-    requires { ⌜ (mostInput < length (now buffer)) × (length (now output) ≡ 45078) ⌝ }
+    requires { ⌜ (mostInput < length (now buffer)) × (length (now output) ≡ mostOutput) ⌝ }
     ensures { λ r. ⌜ Counts r (now (output .exit)) ⌝ }
     ensures { λ r. ⌜ ((input : List ℕ) → Brought input (now (buffer .entry)) read → take r (now (output .exit)) ≡ programText input) ⌝ }
 {
@@ -57,7 +57,7 @@ fn answer(buffer: &[u8], read: usize, output: &mut [u8]) -> usize
 
 fn main() {
     let mut buffer = [0u8; MOST_INPUT + 1];
-    let mut output = [0u8; 45078];
+    let mut output = [0u8; MOST_OUTPUT];
     let read = io::read_full(STDIN_FILENO, &mut buffer);
     let size = answer(&buffer, read, &mut output);
     io::write_all(STDOUT_FILENO, &output[..size]);

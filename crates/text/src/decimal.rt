@@ -84,9 +84,8 @@ fn value_of(f: &[u8]) -> u64
     sum
 }
 
-// What a field holds, where numbers end at a limit. More digits than any number of 16 bits has, with no needless
-// zero, are above every limit, so no
-// sum overflows.
+// What a field holds, where numbers end at a limit. More digits than any number of 16 bits has, with no needless zero,
+// are above every limit, so no sum overflows.
 pub fn read_field(f: &[u8], limit: u16) -> Field
     ensures { λ r. ⌜ r ≡ fieldOf limit (now (f .entry)) ⌝ }
 {

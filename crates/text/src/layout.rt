@@ -65,9 +65,9 @@ pub(crate) const LINE_BYTES: usize = DAY_WIDTH + ACCOUNT_WIDTH + ACCOUNT_WIDTH +
 
 pub const QUERY_BYTES: usize = QUERY_WIDTH + QUERY_WIDTH + QUERY_WIDTH + 1;
 
-pub(crate) const ENTRY_BYTES: usize = DAY_WIDTH + DAY_WIDTH + DAY_WIDTH + ROWS_WIDTH + 1;
+pub const ENTRY_BYTES: usize = DAY_WIDTH + DAY_WIDTH + DAY_WIDTH + ROWS_WIDTH + 1;
 
-pub(crate) const REFUSED_BYTES: usize = 7 + NUMBER_WIDTH + PLACE_WIDTH + 1;
+pub const REFUSED_BYTES: usize = 7 + NUMBER_WIDTH + PLACE_WIDTH + 1;
 
 // The listing program's longest input: a query line and 1,024 lines of a table, in all 18,448 bytes.
 pub const MOST_ROWS: usize = 1024;

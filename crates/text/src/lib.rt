@@ -9,9 +9,11 @@ mod table;
 
 pub use decimal::Field;
 pub use decimal::read_field;
+pub use layout::ENTRY_BYTES;
 pub use layout::MOST_INPUT;
 pub use layout::MOST_ROWS;
 pub use layout::QUERY_BYTES;
+pub use layout::REFUSED_BYTES;
 pub use lines::Line;
 pub use lines::QueryRead;
 pub use lines::Step;

@@ -1,7 +1,6 @@
 // The line reader: a thin struct that keeps the text and the line reached, and steps line by line. The borrow checker
-// covers no function over such a
-// struct, so these are proved by hand. They leave the work to `step_from`, and `read_line`, whose parameters are
-// plain, serves every loop.
+// covers no function over such a struct, so these are proved by hand. They leave the work to `step_from`, and
+// `read_line`, whose parameters are plain, serves every loop.
 ghost use mathlib.Core.Path.{_≡_};
 ghost use Rattle.text.specs.Line.{stepFrom};
 ghost use Rattle.text.specs.Reader.{ReaderAt, Stepped};
@@ -22,8 +21,7 @@ pub fn at<'a>(text: &'a [u8], line: usize) -> LineReader<'a>
 }
 
 // One step: it gives what stands at the line reached, and the reader goes on to the next one where that is a row. At
-// the text's end and at a faulty
-// line it stays.
+// the text's end and at a faulty line it stays.
 pub fn step<'s, 'a>(r: &'s mut LineReader<'a>) -> Line
     ensures { λ l. ⌜ Stepped (now (r .entry)) (now (r .exit)) l ⌝ }
 {
@@ -32,9 +30,8 @@ pub fn step<'s, 'a>(r: &'s mut LineReader<'a>) -> Line
     s.found
 }
 
-// A step from a line of a text, by a reader that is made here: what stands there, and the line reached then, from
-// which the next step goes on. Its
-// parameters are plain, so its callers need no proof by hand.
+// A step from a line of a text, by a reader that is made here: what stands there, and the line reached then, from which
+// the next step goes on. Its parameters are plain, so its callers need no proof by hand.
 pub fn read_line(text: &[u8], line: usize) -> Step
     ensures { λ r. ⌜ r ≡ stepFrom (now (text .entry)) line ⌝ }
 {

@@ -72,8 +72,7 @@ fn ended(l: Line, line: usize) -> TableRead
 }
 
 // The lowest faulty line, or the number of lines: the reader goes on until it stays. That it moved is asked, and not
-// what it found: so the processor
-// goes on to the next line before this one is judged.
+// what it found: so the processor goes on to the next line before this one is judged.
 fn check_lines(text: &[u8]) -> TableRead
     ensures { λ r. ⌜ r ≡ judgedFrom 0 (linesOf (now (text .entry))) ⌝ }
 {

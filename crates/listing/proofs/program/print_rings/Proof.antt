@@ -6,9 +6,7 @@ use lib.ListN.{replicate}
 use borrow.Author.Needs.{needs}
 use Rattle.rings.specs.Table.{tableOf}
 use Rattle.listing.specs.ListingCall.{each}
-use Rattle.listing.specs.Program.{listed}
-use Rattle.rings.specs.Ring.{query}
-use Rattle.listing.specs.Program.{found}
+use Rattle.listing.specs.Program.{found, mostListed, programScratch, listed}
 use Rattle.listing.proofs.AnswerLaws.{refused-place, listed-rings, listed-none, rings-are, rings-rise, answer-refused, answer-as}
 use Rattle.listing.proofs.program.print_rings.Statement.{statement}
 use Rattle.listing.proofs.program.print_rings.Tie as tie
@@ -49,8 +47,8 @@ write-listing-requires c κs =
     let a = args in
     let list-rings = list-rings′ in
     let rings = rings′ in
-    rings-rise (tableOf (a .days .now) (a .first .now) (a .second .now)) (query (a .k)) (a .ts) (a .te)
-    (list-rings .ensures .0) (each (replicate 2048 0)) (list-rings .ensures .1 .0) (rings .given .1)
+    rings-rise (tableOf (a .days .now) (a .first .now) (a .second .now)) (a .query) (a .ts) (a .te)
+    (list-rings .ensures .0) (each (replicate mostListed 0)) (list-rings .ensures .1 .0) (rings .given .1)
 
 same-length : tie.Need-same-length
 same-length c = search needs
@@ -67,13 +65,13 @@ returns c =
     let rings = rings′ in
     answer-as
     (
-    listed-rings (tableOf (a .days .now) (a .first .now) (a .second .now)) (query (a .k)) (a .ts) (a .te)
+    listed-rings (tableOf (a .days .now) (a .first .now) (a .second .now)) (a .query) (a .ts) (a .te)
     (list-rings .ensures .0) (rings .given .1) ∙ ap found
     (
     sym
     (
-    rings-are (tableOf (a .days .now) (a .first .now) (a .second .now)) (query (a .k)) (a .ts) (a .te)
-    (list-rings .ensures .0) (each (replicate 2048 0)) (list-rings .ensures .1 .0) (rings .given .1)
+    rings-are (tableOf (a .days .now) (a .first .now) (a .second .now)) (a .query) (a .ts) (a .te)
+    (list-rings .ensures .0) (each (replicate mostListed 0)) (list-rings .ensures .1 .0) (rings .given .1)
     )
     )
     ) (write-listing .ensures)
@@ -93,8 +91,8 @@ refused-requires c κs =
     omega (
       arith,
       pre,
-      refused-place (tableOf (a .days .now) (a .first .now) (a .second .now)) (query (a .k)) (a .ts) (a .te) (each 2048)
-          12288 (sym (list-rings .ensures .0) ∙ rings2 .given .1),
+      refused-place (tableOf (a .days .now) (a .first .now) (a .second .now)) (a .query) (a .ts) (a .te) (each mostListed)
+          programScratch (sym (list-rings .ensures .0) ∙ rings2 .given .1),
     )
 
 returns-2 : tie.Need-returns-2
@@ -106,10 +104,10 @@ returns-2 c =
     let a = args in
     let rings2 = rings2′ in
     let list-rings = list-rings′ in
-    answer-refused (listed (tableOf (a .days .now) (a .first .now) (a .second .now)) (query (a .k)) (a .ts) (a .te))
+    answer-refused (listed (tableOf (a .days .now) (a .first .now) (a .second .now)) (a .query) (a .ts) (a .te))
     (a .output .now) (rings2 .given .0 .0)
     (
-    listed-none (tableOf (a .days .now) (a .first .now) (a .second .now)) (query (a .k)) (a .ts) (a .te)
+    listed-none (tableOf (a .days .now) (a .first .now) (a .second .now)) (a .query) (a .ts) (a .te)
     (list-rings .ensures .0) (rings2 .given .1)
     ) (c .refused .ensures)
 

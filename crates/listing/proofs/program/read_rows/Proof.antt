@@ -42,7 +42,7 @@ returns c =
     let a = args in
     let read-table = read-table′ in
     let pre = pre′ in
-    rows-asked (a .text .now) (a .k) (a .ts) (a .te) (a .days .now) (a .first .now) (a .second .now)
+    rows-asked (a .text .now) (a .query) (a .ts) (a .te) (a .days .now) (a .first .now) (a .second .now)
     (read-table .result) (read-table .ensures .answers) pre (read-table .ensures .days-hold)
     (read-table .ensures .first-hold) (read-table .ensures .second-hold) (c .asked-by .ensures)
 
