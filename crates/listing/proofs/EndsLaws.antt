@@ -28,7 +28,7 @@ use Rattle.listing.specs.Inner.{Entering, Progress, dayPlaces, mostRows,
 use Rattle.listing.specs.declared.list.Passed.{Passed}
 use Rattle.listing.proofs.StartLaws.{listed-no, entries-are}
 use Rattle.listing.proofs.ColumnLaws.{SameLengths, same-places, lengths-on, entering-places, room-kept}
-use Rattle.listing.proofs.ProgressLaws.{passed, progress-next, progress-as}
+use Rattle.listing.proofs.ProgressLaws.{passed, progress-next, progress-as, progress-so}
 
 -- ---- days without a count
 
@@ -113,17 +113,17 @@ start-as t q hi s top o T E rest P = progress-as (ap (λ (ls : List ListedRing).
 -- ---- the walk over them
 
 module _ (xs : List ℕ) (least s low hi room : ℕ) (p : Passed) (old : Columns (List ℕ)) where
-  -- it stands at e: the ends before are counted, summed up and written, and total rows have earlier core times
-  pub record EndsAt (e total count sum : ℕ) (new : Columns (List ℕ)) : Type 0 where
+  -- it stands at e: the ends before gave so many entries, summed up and written, and total rows have earlier core times
+  pub record EndsAt (e total entries summed : ℕ) (new : Columns (List ℕ)) : Type 0 where
     pub from : low ≤ e
     pub to : e ≤ hi + 1
-    pub few : count ≤ p .count + (e - low)
-    pub small : sum ≤ p .sum + (e - low) * mostRows
+    pub few : entries ≤ e - low
+    pub small : summed ≤ (e - low) * mostRows
     pub in-table : total + sumOf xs e (hi + 1 - e) ≤ mostRows
     pub lengths : SameLengths old new
     pub moves : (goal rest : List ListedRing) (lent : Columns (List ℕ))
         → Progress room goal (countEntries xs least s s 0 (hi + 1 - s) ++ rest) p lent old
-        → Progress room goal (countEntries xs least s e total (hi + 1 - e) ++ rest) (passed count sum) lent new
+        → Progress room goal (countEntries xs least s e total (hi + 1 - e) ++ rest) (passed (p .count + entries) (p .sum + summed)) lent new
 
 module _ {xs : List ℕ} {least s low hi room : ℕ} {p : Passed} {old : Columns (List ℕ)} (A : EndsAhead xs s low hi room p old) where
   -- no row of the first day has a core time in the range
@@ -133,7 +133,7 @@ module _ {xs : List ℕ} {least s low hi room : ℕ} {p : Passed} {old : Columns
       none-listed xs least s s 0 (hi + 1 - s) (omega (arith, A .counts .order, A .uncounted .order)) in
       record { few = omega arith; small = omega arith; moves = λ goal rest lent P. progress-as (ap (λ (ls : List ListedRing). ls ++ rest) none) P }
 
-  pub ends-start : EndsAt xs least s low hi room p old low 0 (p .count) (p .sum) old
+  pub ends-start : EndsAt xs least s low hi room p old low 0 0 0 old
   ends-start =
       let same = none-counted xs least s hi low (low - s) s (A .counts .order) (omega (arith, A .uncounted .order)) (A .uncounted) in
       record {
@@ -143,10 +143,10 @@ module _ {xs : List ℕ} {least s low hi room : ℕ} {p : Passed} {old : Columns
         small = omega arith;
         in-table = omega (arith, A .in-table);
         lengths = same-places old;
-        moves = λ goal rest lent P. progress-as (ap (λ (ls : List ListedRing). ls ++ rest) same) P;
+        moves = λ goal rest lent P. progress-so (omega arith) (omega arith) (progress-as (ap (λ (ls : List ListedRing). ls ++ rest) same) P);
       }
 
-  module _ {e total count sum : ℕ} {new : Columns (List ℕ)} (E : EndsAt xs least s low hi room p old e total count sum new) where
+  module _ {e total entries summed : ℕ} {new : Columns (List ℕ)} (E : EndsAt xs least s low hi room p old e total entries summed new) where
     -- numbers that stay small
     pub ends-total : e ≤ hi → total + getD xs e 0 ≤ mostRows
     ends-total o = omega (arith, E .in-table, sum-next xs hi e o)
@@ -155,7 +155,7 @@ module _ {xs : List ℕ} {least s low hi room : ℕ} {p : Passed} {old : Columns
     ends-room = room-kept (A .columns) (E .lengths)
 
     module _ (o : e ≤ hi) {b : Bool} (eb : b ≡ (ltb 0 (getD xs e 0) and leb least e)) where
-      pub ends-skip : b ≡ false → EndsAt xs least s low hi room p old (e + 1) (total + getD xs e 0) count sum new
+      pub ends-skip : b ≡ false → EndsAt xs least s low hi room p old (e + 1) (total + getD xs e 0) entries summed new
       unfolding consIf
       ends-skip h =
           record {
@@ -170,8 +170,8 @@ module _ {xs : List ℕ} {least s low hi room : ℕ} {p : Passed} {old : Columns
                 (E .moves goal rest lent P);
           }
 
-      pub ends-one : b ≡ true → {new′ : Columns (List ℕ)} → Entering room count (record { start = s; end = e; rows = total + getD xs e 0 }) new new′
-          → EndsAt xs least s low hi room p old (e + 1) (total + getD xs e 0) (count + 1) (sum + (total + getD xs e 0)) new′
+      pub ends-one : b ≡ true → {new′ : Columns (List ℕ)} → Entering room (p .count + entries) (record { start = s; end = e; rows = total + getD xs e 0 }) new new′
+          → EndsAt xs least s low hi room p old (e + 1) (total + getD xs e 0) (entries + 1) (summed + (total + getD xs e 0)) new′
       unfolding consIf
       ends-one h {new′} N =
           record {
@@ -182,12 +182,14 @@ module _ {xs : List ℕ} {least s low hi room : ℕ} {p : Passed} {old : Columns
             in-table = omega (arith, E .in-table, sum-next xs hi e o);
             lengths = lengths-on (E .lengths) (entering-places N);
             moves =
-                λ goal rest lent P. progress-next _ ends-room
+                λ goal rest lent P.
+                progress-so (omega arith) (omega arith)
+                (progress-next _ ends-room
                 (progress-as (ap (λ (ls : List ListedRing). ls ++ rest) (entries-by xs least s hi e total o eb h)) (E .moves goal rest lent P))
-                N;
+                N);
           }
 
-    pub ends-end : hi < e → EndsListed xs least s hi room p (passed count sum) old new
+    pub ends-end : hi < e → EndsListed xs least s hi room p (passed (p .count + entries) (p .sum + summed)) old new
     unfolding countEntries
     ends-end h =
         let none : hi + 1 - e ≡ 0 = omega arith in

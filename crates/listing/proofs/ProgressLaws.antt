@@ -1,5 +1,6 @@
 -- Entries that are counted, summed up and withEntries, one after the other (specs/Inner.antt, Progress).
---     progress-start, progress-next, progress-as     no entry yet; one more; the rest said in another way
+--     progress-start, progress-next                  no entry yet; one more
+--     progress-as, progress-so                       the rest, or the numbers, said in another way
 --     Whole, progress-end                            none is left
 -- Assumes nothing.
 use Prim.Native.Nat.{ℕ, _+_, _≤_}
@@ -51,6 +52,9 @@ module _ {room : ℕ} {goal rest : List ListedRing} {p : Passed} {lent now : Col
 
   pub progress-as : {rest′ : List ListedRing} → rest ≡ rest′ → Progress room goal rest p lent now → Progress room goal rest′ p lent now
   progress-as e P = subst (λ (r : List ListedRing). Progress room goal r p lent now) e P
+
+  pub progress-so : {p′ : Passed} → p′ .count ≡ p .count → p′ .sum ≡ p .sum → Progress room goal rest p lent now → Progress room goal rest p′ lent now
+  progress-so a b P = record { done = P .done; split = P .split; counted = a ∙ P .counted; summed-up = b ∙ P .summed-up; columns = P .columns }
 
 -- ---- none is left
 

@@ -1,5 +1,4 @@
 use Rattle.listing.proofs.EndsLaws.{EndsAt, ends-none, ends-start, ends-total, ends-room, ends-skip, ends-one, ends-end}
-use Rattle.listing.proofs.ProgressLaws.{passed}
 use Rattle.listing.specs.ListingCall.{columnsOf}
 use borrow.Author.Needs.{needs}
 use borrow.Author.Tests.{not-true, not-false}
@@ -13,23 +12,22 @@ use Rattle.listing.proofs.list.enter.Reads as enter-reads
 use Rattle.listing.proofs.list.is_listed.Reads as is-listed-reads
 
 abbrev Inv-loop : tie.InvT-loop
-Inv-loop s te low least room counts starts₀ ends₀ rows₀ count₀ sum₀ total₀ e₀ starts ends rows count sum total e =
-    EndsAt counts least s low te room (passed count₀ sum₀) (columnsOf starts₀ ends₀ rows₀) e total count sum
-    (columnsOf starts ends rows)
+Inv-loop s te low least room passed counts starts₀ ends₀ rows₀ entries₀ summed₀ total₀ e₀ starts ends rows entries summed total e =
+    EndsAt counts least s low te room passed (columnsOf starts₀ ends₀ rows₀) e total entries summed (columnsOf starts ends rows)
 
 abbrev μ-loop : tie.MeasureT-loop
-μ-loop s te low least room counts starts₀ ends₀ rows₀ count₀ sum₀ total₀ e₀ starts ends rows count sum total e =
+μ-loop s te low least room passed counts starts₀ ends₀ rows₀ entries₀ summed₀ total₀ e₀ starts ends rows entries summed total e =
     te + 1 - e
 
 returns : tie.Need-returns Inv-loop μ-loop
 returns c =
     let pre = c .before .before .before .before .before .pre in
-    ends-none (pre) (c .if1 .taken)
+    ends-none pre (c .if1 .taken)
 
 loop-holds : tie.Need-loop-holds Inv-loop μ-loop
 loop-holds c =
     let pre = c .before .before .before .before .before .pre in
-    ends-start (pre)
+    ends-start pre
 
 cast-added : tie.Need-cast-added Inv-loop μ-loop
 cast-added c = search needs
@@ -37,20 +35,20 @@ cast-added c = search needs
 mul-added : tie.Need-mul-added Inv-loop μ-loop
 mul-added c =
     let pre = c .before .before .before .before .before .before .before .pre in
-    omega (arith, (c .loop-test) .taken, (pre) .counts .last)
+    omega (arith, c .loop-test .taken, pre .counts .last)
 
 shared-slice-read-added : tie.Need-shared-slice-read-added Inv-loop μ-loop
 shared-slice-read-added c =
     let loop-test = c .before .loop-test in
     let pre = c .before .before .before .before .before .before .before .before .pre in
-    omega (arith, (loop-test) .taken, (pre) .counts .last, (pre) .counts .long)
+    omega (arith, loop-test .taken, pre .counts .last, pre .counts .long)
 
 add-total : tie.Need-add-total Inv-loop μ-loop
 add-total c =
     let loop-test = c .before .loop-test in
     let loop = c .before .before .loop in
     let pre = c .before .before .before .before .before .before .before .before .pre in
-    omega (arith, ends-total (pre) ((loop) .inv) ((loop-test) .taken))
+    omega (arith, ends-total pre (loop .inv) (loop-test .taken))
 
 is-listed-requires : tie.Need-is-listed-requires Inv-loop μ-loop
 is-listed-requires c κs = search needs
@@ -59,12 +57,12 @@ add-e : tie.Need-add-e Inv-loop μ-loop
 add-e c =
     let loop-test = c .before .before .before .loop-test in
     let pre = c .before .before .before .before .before .before .before .before .before .before .pre in
-    omega (arith, (loop-test) .taken, (pre) .counts .last)
+    omega (arith, loop-test .taken, pre .counts .last)
 
 loop-less : tie.Need-loop-less Inv-loop μ-loop
 loop-less c =
     let loop-test = c .before .before .before .loop-test in
-    omega (arith, (loop-test) .taken)
+    omega (arith, loop-test .taken)
 
 loop-again : tie.Need-loop-again Inv-loop μ-loop
 loop-again c =
@@ -72,90 +70,99 @@ loop-again c =
     let loop-test = c .before .before .before .loop-test in
     let loop = c .before .before .before .before .loop in
     let pre = c .before .before .before .before .before .before .before .before .before .before .pre in
-    ends-skip (pre) ((loop) .inv) ((loop-test) .taken) ((is-listed) .ensures) (not-true _ (c .if2 .taken))
+    ends-skip pre (loop .inv) (loop-test .taken) (is-listed .ensures) (not-true _ (c .if2 .taken))
+
+add-enter : tie.Need-add-enter Inv-loop μ-loop
+add-enter c =
+    let loop-test = c .before .before .before .before .loop-test in
+    let loop = c .before .before .before .before .before .loop in
+    let pre = c .before .before .before .before .before .before .before .before .before .before .before .pre in
+    omega (arith, loop .inv .few, pre .few, loop-test .taken, pre .counts .last)
 
 enter-requires : tie.Need-enter-requires Inv-loop μ-loop
 enter-requires c κs =
-    let loop = c .before .before .before .before .before .before .before .loop in
-    let pre = c .before .before .before .before .before .before .before .before .before .before .before .before .before .pre in
-    ends-room (pre) ((loop) .inv)
+    let loop = c .before .before .before .before .before .before .before .before .loop in
+    let pre = c .before .before .before .before .before .before .before .before .before .before .before .before .before .before .pre in
+    ends-room pre (loop .inv)
 
-add-count : tie.Need-add-count Inv-loop μ-loop
-add-count c =
-    let loop-test = c .before .before .before .before .before .before .before .before .before .before .before .before .before .loop-test in
-    let loop = c .before .before .before .before .before .before .before .before .before .before .before .before .before .before .loop in
-    let pre = c .before .before .before .before .before .before .before .before .before .before .before .before .before .before .before .before .before .before .before .before .pre in
-    omega (arith, (loop) .inv .few, (pre) .few, (loop-test) .taken, (pre) .counts .last)
+add-entries : tie.Need-add-entries Inv-loop μ-loop
+add-entries c =
+    let loop-test = c .before .before .before .before .before .before .before .before .before .before .before .before .before .before .loop-test in
+    let loop = c .before .before .before .before .before .before .before .before .before .before .before .before .before .before .before .loop in
+    let pre = c .before .before .before .before .before .before .before .before .before .before .before .before .before .before .before .before .before .before .before .before .before .pre in
+    omega (arith, loop .inv .few, loop-test .taken, pre .counts .last)
 
-cast-sum : tie.Need-cast-sum Inv-loop μ-loop
-cast-sum c =
-    let loop-test = c .before .before .before .before .before .before .before .before .before .before .before .before .before .loop-test in
-    let loop = c .before .before .before .before .before .before .before .before .before .before .before .before .before .before .loop in
-    let pre = c .before .before .before .before .before .before .before .before .before .before .before .before .before .before .before .before .before .before .before .before .pre in
-    omega (arith, ends-total (pre) ((loop) .inv) ((loop-test) .taken))
+cast-summed : tie.Need-cast-summed Inv-loop μ-loop
+cast-summed c =
+    let loop-test = c .before .before .before .before .before .before .before .before .before .before .before .before .before .before .loop-test in
+    let loop = c .before .before .before .before .before .before .before .before .before .before .before .before .before .before .before .loop in
+    let pre = c .before .before .before .before .before .before .before .before .before .before .before .before .before .before .before .before .before .before .before .before .before .pre in
+    omega (arith, ends-total pre (loop .inv) (loop-test .taken))
 
-add-sum : tie.Need-add-sum Inv-loop μ-loop
-add-sum c =
-    let loop-test = c .before .before .before .before .before .before .before .before .before .before .before .before .before .loop-test in
-    let loop = c .before .before .before .before .before .before .before .before .before .before .before .before .before .before .loop in
-    let pre = c .before .before .before .before .before .before .before .before .before .before .before .before .before .before .before .before .before .before .before .before .pre in
-    omega (
-      arith,
-      (loop) .inv .small,
-      ends-total (pre) ((loop) .inv) ((loop-test) .taken),
-      (pre) .small,
-      (loop-test) .taken,
-      (pre) .counts .last,
-    )
+add-summed : tie.Need-add-summed Inv-loop μ-loop
+add-summed c =
+    let loop-test = c .before .before .before .before .before .before .before .before .before .before .before .before .before .before .loop-test in
+    let loop = c .before .before .before .before .before .before .before .before .before .before .before .before .before .before .before .loop in
+    let pre = c .before .before .before .before .before .before .before .before .before .before .before .before .before .before .before .before .before .before .before .before .before .pre in
+    omega (arith, loop .inv .small, ends-total pre (loop .inv) (loop-test .taken), loop-test .taken, pre .counts .last)
 
 add-e-2 : tie.Need-add-e-2 Inv-loop μ-loop
 add-e-2 c =
-    let loop-test = c .before .before .before .before .before .before .before .before .before .before .before .before .before .loop-test in
-    let pre = c .before .before .before .before .before .before .before .before .before .before .before .before .before .before .before .before .before .before .before .before .pre in
-    omega (arith, (loop-test) .taken, (pre) .counts .last)
+    let loop-test = c .before .before .before .before .before .before .before .before .before .before .before .before .before .before .loop-test in
+    let pre = c .before .before .before .before .before .before .before .before .before .before .before .before .before .before .before .before .before .before .before .before .before .pre in
+    omega (arith, loop-test .taken, pre .counts .last)
 
 loop-less-2 : tie.Need-loop-less-2 Inv-loop μ-loop
 loop-less-2 c =
-    let loop-test = c .before .before .before .before .before .before .before .before .before .before .before .before .before .loop-test in
-    omega (arith, (loop-test) .taken)
+    let loop-test = c .before .before .before .before .before .before .before .before .before .before .before .before .before .before .loop-test in
+    omega (arith, loop-test .taken)
 
 loop-again-2 : tie.Need-loop-again-2 Inv-loop μ-loop
 loop-again-2 c =
     let enter = c .before .before .before .before .before .before .enter in
-    let if2 = c .before .before .before .before .before .before .before .before .before .before .if2 in
-    let is-listed = c .before .before .before .before .before .before .before .before .before .before .before .is-listed in
-    let loop-test = c .before .before .before .before .before .before .before .before .before .before .before .before .before .loop-test in
-    let loop = c .before .before .before .before .before .before .before .before .before .before .before .before .before .before .loop in
-    let pre = c .before .before .before .before .before .before .before .before .before .before .before .before .before .before .before .before .before .before .before .before .pre in
-    ends-one (pre) ((loop) .inv) ((loop-test) .taken) ((is-listed) .ensures) (not-false _ ((if2) .left))
-    ((enter) .ensures)
+    let if2 = c .before .before .before .before .before .before .before .before .before .before .before .if2 in
+    let is-listed = c .before .before .before .before .before .before .before .before .before .before .before .before .is-listed in
+    let loop-test = c .before .before .before .before .before .before .before .before .before .before .before .before .before .before .loop-test in
+    let loop = c .before .before .before .before .before .before .before .before .before .before .before .before .before .before .before .loop in
+    let pre = c .before .before .before .before .before .before .before .before .before .before .before .before .before .before .before .before .before .before .before .before .before .pre in
+    ends-one pre (loop .inv) (loop-test .taken) (is-listed .ensures) (not-false _ (if2 .left))
+    (enter .ensures)
+
+add-t31 : tie.Need-add-t31 Inv-loop μ-loop
+add-t31 c =
+    let loop = c .before .before .loop in
+    let pre = c .before .before .before .before .before .before .before .before .pre in
+    omega (arith, loop .inv .few, loop .inv .to, pre .few, pre .counts .last)
+
+add-t32 : tie.Need-add-t32 Inv-loop μ-loop
+add-t32 c =
+    let loop = c .before .before .before .loop in
+    let pre = c .before .before .before .before .before .before .before .before .before .pre in
+    omega (arith, loop .inv .small, loop .inv .to, pre .small, pre .counts .last)
 
 same-length : tie.Need-same-length Inv-loop μ-loop
 same-length c =
-    let loop = c .before .loop in
-    (loop) .inv .lengths .starts
+    let loop = c .before .before .before .loop in
+    loop .inv .lengths .starts
 
 same-length-2 : tie.Need-same-length-2 Inv-loop μ-loop
 same-length-2 c =
-    let loop = c .before .loop in
-    (loop) .inv .lengths .ends
+    let loop = c .before .before .before .loop in
+    loop .inv .lengths .ends
 
 same-length-3 : tie.Need-same-length-3 Inv-loop μ-loop
 same-length-3 c =
-    let loop = c .before .loop in
-    (loop) .inv .lengths .rows
+    let loop = c .before .before .before .loop in
+    loop .inv .lengths .rows
 
 returns-2 : tie.Need-returns-2 Inv-loop μ-loop
 returns-2 c =
-    let loop = c .before .loop in
-    let pre = c .before .before .before .before .before .before .before .pre in
-    ends-end (pre) ((loop) .inv) (c .loop-test .left)
+    let loop = c .before .before .before .loop in
+    let pre = c .before .before .before .before .before .before .before .before .before .pre in
+    ends-end pre (loop .inv) (c .before .before .loop-test .left)
 
 pub list-ends-spec : {M : Type 1} → statement M
 list-ends-spec =
     tie.close
     (
-    tie.spec Inv-loop μ-loop returns loop-holds cast-added mul-added shared-slice-read-added add-total
-    is-listed-requires add-e loop-less loop-again enter-requires add-count cast-sum add-sum add-e-2 loop-less-2
-    loop-again-2 same-length same-length-2 same-length-3 returns-2
-    )
+    tie.spec Inv-loop μ-loop returns loop-holds cast-added mul-added shared-slice-read-added add-total is-listed-requires add-e loop-less loop-again add-enter enter-requires add-entries cast-summed add-summed add-e-2 loop-less-2 loop-again-2 add-t31 add-t32 same-length same-length-2 same-length-3 returns-2)
