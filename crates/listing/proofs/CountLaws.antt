@@ -29,7 +29,7 @@ use Rattle.rings.proofs.ListLaws.{filterBy-yes, filterBy-no, mem-filterBy, filt
 use Rattle.rings.proofs.ListLaws.{pair-filterBy, pair-map, pair-weaken, pair-unique}
 use Rattle.rings.proofs.PeelLaws.{members-length}
 use Rattle.rings.proofs.RingLaws.{ring-sized}
-use Rattle.rings.proofs.WindowLaws.{OfRange, Earlier, windows-e, windows-i, windows-order}
+use Rattle.rings.proofs.RangeLaws.{OfRange, Earlier, windows-e, windows-i, windows-order}
 use Rattle.listing.specs.Tight.{nonempty, tightest, tight}
 use Rattle.listing.specs.Listing.{ListedRing, entryOf, listing, rowSum}
 use Rattle.listing.specs.Distinct.{sameRows, distinct, ringsOf, distinctRings}

@@ -27,7 +27,7 @@ use Rattle.rings.proofs.WordLaws.{and-i, or-l, or-r, count-pos, length-tabulate
 use Rattle.rings.proofs.ListLaws.{filterBy-yes}
 use Rattle.rings.proofs.PeelLaws.{within-refl}
 use Rattle.rings.proofs.RingLaws.{Inside, window-i, touch-cases, met-e, neighbour-i, ring-holds, in-marked}
-use Rattle.rings.proofs.WindowLaws.{OfRange, windows-e}
+use Rattle.rings.proofs.RangeLaws.{OfRange, windows-e}
 use Rattle.rings.proofs.CheckLaws.{order-accepted}
 use Rattle.listing.specs.Tight.{tight}
 use Rattle.listing.specs.Listing.{entryOf, listing}

@@ -19,7 +19,7 @@ use Rattle.rings.specs.Inner.Settling.{value, backing, backers, RowsScan
 use Rattle.rings.specs.declared.Query.{Query}
 use Rattle.rings.proofs.WordLaws.{true-or-false, count-mono}
 use Rattle.rings.proofs.FixpointLaws.{enough}
-use Rattle.rings.proofs.ScanLaws.{backing-e, backing-i, backers-are}
+use Rattle.rings.proofs.BackerLaws.{backing-e, backing-i, backers-are}
 
 module _ (t : Table) (q : Query) (s hi lo : ℕ) (S : Setting t q s hi lo) (x : ℕ → ℕ) where
   -- ---- from day to day

@@ -2,8 +2,6 @@
 --     moving-e, moving-i      a row of u that comes in by c
 --     rise-scanned-start, rise-scanned-next, rise-scanned-out, rise-scanned-stop       the rows of u, one after the other
 --     RiseScanning, as-day-scan, rise-scan-start, rise-scan-out, rise-scan-few, rise-scan-over, rise-scan-next     the walk of `scan_for_rise` in the adjacency
---     DroppingListed, dropping-listed-start, dropping-listed-next, dropping-listed-end       the loop of `drop_listed_supporters`
---     rise-scanned-dropped-supported       who is listed is who loses u by the rise
 --     Moved     what a row that moves with u says
 -- Assumes nothing.
 use Prim.Native.Nat.{ℕ, max, _+_, _-_, _≤_, _<_}
@@ -25,22 +23,20 @@ use Rattle.rings.specs.CoreTimes.{never}
 use Rattle.rings.specs.Inner.Choice.{Picked}
 use Rattle.rings.specs.Inner.Adjacency.{otherOf, pairCounts, leads, Reading, Every}
 use Rattle.rings.specs.Inner.Incident.{RowRead}
-use Rattle.rings.specs.Inner.Peeling.{Setting, ReadyPruned, Place, estimate}
+use Rattle.rings.specs.Inner.Peeling.{ReadyPruned, Place, estimate}
 use Rattle.rings.specs.declared.frame.Frame.{Frame}
 use Rattle.rings.specs.declared.incident.Incident.{Incident}
 use Rattle.rings.specs.Inner.Settling.{value, moving, Days, RowsScanned, RowNoted, Behind, RiseScanned}
-use Rattle.rings.specs.Inner.Settling.{DroppedSupporter, DroppedListed, DroppedSupported, Queued}
-use Rattle.rings.specs.declared.Query.{Query}
-use Rattle.rings.proofs.WordLaws.{true-or-false, and-i, and-l, and-r, count-le, count-none, sucIf-yes, sucIf-no, same-or}
-use Rattle.rings.proofs.PairLaws.{other-apart}
-use Rattle.rings.proofs.LeadLaws.{counts-from, counts-here, lead-counts, lead-from}
-use Rattle.rings.proofs.PeelStateLaws.{estimate-at, other-small}
+use Rattle.rings.proofs.WordLaws.{true-or-false, and-i, and-l, and-r, count-le, count-none, sucIf-yes}
+use Rattle.rings.proofs.WordLaws.{sucIf-no, same-or}
+use Rattle.rings.proofs.LeadLaws.{counts-from, counts-here, lead-from}
+use Rattle.rings.proofs.PeelStateLaws.{estimate-at}
 use Rattle.rings.proofs.PrunedLaws.{reading-out, reading-from, reading-gap, reading-next}
 use Rattle.rings.proofs.CountingLaws.{count-past}
 use Rattle.rings.proofs.ChoiceLaws.{picked-most}
 use Rattle.rings.proofs.DayScanLaws.{both, DayScanning}
 use Rattle.rings.proofs.ScanLaws.{scanned-start, scanned-note, scanned-idle}
-use Rattle.rings.proofs.SupporterLaws.{at-place, in-list, dropped-supporter-less, dropped-supporter-on, queued-start, queued-dropped-supporter}
+use Rattle.rings.proofs.SupporterLaws.{at-place, in-list}
 
 -- ---- the rows of u, one after the other
 
@@ -366,96 +362,3 @@ module _ (d f g scratch : List ℕ) (r : Frame) (R : ReadyPruned d f g scratch r
                         ∙ G .behind .front i h);
                   };
             }
-
--- ---- who is listed loses a supporter
-
--- the accounts before place p of the list have lost one; the queue ends at `end`, and from p on the list is as it was
-pub record DroppingListed (tail : ℕ) (sp₀ ws₀ : List ℕ) (p end : ℕ) (sp ws : List ℕ) : Type 0 where
-  pub behind : end ≤ p
-  pub queued : Queued tail sp₀ ws₀ end sp ws
-  pub fewer : DroppedListed tail p ws₀ sp₀ sp
-  pub rest : (i : ℕ) → p ≤ i → getD ws i 0 ≡ getD ws₀ i 0
-
-pub dropping-listed-start : (tail : ℕ) (sp ws : List ℕ) → length sp ≡ 4096 → length ws ≡ 4352 → DroppingListed tail sp ws tail tail sp ws
-dropping-listed-start tail sp ws l m =
-    record {
-      behind = le-refl tail;
-      queued = queued-start tail sp ws m;
-      fewer = record { long = l; less = λ w. le-refl (getD sp w 0); each = λ i a b. absurd (omega arith) };
-      rest = λ i h. refl;
-    }
-
-pub dropping-listed-next : {tail p end end′ v : ℕ} {sp₀ ws₀ sp ws sp′ ws′ : List ℕ}
-    → DroppingListed tail sp₀ ws₀ p end sp ws
-    → p < 4352
-    → v ≡ getD ws p 0
-    → v < 4096
-    → DroppedSupporter true v end sp ws sp′ ws′ end′
-    → DroppingListed tail sp₀ ws₀ (p + 1) end′ sp′ ws′
-dropping-listed-next {p = p} {end = end} {v = v} {sp₀ = sp₀} {ws₀ = ws₀} {ws = ws} {sp′ = sp′} Z here ev small L =
-    let o = Z .behind in
-    let D = dropped-supporter-less small (Z .fewer .long) L in
-    record {
-      behind = let h = dropped-supporter-on L in omega arith;
-      queued = queued-dropped-supporter small (omega arith) (Z .fewer .long) (Z .queued) L;
-      fewer =
-          record {
-            long = D .long;
-            less = λ w. le-trans (D .down w) (Z .fewer .less w);
-            each = λ i a b.
-                ⊎-elim (λ e.
-                let h : getD ws₀ i 0 ≡ v = at-place ws₀ e ∙ (sym (Z .rest p (le-refl p)) ∙ sym ev) in
-                let k = at-place sp′ h in
-                let m = at-place sp₀ h in
-                let n = D .one refl in
-                let c = Z .fewer .less v in
-                omega arith)
-                (λ l. let h = Z .fewer .each i a l in let k = D .down (getD ws₀ i 0) in omega arith) (eq-or-lt-of-le (let r : i ≤ p = omega arith in r));
-          };
-      rest = λ i h. in-list i (L .queued) ∙ (getD-set-other ws end i v 0 (λ e. omega arith) ∙ Z .rest i (omega arith));
-    }
-
-pub dropping-listed-end : {tail p upto end : ℕ} {sp₀ ws₀ sp ws : List ℕ}
-    → DroppingListed tail sp₀ ws₀ p end sp ws
-    → upto ≤ p
-    → DroppedListed tail upto ws₀ sp₀ sp
-dropping-listed-end Z h = record { long = Z .fewer .long; less = Z .fewer .less; each = λ i a b. Z .fewer .each i a (omega arith) }
-
--- ---- and is who loses u by the rise
-
-pub rise-scanned-dropped-supported : (t : Table) (q : Query) (s hi lo : ℕ)
-    → Setting t q s hi lo
-    → (xs : List ℕ) → length xs ≡ 4096
-    → Days hi xs
-    → {u c new moved tail end : ℕ} {ws ws₁ sp sp′ : List ℕ}
-    → new ≤ never
-    → RiseScanned t (estimate xs) lo hi c u (size t) new moved tail end ws
-    → ((i : ℕ) → tail ≤ i → getD ws₁ i 0 ≡ getD ws i 0)
-    → DroppedListed tail end ws₁ sp sp′
-    → DroppedSupported t (estimate (set xs u new)) lo u (size t) c new sp sp′
-unfolding estimate value
-rise-scanned-dropped-supported t q s hi lo S xs len D {u} {c} {new} {tail = tail} {end = end} {ws = ws} {ws₁ = ws₁} {sp = sp} {sp′ = sp′} top G same F =
-    record { long = F .long; less = F .less; dropped = λ j l f h a b k. let e = same-time j l h in loses j l f h (omega arith) (omega arith) (omega arith) }
-  where
-    same-time : (j : ℕ) → j < size t → touches t j u ≡ true → estimate (set xs u new) (otherOf t j u) ≡ estimate xs (otherOf t j u)
-    same-time j l h = getD-set-other xs u (otherOf t j u) new never (other-apart t j u (S .accounts j l) h)
-
-    taken : {v : ℕ} → Place ws tail end v → getD sp′ v 0 ≤ getD sp v 0 - 1
-    taken {v} P =
-        let e : getD ws₁ (P .place) 0 ≡ v = same (P .place) (P .from) ∙ P .is in
-        let m = F .each (P .place) (P .from) (P .below) in let n = at-place sp′ e in let o = at-place sp e in omega arith
-
-    loses : (j : ℕ)
-        → j < size t
-        → leads t lo j ≡ true
-        → touches t j u ≡ true
-        → c ≤ estimate xs (otherOf t j u)
-        → dayOf t j ≤ estimate xs (otherOf t j u)
-        → estimate xs (otherOf t j u) < new
-        → getD sp′ (otherOf t j u) 0 ≤ getD sp (otherOf t j u) 0 - 1
-    loses j l f h a b k =
-        let v = other-small t q s hi lo S j u l h in
-        let g = estimate-at xs (otherOf t j u) len v in
-        let day : dayOf t j ≤ hi = ⊎-elim (λ y. omega arith) (λ y. absurd (omega arith)) (D (otherOf t j u) v) in
-        let same-day : estimate xs (otherOf t j u) ≡ c = ⊎-elim (λ y. omega arith) (λ y. absurd (omega arith)) (G .apart j (lead-counts t lo j f) l h day) in
-        taken (G .loses j l f h same-day (omega arith))

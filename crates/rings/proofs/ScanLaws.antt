@@ -1,105 +1,29 @@
 -- A scan of an account (src/scan.rt): why the day that it finds is the least with k supporters.
---     backing-e, backing-i, backers-are     the rows that back u, each the first of its pair, are as many as its supporters
 --     scanned-start, scanned-not-lead, scanned-idle, scanned-note, scanned-count, scanned-stop, scanned-out     the rows of u as they stand on a day
---     Backed, backers-yes, backers-no     a row that supports u, and how many do
+--     backers-yes, backers-no     one row more, and how many back u
 -- Assumes nothing.
 use Prim.Native.Nat.{ℕ, zero, suc, _+_, _-_, _≤_, _<_}
-use native.Mathlib.Nat.{le-refl, le-trans, le-antisymm, eq-or-lt-of-le}
+use native.Mathlib.Nat.{le-refl, le-trans, eq-or-lt-of-le}
 use native.Mathlib.Numerals.{add-one}
 use native.Mathlib.Omega.{arith}
 use mathlib.Core.Path.{_≡_, refl, sym, _∙_, ap, subst}
 use mathlib.Core.Logic.{_⊎_, ⊎-elim}
 use mathlib.Core.Bool.{true, false}
 use lib.Dec.{leb}
-use borrow.Author.Tests.{leb-true, leb-false, le-leb}
-use Rattle.rings.specs.Words.{_and_, sucIf, count}
+use borrow.Author.Tests.{leb-true, leb-false}
+use Rattle.rings.specs.Words.{sucIf, count}
 use Rattle.rings.specs.Table.{Table, size, dayOf}
-use Rattle.rings.specs.Ring.{joins, names, touches}
+use Rattle.rings.specs.Ring.{touches}
 use Rattle.rings.specs.CoreTimes.{never}
 use Rattle.rings.specs.Inner.Adjacency.{otherOf, leads}
-use Rattle.rings.specs.Inner.Support.{supports, supporters}
 use Rattle.rings.specs.Inner.Peeling.{Setting}
 use Rattle.rings.specs.Inner.Settling.{value, backing, backers, RowsScanned, RowNoted}
 use Rattle.rings.specs.declared.Query.{Query}
-use Rattle.rings.proofs.WordLaws.{true-or-false, clash, and-i, and-l, and-r, count-mono, count-none, sucIf-yes, sucIf-no}
-use Rattle.rings.proofs.RingLaws.{joins-touch}
-use Rattle.rings.proofs.PairLaws.{count-inject, joins-other, joins-same}
-use Rattle.rings.proofs.LeadLaws.{lead-from, lead-one, lead-opens, open-lead}
-use Rattle.rings.proofs.FixpointLaws.{supports-e, supports-i}
-use Rattle.rings.proofs.OthersLaws.{touch-named}
-
--- ---- rows and supporters
+use Rattle.rings.proofs.WordLaws.{true-or-false, clash, count-mono, count-none, sucIf-yes, sucIf-no}
+use Rattle.rings.proofs.LeadLaws.{lead-from}
+use Rattle.rings.proofs.BackerLaws.{backing-e, backing-i}
 
 module _ (t : Table) (q : Query) (s hi lo : ℕ) (S : Setting t q s hi lo) (x : ℕ → ℕ) where
-  pub record Backed (c u j : ℕ) : Type 0 where
-    pub is-lead : leads t lo j ≡ true
-    pub touch : touches t j u ≡ true
-    pub by : value t x j u ≤ c
-
-  pub backing-e : (c u j : ℕ) → backing t x lo c u j ≡ true → Backed c u j
-  unfolding backing
-  backing-e c u j h =
-      let b = and-r (leads t lo j) (touches t j u and leb (value t x j u) c) h in
-      record {
-        is-lead = and-l (leads t lo j) (touches t j u and leb (value t x j u) c) h;
-        touch = and-l (touches t j u) (leb (value t x j u) c) b;
-        by = leb-true (value t x j u) c (and-r (touches t j u) (leb (value t x j u) c) b);
-      }
-
-  pub backing-i : (c u j : ℕ) → Backed c u j → backing t x lo c u j ≡ true
-  unfolding backing
-  backing-i c u j b = and-i (b .is-lead) (and-i (b .touch) (le-leb (value t x j u) c (b .by)))
-
-  value-le : (c u v j : ℕ) → j < size t → joins t j u v ≡ true → x v ≤ c → dayOf t j ≤ c → value t x j u ≤ c
-  unfolding value
-  value-le c u v j l h a b =
-      let e : otherOf t j u ≡ v = joins-same t j u (otherOf t j u) v (joins-other t j u (S .accounts j l) (joins-touch t j u v h .0)) h in
-      let f : x (otherOf t j u) ≡ x v = ap x e in omega arith
-
-  pub backers-are : (c u : ℕ) → backers t x lo c u (size t) ≡ supporters t x s c u
-  unfolding backers supporters value
-  backers-are c u =
-      le-antisymm
-      (count-inject (backing t x lo c u) (size t) (supports t x s c u) (names t) (λ j v. (leads t lo j ≡ true) × (joins t j u v ≡ true))
-      (λ j l h.
-      let b = backing-e c u j h in
-      let jn = joins-other t j u (S .accounts j l) (b .touch) in
-      let y = b .by in
-      record {
-        it = otherOf t j u;
-        below = touch-named t j (otherOf t j u) (joins-touch t j u (otherOf t j u) jn .1);
-        has =
-            supports-i t x s c u (otherOf t j u)
-            (record {
-              row = j;
-              below = l;
-              join = jn;
-              opens = lead-opens t q s hi lo S j c l (b .is-lead) (omega arith);
-              other = omega arith;
-            });
-        to = (b .is-lead, jn);
-      })
-      (λ i i′ v p p′. lead-one t lo i i′ u v (p .0) (p′ .0) (p .1) (p′ .1)))
-      (count-inject (supports t x s c u) (names t) (backing t x lo c u) (size t) (λ v j. joins t j u v ≡ true)
-      (λ v l h.
-      let b = supports-e t x s c u v h in
-      let f = open-lead t q s hi lo S (b .row) u v c (b .below) (b .join) (b .opens) in
-      record {
-        it = f .row;
-        below = f .below;
-        has =
-            backing-i c u (f .row)
-            (record {
-              is-lead = f .is-lead;
-              touch = joins-touch t (f .row) u v (f .join) .0;
-              by = value-le c u v (f .row) (f .below) (f .join) (b .other) (f .by);
-            });
-        to = f .join;
-      })
-      (λ v v′ j p p′. joins-same t j u v v′ p p′))
-
-  -- ---- a scan of u
-
   pub backers-yes : (c u b : ℕ) → backing t x lo c u b ≡ true → backers t x lo c u (suc b) ≡ suc (backers t x lo c u b)
   unfolding backers count
   backers-yes c u b h = sucIf-yes (count (backing t x lo c u) b) h
@@ -129,7 +53,7 @@ module _ (t : Table) (q : Query) (s hi lo : ℕ) (S : Setting t q s hi lo) (x : 
   gap-not c u j h gap =
       ⊎-elim
       (λ y.
-      let w = backing-e c u j y in
+      let w = backing-e t q s hi lo S x c u j y in
       let b = w .by in
       let a = lead-from t lo j (w .is-lead) in
       ⊎-elim (λ z. absurd (omega arith)) (λ z. absurd (omega arith)) (gap (w .touch)))
@@ -149,7 +73,7 @@ module _ (t : Table) (q : Query) (s hi lo : ℕ) (S : Setting t q s hi lo) (x : 
       (eq-or-lt-of-le h)
 
   not-backing : (c u j : ℕ) {z : ℕ} → c < z → z ≡ value t x j u → backing t x lo c u j ≡ false
-  not-backing c u j h e = ⊎-elim (λ y. let v = backing-e c u j y .by in absurd (omega arith)) (λ y. y) (true-or-false (backing t x lo c u j))
+  not-backing c u j h e = ⊎-elim (λ y. let v = backing-e t q s hi lo S x c u j y .by in absurd (omega arith)) (λ y. y) (true-or-false (backing t x lo c u j))
 
   module _ {c u b n above more : ℕ} (W : RowsScanned t x lo hi c u b n above more) where
     above-most : above ≤ never
@@ -207,7 +131,7 @@ module _ (t : Table) (q : Query) (s hi lo : ℕ) (S : Setting t q s hi lo) (x : 
           }
         where
           not-lead : (a : ℕ) → backing t x lo a u j ≡ false
-          not-lead a = ⊎-elim (λ y. clash (backing-e a u j y .is-lead) f) (λ y. y) (true-or-false (backing t x lo a u j))
+          not-lead a = ⊎-elim (λ y. clash (backing-e t q s hi lo S x a u j y .is-lead) f) (λ y. y) (true-or-false (backing t x lo a u j))
 
       passes-as : {n′ above′ more′ : ℕ} → leads t lo j ≡ false → n′ ≡ n → above′ ≡ above → more′ ≡ more → RowsScanned t x lo hi c u (j + 1) n′ above′ more′
       passes-as {n′} {above′} {more′} f en ea em =
@@ -239,8 +163,8 @@ module _ (t : Table) (q : Query) (s hi lo : ℕ) (S : Setting t q s hi lo) (x : 
       backs-on a h =
           let e = flat in
           let m = count-mono (backing t x lo c u) (backing t x lo a u) j
-          (λ i l y. let b = backing-e c u i y in
-          backing-i a u i (record { is-lead = b .is-lead; touch = b .touch; by = le-trans (b .by) h })) in
+          (λ i l y. let b = backing-e t q s hi lo S x c u i y in
+          backing-i t q s hi lo S x a u i (record { is-lead = b .is-lead; touch = b .touch; by = le-trans (b .by) h })) in
           omega arith
 
       -- or its own value does, and the row does not count
@@ -275,7 +199,7 @@ module _ (t : Table) (q : Query) (s hi lo : ℕ) (S : Setting t q s hi lo) (x : 
         backs-from a h =
             ap (backers t x lo a u) (add-one j)
             ∙ backers-yes a u j
-            (backing-i a u j (record { is-lead = f; touch = g; by = subst (λ (w : ℕ). w ≤ a) ez h }))
+            (backing-i t q s hi lo S x a u j (record { is-lead = f; touch = g; by = subst (λ (w : ℕ). w ≤ a) ez h }))
 
         backs-not : (a : ℕ) → a < z → backers t x lo a u (j + 1) ≡ backers t x lo a u j
         backs-not a h = ap (backers t x lo a u) (add-one j) ∙ backers-no a u j (not-backing a u j h ez)
@@ -372,7 +296,7 @@ module _ (t : Table) (q : Query) (s hi lo : ℕ) (S : Setting t q s hi lo) (x : 
               (λ o. backers-no c u m
               (⊎-elim
               (λ y.
-              let v = backing-e c u m y .by in
+              let v = backing-e t q s hi lo S x c u m y .by in
               let z = late m (omega arith) (omega arith) in
               absurd (omega arith))
               (λ y. y) (true-or-false (backing t x lo c u m)))
@@ -420,7 +344,7 @@ module _ (t : Table) (q : Query) (s hi lo : ℕ) (S : Setting t q s hi lo) (x : 
       record {
         counted =
             sym (count-none (backing t x lo c u) lo
-            (λ i l. ⊎-elim (λ y. let a = lead-from t lo i (backing-e c u i y .is-lead) in absurd (omega arith))
+            (λ i l. ⊎-elim (λ y. let a = lead-from t lo i (backing-e t q s hi lo S x c u i y .is-lead) in absurd (omega arith))
             (λ y. y) (true-or-false (backing t x lo c u i))));
         rises = h;
         none-between = λ j l f k. let a = lead-from t lo j f in absurd (omega arith);

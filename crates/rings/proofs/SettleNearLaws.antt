@@ -25,9 +25,9 @@ use Rattle.rings.proofs.PeelStateLaws.{estimate-at}
 use Rattle.rings.proofs.FindDayLaws.{few-start, find-day-next, find-day-found, find-day-near, short-start, short-next}
 use Rattle.rings.proofs.SupporterLaws.{in-list}
 use Rattle.rings.proofs.PrunedLaws.{every-rise}
-use Rattle.rings.proofs.CountingLaws.{Moves, moving-asks, moving-hist}
+use Rattle.rings.proofs.MovingLaws.{Moves, moving-asks, moving-hist}
 use Rattle.rings.proofs.ShiftLaws.{rise-moves}
-use Rattle.rings.proofs.RiseScanLaws.{rise-scanned-dropped-supported}
+use Rattle.rings.proofs.ListedLaws.{rise-scanned-dropped-supported}
 use Rattle.rings.proofs.SettleLaws.{account-same, account-rise}
 
 -- what is written behind the queue changes nothing

@@ -30,7 +30,7 @@ use Rattle.rings.proofs.FixpointLaws.{supports-e, supports-i, Closed, e
 use Rattle.rings.proofs.CoreTimeLaws.{account-time}
 use Rattle.rings.proofs.CoreTimeLaws as core-time
 use Rattle.rings.proofs.PeelStateLaws.{estimate-at, estimate-far, touch-small}
-use Rattle.rings.proofs.ScanLaws.{backing-e, backing-i, backers-are}
+use Rattle.rings.proofs.BackerLaws.{backing-e, backing-i, backers-are}
 use Rattle.rings.proofs.SettleLaws.{count-split}
 
 -- ---- the first and the last of a start

@@ -1,13 +1,13 @@
 -- The day counts while an account rises (src/supporters.rt, drop_supported): each of its rows whose time moves is
 -- taken off its day, and counted on the new one at last.
---     mixed                   the times of the rows below b after the rise, of the others before it
+--     mixed, mixed-below, mixed-from
+--                              the times of the rows below b after the rise, of the others before it
 --     shift-start, shift-asks, shift-row, shift-all             the rows of u, one after the other: each keeps its time or moves to the new one
 --     Shift, rise-start, rise-asks, rise-row, rise-all          the same in the state of the loop
---     drop-from, drop-start, drop-asks, drop-next, drop-end     the rows of the first day leave
 --     shift-moves, rise-moves                                   all of them at once, where none comes in between
 -- Assumes nothing.
 use Prim.Native.Nat.{ℕ, max, _+_, _-_, _≤_, _<_}
-use native.Mathlib.Nat.{le-refl, eq-or-lt-of-le}
+use native.Mathlib.Nat.{eq-or-lt-of-le}
 use native.Mathlib.Omega.{arith}
 use mathlib.Core.Path.{_≡_, sym, _∙_, ap, subst}
 use mathlib.Core.Logic.{_⊎_, ⊎-elim}
@@ -17,34 +17,32 @@ use lib.ListN.{length, getD, set, length-set}
 use lib.Seq.{getD-set-same, getD-set-other}
 use lib.Dec.{ltb}
 use borrow.Author.Tests.{ltb-true, ltb-false, lt-ltb, le-ltb}
-use Rattle.rings.specs.Words.{at}
-use Rattle.rings.specs.Table.{Table, tableOf, size, dayOf, firstOf, secondOf, Split}
+use Rattle.rings.specs.Table.{Table, size, dayOf, firstOf, secondOf}
 use Rattle.rings.specs.Ring.{touches}
-use Rattle.rings.specs.CoreTimes.{never, rowTime}
+use Rattle.rings.specs.CoreTimes.{never}
 use Rattle.rings.specs.Inner.Adjacency.{otherOf, pairCounts, openDay, opensBy}
-use Rattle.rings.specs.Inner.Peeling.{Setting, frameOf, estimate, CoreTimesAre}
+use Rattle.rings.specs.Inner.Peeling.{Setting, estimate}
 use Rattle.rings.specs.Inner.Settling.{value, moving, RiseScanned}
-use Rattle.rings.specs.Inner.Counting.{timeBy, Histogram, PendingHistogram, Removing, Taking, CountsBeforeRise, RemoveAsks, TakeAsks}
+use Rattle.rings.specs.Inner.Counting.{timeBy, Histogram, PendingHistogram, Taking, CountsBeforeRise, TakeAsks}
 use Rattle.rings.specs.declared.Query.{Query}
 use Rattle.rings.proofs.WordLaws.{true-or-false, clash, same-or}
 use Rattle.rings.proofs.RingLaws.{touch-cases, touch-first, touch-second}
 use Rattle.rings.proofs.PairLaws.{other-first, other-second}
 use Rattle.rings.proofs.LeadLaws.{Opens, counts-from, counts-here, open-is}
-use Rattle.rings.proofs.CoreTimeLaws.{row-before}
 use Rattle.rings.proofs.PeelStateLaws.{estimate-at}
 use Rattle.rings.proofs.RiseScanLaws.{moving-e, moving-i}
-use Rattle.rings.proofs.CountingLaws.{Moves, by-in, by-out, by-core, by-later, is-time, hist-same, hist-has}
-use Rattle.rings.proofs.CountingLaws.{hist-drop, pending-start, pending-same, pending-has, pending-move}
+use Rattle.rings.proofs.CountingLaws.{by-in, by-out, pending-start, pending-same, pending-has, pending-move}
+use Rattle.rings.proofs.MovingLaws.{Moves}
 
 unfoldable pub mixed : (ℕ → ℕ) → (ℕ → ℕ) → ℕ → ℕ → ℕ
 mixed g g′ b j = elim (ltb j b) [ true ↦ g′ j | false ↦ g j ]
 
 module _ (g g′ : ℕ → ℕ) where
-  mixed-below : (b j : ℕ) → j < b → mixed g g′ b j ≡ g′ j
+  pub mixed-below : (b j : ℕ) → j < b → mixed g g′ b j ≡ g′ j
   unfolding mixed
   mixed-below b j h = ap (λ (c : Bool). elim c [ true ↦ g′ j | false ↦ g j ]) (lt-ltb j b h)
 
-  mixed-from : (b j : ℕ) → b ≤ j → mixed g g′ b j ≡ g j
+  pub mixed-from : (b j : ℕ) → b ≤ j → mixed g g′ b j ≡ g j
   unfolding mixed
   mixed-from b j h = ap (λ (c : Bool). elim c [ true ↦ g′ j | false ↦ g j ]) (le-ltb j b h)
 
@@ -352,71 +350,3 @@ module _ (t : Table) (q : Query) (s hi lo : ℕ) (S : Setting t q s hi lo) (u ol
           let Y = shift-row t q s hi lo S (estimate (Z .was)) (estimate xs) u old new a c n (Z .up)
           (Z .few, Z .pending) from l k gap day soon (Z .top) ez et yes not (Z .day) dz dn T in
           record { was = Z .was; long = Z .long; then = Z .then; from = Z .from; up = Z .up; day = Z .day; top = Z .top; few = Y .0; pending = Y .1 }
-
--- ---- the rows dated s leave
-
-module _ (d f g : List ℕ) (q : Query) (s te lo : ℕ) (S : Setting (tableOf d f g) q s te lo) {xs : List ℕ}
-    (C : CoreTimesAre d f g (frameOf q s te lo) xs) {next : ℕ} (N : Split d (s + 1) next) where
-  abbrev ts : Table
-  ts = tableOf d f g
-
-  abbrev at-s : ℕ → ℕ
-  at-s = rowTime ts q te s
-
-  abbrev later : ℕ → ℕ
-  later = timeBy ts (estimate xs) (s + 1) te
-
-  gone : (j : ℕ) → j < next → later j ≡ never
-  unfolding dayOf at
-  gone j h = by-out ts (estimate xs) (s + 1) te j (_⊎_.inl (N .before j h))
-
-  -- the rows before s are among those that have left
-  pub drop-from : lo ≤ length d → lo ≤ next
-  unfolding dayOf at
-  drop-from w =
-      ⊎-elim
-      (λ y.
-      let h = ltb-true next lo y in
-      let a = S .before-lo next h in
-      let b = N .after next (le-refl next) (omega arith) in
-      absurd (omega arith))
-      (λ y. ltb-false next lo y) (true-or-false (ltb next lo))
-
-  -- the rows below j have left
-  abbrev Dropping : ℕ → List ℕ → Type 0
-  Dropping j counts = Histogram (mixed at-s later j) (length d) counts
-
-  pub drop-start : lo ≤ next → {counts : List ℕ} → Histogram at-s (length d) counts → Dropping lo counts
-  drop-start up =
-      hist-same (λ i l. ⊎-elim
-      (λ y. let h = ltb-true i lo y in
-      mixed-below at-s later lo i h ∙ (gone i (omega arith) ∙ sym (row-before ts q te s i (S .before-lo i h))))
-      (λ y. mixed-from at-s later lo i (ltb-false i lo y)) (true-or-false (ltb i lo)))
-
-  module _ {j : ℕ} (h : j < next) (top : te ≤ 1024) {v : ℕ} (e : v ≡ at-s j) {counts : List ℕ} (D : Dropping j counts) where
-    here : j < length d
-    here = let a = N .within in omega arith
-
-    is : v ≡ mixed at-s later j j
-    is = e ∙ sym (mixed-from at-s later j j (le-refl j))
-
-    pub drop-asks : RemoveAsks v counts
-    drop-asks = hist-has D here is (is-time ts q te s j top e)
-
-    pub drop-next : {counts′ : List ℕ} → Removing v counts counts′ → Dropping (j + 1) counts′
-    drop-next =
-        hist-drop D here is (is-time ts q te s j top e) (mixed-below at-s later (j + 1) j (omega arith) ∙ gone j h)
-        (λ a n. ⊎-elim (λ y. let l = ltb-true a j y in mixed-below at-s later (j + 1) a (omega arith) ∙ sym (mixed-below at-s later j a l))
-        (λ y. let l = ltb-false a j y in
-        mixed-from at-s later (j + 1) a (⊎-elim (λ o. absurd (n (sym o))) (λ o. omega arith) (eq-or-lt-of-le l))
-        ∙ sym (mixed-from at-s later j a l))
-        (true-or-false (ltb a j)))
-
-  pub drop-end : {j : ℕ} → next ≤ j → {counts : List ℕ} → Dropping j counts → Histogram later (length d) counts
-  unfolding dayOf at
-  drop-end {j} h =
-      hist-same (λ i l. ⊎-elim (λ y. sym (mixed-below at-s later j i (ltb-true i j y)))
-      (λ y. let o = ltb-false i j y in
-      by-later ts (estimate xs) s te i (N .after i (omega arith) l)
-      ∙ (by-core d f g q s te lo S C i l ∙ sym (mixed-from at-s later j i o)))
-      (true-or-false (ltb i j)))

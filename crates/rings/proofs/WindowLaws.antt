@@ -2,14 +2,13 @@
 --     minimal-e, minimal-i          the test `minimal` says what `IsMinimal` says
 --     times-of-minimal, minimal-of-times    [s, e] is a minimal window of a row exactly if e is the row's time at s and not its time at s + 1 (001, Lemma 2)
 --     inner-minimal, minimal-inner          a row is in the ring of [s, e] exactly if a minimal window of it lies inside (001, Lemma 3)
---     windows-e, windows-i, windows-order   the windows of a range
 --     before-strict, of-row-e, of-row-i, row-order    the minimal windows of one row, and their order
 --     ends-rise                     of two entries of one row the later start has the later end: what 14 asks beyond the order
 --     list-is, list-only            `minimalWindows` holds exactly the minimal windows of the range, in order, and is the only such list
 --     recalled-e, recalled-i        the test `recalled` says what `ListedInside` says
 --     inside-ring, ring-inside      a row is in the ring of a window of the range exactly if an entry of such a list lies inside
 --     recall-ring                   so recall from such a list marks the ring of every window inside the range
---     Smaller, Inner, OfRange, Earlier     a smaller window; a minimal one inside; a window of the range; the order by start, then end
+--     Smaller, Inner     a smaller window; a minimal one inside
 -- Assumes nothing.
 use Prim.Native.Nat.{ℕ, zero, suc, _-_, _≤_, _<_}
 use native.Mathlib.Nat.{le-refl, le-trans, eq-or-lt-of-le}
@@ -24,15 +23,17 @@ use Rattle.rings.specs.Words.{_and_, no, every, tabulate, filterBy, Pair
 use Rattle.rings.specs.Table.{Table, size}
 use Rattle.rings.specs.Ring.{inRing}
 use Rattle.rings.specs.CoreTimes.{never, rowTime}
-use Rattle.rings.specs.Windows.{Window, windowsFrom, windows, Entry, smaller, minimal, IsMinimal, minimalOf}
-use Rattle.rings.specs.Windows.{minimalWindows, Listed, Before, IsMinimalList, recalled, ListedInside}
+use Rattle.rings.specs.Windows.{Window, windows, Entry, smaller, minimal, IsMinimal, minimalOf, minimalWindows}
+use Rattle.rings.specs.Windows.{Listed, Before, IsMinimalList, recalled, ListedInside}
 use Rattle.rings.specs.declared.Query.{Query}
-use Rattle.rings.proofs.WordLaws.{true-or-false, clash, and-i, and-l, and-r, no-i, no-e, every-i, every-e, same-truth}
+use Rattle.rings.proofs.WordLaws.{true-or-false, clash, and-i, and-l, and-r, no-i, no-e, every-i, every-e}
+use Rattle.rings.proofs.WordLaws.{same-truth}
 use Rattle.rings.proofs.ListLaws.{mem-tabulate, tabulate-mem, mem-flatten, flatten-mem, mem-filterBy}
 use Rattle.rings.proofs.ListLaws.{filterBy-mem, mem-map, map-mem, any-i, any-e, pair-tabulate, pair-flatten}
 use Rattle.rings.proofs.ListLaws.{pair-filterBy, pair-map, pair-weaken, pair-unique}
 use Rattle.rings.proofs.RingLaws.{in-window, in-grows}
 use Rattle.rings.proofs.CoreTimeLaws.{time-day, row-time, row-reach-i, row-reach-e, row-later}
+use Rattle.rings.proofs.RangeLaws.{OfRange, windows-e, windows-i, Earlier, windows-order}
 
 -- ---- smaller windows
 
@@ -194,54 +195,6 @@ module _ (t : Table) (q : Query) where
 
   pub minimal-inner : (j s e : ℕ) → Inner j s e → inRing t q s e j ≡ true
   minimal-inner j s e w = in-grows t q j (w .from) (w .to) (w .is-minimal .has)
-
--- ---- the windows of a range
-
-pub record OfRange (lo hi : ℕ) (w : Window) : Type 0 where
-  pub from : lo ≤ w .start
-  pub order : w .start ≤ w .end
-  pub to : w .end ≤ hi
-
-pub windows-e : (lo hi : ℕ) (w : Window) → Mem w (windows lo hi) → OfRange lo hi w
-unfolding windows windowsFrom
-windows-e lo hi w m =
-    let a = flatten-mem (tabulate (windowsFrom hi) lo (suc hi - lo)) m in
-    let b = tabulate-mem (windowsFrom hi) lo (suc hi - lo) (a .is-part) in
-    let c = tabulate-mem (λ e. record { start = b .it; end = e }) (b .it) (suc hi - b .it) (subst (Mem w) (b .is) (a .has)) in
-    let x = b .from in let y = b .below in let u = c .from in let v = c .below in
-    let s : w .start ≡ b .it = ap (λ (z : Window). z .start) (c .is) in
-    let f : w .end ≡ c .it = ap (λ (z : Window). z .end) (c .is) in
-    record { from = omega arith; order = omega arith; to = omega arith }
-
-pub windows-i : (lo hi : ℕ) (w : Window) → OfRange lo hi w → Mem w (windows lo hi)
-unfolding windows windowsFrom
-windows-i lo hi w o =
-    let a = o .from in let b = o .order in let c = o .to in
-    mem-flatten (mem-tabulate (windowsFrom hi) lo (suc hi - lo) (w .start) a (omega arith))
-    (mem-tabulate (λ e. record { start = w .start; end = e }) (w .start) (suc hi - w .start) (w .end) b
-    (omega arith))
-
--- by start, then end
-abbrev pub Earlier : Window → Window → Type 0
-Earlier v w = (v .start < w .start) ⊎ ((v .start ≡ w .start) × (v .end < w .end))
-
-pub windows-order : (lo hi : ℕ) → Pairwise Earlier (windows lo hi)
-unfolding windows windowsFrom
-windows-order lo hi =
-    pair-flatten Earlier (tabulate (windowsFrom hi) lo (suc hi - lo))
-    (λ ws m. let b = tabulate-mem (windowsFrom hi) lo (suc hi - lo) m in
-    subst (Pairwise Earlier) (sym (b .is))
-    (pair-tabulate Earlier (λ e. record { start = b .it; end = e }) (b .it) (suc hi - b .it)
-    (λ x y l k o. _⊎_.inr (refl, k))))
-    (pair-tabulate (λ xs ys. (x y : Window) → Mem x xs → Mem y ys → Earlier x y) (windowsFrom hi) lo (suc hi - lo)
-    (λ a b l k o x y m n. _⊎_.inl
-    (starts a b x y k (tabulate-mem (λ e. record { start = a; end = e }) a (suc hi - a) m .is)
-    (tabulate-mem (λ e. record { start = b; end = e }) b (suc hi - b) n .is))))
-  where
-    starts : (a b : ℕ) (x y : Window) → a < b → {e f : ℕ} → x ≡ record { start = a; end = e } → y ≡ record { start = b; end = f } → x .start < y .start
-    starts a b x y k p r =
-        let u : x .start ≡ a = ap (λ (z : Window). z .start) p in
-        let v : y .start ≡ b = ap (λ (z : Window). z .start) r in omega arith
 
 -- ---- the list
 

@@ -6,7 +6,8 @@ use Rattle.rings.specs.Table.{tableOf}
 use Rattle.rings.specs.CoreTimes.{rowTime}
 use Rattle.rings.specs.Inner.Peeling.{estimate}
 use Rattle.rings.specs.Inner.Counting.{timeBy, Histogram}
-use Rattle.rings.proofs.ShiftLaws.{mixed, drop-from, drop-start, drop-asks, drop-next, drop-end}
+use Rattle.rings.proofs.ShiftLaws.{mixed}
+use Rattle.rings.proofs.DropRowLaws.{drop-from, drop-start, drop-asks, drop-next, drop-end}
 use Rattle.rings.proofs.histogram.drop_rows.Statement.{statement}
 use Rattle.rings.proofs.histogram.drop_rows.Tie as tie
 use Rattle.rings.proofs.histogram.drop_rows.Reads as reads

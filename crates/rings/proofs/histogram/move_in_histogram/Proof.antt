@@ -1,4 +1,4 @@
-use Rattle.rings.proofs.CountingLaws.{moving-room, moving-made}
+use Rattle.rings.proofs.MovingLaws.{moving-room, moving-made}
 use Rattle.rings.proofs.WordLaws.{clash}
 use borrow.Author.Tests.{not-true, not-false}
 use lib.ListN.{getD, set, length-set}

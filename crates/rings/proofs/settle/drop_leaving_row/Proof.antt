@@ -1,7 +1,8 @@
 use Rattle.rings.proofs.IncidentLaws.{lead-reads}
 use Rattle.rings.proofs.SupporterLaws.{dropped-supporter-less, queued-start, queued-dropped-supporter}
-use Rattle.rings.proofs.SupporterLaws.{dropped-supporter-on, leaving-row, first-is, second-is, day-of}
-use Rattle.rings.proofs.SupporterLaws.{first-small, second-small}
+use Rattle.rings.proofs.SupporterLaws.{dropped-supporter-on}
+use Rattle.rings.proofs.LeavingLaws.{leaving-row, first-is, second-is, day-of}
+use Rattle.rings.proofs.LeavingLaws.{first-small, second-small}
 use mathlib.Core.Path.{refl}
 use native.Mathlib.Omega.{arith}
 use borrow.Author.Needs.{needs}

@@ -3,7 +3,8 @@ use Prim.Native.Nat.{_-_, _≤_}
 use Rattle.rings.specs.Table.{tableOf}
 use Rattle.rings.specs.Inner.Peeling.{estimate}
 use Rattle.rings.specs.Inner.Settling.{Leaving, Queued}
-use Rattle.rings.proofs.SupporterLaws.{queued-start, queued-then, leaving-start, leaving-last}
+use Rattle.rings.proofs.SupporterLaws.{queued-start, queued-then}
+use Rattle.rings.proofs.LeavingLaws.{leaving-start, leaving-last}
 use mathlib.Core.Path.{_≡_, sym, _∙_}
 use lib.ListN.{length}
 use Rattle.rings.proofs.settle.drop_leaving_rows.Statement.{statement}

@@ -1,4 +1,5 @@
-use Rattle.rings.proofs.RiseScanLaws.{DroppingListed, dropping-listed-start, dropping-listed-next, dropping-listed-end}
+use Rattle.rings.proofs.ListedLaws.{DroppingListed, dropping-listed-start, dropping-listed-next}
+use Rattle.rings.proofs.ListedLaws.{dropping-listed-end}
 use mathlib.Core.Path.{_∙_, sym}
 use Prim.Native.Nat.{_-_, _≤_}
 use native.Mathlib.Nat.{le-refl}
