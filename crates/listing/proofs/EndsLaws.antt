@@ -170,7 +170,9 @@ module _ {xs : List ℕ} {least s low hi room : ℕ} {p : Passed} {old : Columns
                 (E .moves goal rest lent P);
           }
 
-      pub ends-one : b ≡ true → {new′ : Columns (List ℕ)} → Entering room (p .count + entries) (record { start = s; end = e; rows = total + getD xs e 0 }) new new′
+      pub ends-one : b ≡ true
+          → {new′ : Columns (List ℕ)}
+          → Entering room (p .count + entries) (record { start = s; end = e; rows = total + getD xs e 0 }) new new′
           → EndsAt xs least s low hi room p old (e + 1) (total + getD xs e 0) (entries + 1) (summed + (total + getD xs e 0)) new′
       unfolding consIf
       ends-one h {new′} N =

@@ -23,7 +23,9 @@ use Rattle.rings.specs.MinimalWindowsCall.{minimalAnswer}
 use Rattle.rings.specs.RecallCall.{Columns, recallAnswer, recallMarks}
 use Rattle.rings.specs.Compute.{compute}
 use Rattle.rings.specs.declared.Query.{Query}
-use Rattle.rings.specs.declared.refusal.Refusal.the-variants.{ColumnsDiffer, TooLarge, BadDay, BadAccounts, BadK, BadRange, BadLength, Scratch, NoRoom, BadEntry}
+use Rattle.rings.specs.declared.refusal.Refusal.the-variants.{ColumnsDiffer, TooLarge, BadDay, BadAccounts}
+use Rattle.rings.specs.declared.refusal.Refusal.the-variants.{BadK, BadRange, BadLength, Scratch, NoRoom}
+use Rattle.rings.specs.declared.refusal.Refusal.the-variants.{BadEntry}
 use Rattle.rings.specs.declared.refusal.Verdict.the-variants.{Accepted, Refused}
 use Rattle.rings.specs.declared.refusal.Counted.{Counted}
 
@@ -53,7 +55,11 @@ pub record CheckRows : Type 0 where
   -- equal rows may stand twice
   pub twice : tableCheck (record { days = 3 ∷ 3 ∷ []; first = 1 ∷ 1 ∷ []; second = 2 ∷ 2 ∷ [] }) ≡ Accepted
   -- 1, then 2, before a row's fault; the lowest faulty row, by its first fault
-  pub too-many-rows : (t : Table) → eqb (length (t .first)) (length (t .days)) ≡ true → eqb (length (t .second)) (length (t .days)) ≡ true → ltb 16384 (length (t .days)) ≡ true → tableCheck t ≡ Refused TooLarge
+  pub too-many-rows : (t : Table)
+      → eqb (length (t .first)) (length (t .days)) ≡ true
+      → eqb (length (t .second)) (length (t .days)) ≡ true
+      → ltb 16384 (length (t .days)) ≡ true
+      → tableCheck t ≡ Refused TooLarge
   pub lengths-first : tableCheck (record { days = 0 ∷ []; first = 1 ∷ []; second = [] }) ≡ Refused ColumnsDiffer
   pub lowest-row : tableCheck (record { days = 1 ∷ 2 ∷ 0 ∷ []; first = 1 ∷ 2 ∷ 1 ∷ []; second = 2 ∷ 1 ∷ 2 ∷ [] }) ≡ Refused (BadAccounts 1)
   pub day-before-accounts : tableCheck (record { days = 1 ∷ 0 ∷ []; first = 1 ∷ 2 ∷ []; second = 2 ∷ 2 ∷ [] }) ≡ Refused (BadDay 1)
@@ -94,7 +100,10 @@ pub record CheckRows : Type 0 where
   pub recall-14-same-start : recallAnswer season (two-entries 1 1 2 1 1 4) 1 6 6 ≡ Refused (BadEntry 1)
   pub recall-14-same-end : recallAnswer season (two-entries 1 1 4 1 2 4) 1 6 6 ≡ Refused (BadEntry 1)
   pub recall-7 : recallAnswer season (two-entries 1 1 2 1 2 4) 2 1 6 ≡ Refused BadRange
-  pub recall-empty-list : recallMarks (recallAnswer season (record { rows = []; starts = []; ends = [] }) 1 6 6) season (record { rows = []; starts = []; ends = [] }) 1 6 (replicate 6 9) ≡ replicate 6 0
+  pub recall-empty-list : recallMarks
+      (recallAnswer season (record { rows = []; starts = []; ends = [] }) 1 6 6) season
+      (record { rows = []; starts = []; ends = [] }) 1 6 (replicate 6 9)
+      ≡ replicate 6 0
   -- Mistake: "counting rows as neighbours". Two rows of one pair, k = 2
   pub one-neighbour : ringAnswer (record { days = 1 ∷ 2 ∷ []; first = 1 ∷ 1 ∷ []; second = 2 ∷ 2 ∷ [] }) (ask 2) 1 2 2 8200 ≡ Counted.Count 0
   -- Mistake: "a row's time from its accounts alone: row 3 at start 1 would have 2"

@@ -11,7 +11,9 @@
 use Prim.Native.Nat.{ℕ}
 use mathlib.Core.Bool.{Bool, true, false}
 use Rattle.rings.specs.declared.refusal.Refusal.{Refusal}
-use Rattle.rings.specs.declared.refusal.Refusal.the-variants.{ColumnsDiffer, TooLarge, BadDay, BadAccounts, DayFalls, BadK, BadRange, BadLength, Scratch, NoRoom, BadEntry}
+use Rattle.rings.specs.declared.refusal.Refusal.the-variants.{ColumnsDiffer, TooLarge, BadDay, BadAccounts}
+use Rattle.rings.specs.declared.refusal.Refusal.the-variants.{DayFalls, BadK, BadRange, BadLength, Scratch}
+use Rattle.rings.specs.declared.refusal.Refusal.the-variants.{NoRoom, BadEntry}
 use Rattle.rings.specs.declared.refusal.Place.{Place}
 use Rattle.rings.specs.declared.refusal.Place.the-variants.{Nowhere, Row, Entry}
 use Rattle.rings.specs.declared.refusal.Told.{Told}

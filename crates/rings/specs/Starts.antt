@@ -1,5 +1,6 @@
 -- The starts of a range, one after the other: what a part above this crate is lent to walk them (src/starts.rt).
--- What the buffers hold from one call to the next is a state that stays shut. A part above knows it by its name, by what the calls promise, and by the laws of proofs/StartsLaws.antt; it never opens it.
+-- What the buffers hold from one call to the next is a state that stays shut. A part above knows it by its name, by
+-- what the calls promise, and by the laws of proofs/StartsLaws.antt; it never opens it.
 --     CountsAt t q hi s xs   xs holds, for each day, how many rows have it as their core time at s
 --     DatedTime t q hi s r   a row dated s has the core time r at s
 --     Earliest t q hi s r    r is the least core time at s of the rows dated s, never if none has one

@@ -14,7 +14,8 @@ use lib.ListN.{length, getD}
 use lib.Dec.{leb}
 use Rattle.rings.specs.Words.{_and_, at, tabulate}
 
--- 01: "A row is one payment: a day and two accounts. A table is three lent columns of 16-bit numbers." A temporal graph, a row a temporal edge (001, section II)
+-- 01: "A row is one payment: a day and two accounts. A table is three lent columns of 16-bit numbers." A temporal
+-- graph, a row a temporal edge (001, section II)
 pub record Table : Type 0 where
   pub days : List ℕ
   pub first : List ℕ

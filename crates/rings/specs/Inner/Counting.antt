@@ -1,5 +1,6 @@
 -- Day counts: how many rows have each day as their time, kept up as the times of the accounts rise.
---     timeBy t x s hi j              the time of row j where x gives those of the accounts: the greatest of both and of the day on which it opens; never if it does not open from s to hi
+--     timeBy t x s hi j              the time of row j where x gives those of the accounts: the greatest of both and of
+--                                    the day on which it opens; never if it does not open from s to hi
 --     IsTime x                       x is a day, or never
 --     Histogram g n xs               xs holds, for each day, how many of the first n rows have it by g
 --     CountsBy                       that histogram, by the times that the accounts have

@@ -1,7 +1,7 @@
--- Peeling by counts: accounts are removed where fewer than k neighbours are left, from the last day on. x holds the times of the accounts that were removed (0: not yet), d
--- the numbers of neighbours left, w the queue of the removed accounts whose rows are still to be walked.
--- A row counts for one of its accounts while it leads, has not left (is below r), its other account has not been walked, and the pair of row and account has
--- not been passed.
+-- Peeling by counts: accounts are removed where fewer than k neighbours are left, from the last day on. x holds the
+-- times of the accounts that were removed (0: not yet), d the numbers of neighbours left, w the queue of the removed
+-- accounts whose rows are still to be walked. A row counts for one of its accounts while it leads, has not left (is
+-- below r), its other account has not been walked, and the pair of row and account has not been passed.
 --     EarlierStands, leadsBy       what `leads` asks, and its test on the scratch
 --     PeelBuffers                  the lengths of the three lists
 --     Droppable, DroppedNeighbour  before and after an account loses one neighbour
@@ -11,7 +11,8 @@
 --     Degrees                      d counts the rows that count, and no account below b that has not been removed has fewer than k;
 --                  who has fallen has fewer, and the rows that count at least
 --     Times                        x is a lower bound of the core times, closed at the removed accounts; no core time that is still open passes e
---     PeelState                    all of it: b is the first account that has not been looked at, e the day of the fallen, r the end of the rows, head and tail the queue's
+--     PeelState                    all of it: b is the first account that has not been looked at, e the day of the
+--                                  fallen, r the end of the rows, head and tail the queue's
 --     AccountRemoval               the same while the rows of the account at the head of the queue are walked
 --     frameOf, nextFrame           the frame of a start by its query and its numbers, and that of the start after it
 --     allRows                      the removal before any row has left
@@ -65,7 +66,8 @@ pub record Droppable (k tail v : ℕ) (x d w : List ℕ) : Type 0 where
   pub some : 0 < getD d v 0
   pub room : getD d v 0 ≡ k → tail < 4096
 
--- account v loses a neighbour: x are the times, d the numbers of neighbours left, w the queue up to tail. With the k-th it is removed; who was removed before has fewer
+-- account v loses a neighbour: x are the times, d the numbers of neighbours left, w the queue up to tail. With the
+-- k-th it is removed; who was removed before has fewer
 -- than k left
 pub data DroppedNeighbour (k e tail v : ℕ) (x d w x′ d′ w′ : List ℕ) (tail′ : ℕ) : Type 0 where
   stays : (getD d v 0 ≡ k → ⊥) → x′ ≡ x → d′ ≡ set d v (getD d v 0 - 1) → w′ ≡ w → tail′ ≡ tail

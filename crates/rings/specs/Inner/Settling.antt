@@ -1,12 +1,16 @@
--- Settling: from the core times at one start to those at the next. x gives each account a day or never. It never passes the core times, and only accounts that wait may lack supporters.
--- slack holds, for each account, one more than the supporters that it can lose before it lacks one, at least; 0 says that it waits. Counting from below makes every loss a step down, and no gain matters.
---     value t x j u          the first day on which row j supports u, if its pair counts by it: the later of its own day, on which it opens, and its other account's time
+-- Settling: from the core times at one start to those at the next. x gives each account a day or never. It never
+-- passes the core times, and only accounts that wait may lack supporters.
+-- slack holds, for each account, one more than the supporters that it can lose before it lacks one, at least; 0 says
+-- that it waits. Counting from below makes every loss a step down, and no gain matters.
+--     value t x j u          the first day on which row j supports u, if its pair counts by it: the later of its own
+--                            day, on which it opens, and its other account's time
 --     backing t x lo c u j   row j is the first of its pair from lo on, has the account u, and supports it at c
 --     backers t x lo c u n   how many of the first n rows do
 --     Days                   each time is a day of the range or never
 --     Settling               x as a list of times, with the spare supporters
 --     ScanOver               no later row can change what a walk has found
---     RowsScanned, RowNoted  what a walk over the rows of u has found: how many support it at c, the least day above c on which one more may, and how many more then; one row more
+--     RowsScanned, RowNoted  what a walk over the rows of u has found: how many support it at c, the least day above c
+--                            on which one more may, and how many more then; one row more
 --     DayScanned             a walk has counted enough, or has seen all rows
 --     moving t x lo c u j    row j is one of u's by which its pair counts, and comes in by day c
 --     Behind                 a list is written behind a place alone
@@ -71,7 +75,8 @@ pub record ScanOver (day c stop above k count : ℕ) (r : Bool) : Type 0 where
   pub yes : r ≡ true → (c < day) × ((k ≤ count) ⊎ ((stop < day) ⊎ (above < day)))
   pub not : r ≡ false → (day ≤ c) ⊎ (day ≤ stop)
 
--- the rows of u below b, as they stand on day c: n support it, of the others that the range has none comes in before the day above, and on that day, if there is one, at least `more` do
+-- the rows of u below b, as they stand on day c: n support it, of the others that the range has none comes in before
+-- the day above, and on that day, if there is one, at least `more` do
 pub record RowsScanned (t : Table) (x : ℕ → ℕ) (lo hi c u b n above more : ℕ) : Type 0 where
   pub counted : n ≡ backers t x lo c u b
   pub rises : c < above
@@ -100,7 +105,9 @@ pub record Behind (tail : ℕ) (ws ws′ : List ℕ) : Type 0 where
   pub long : length ws′ ≡ 4352
   pub front : (i : ℕ) → i < tail → getD ws′ i 0 ≡ getD ws i 0
 
--- of the rows of u below b, first of their pairs or not, none comes in between c and the day above; `moved` of them come in by c; and who has the time c and stands in a first row that comes in by it is listed, from place tail to end
+-- of the rows of u below b, first of their pairs or not, none comes in between c and the day above; `moved` of them
+-- come in by c; and who has the time c and stands in a first row that comes in by it is listed, from place tail to
+-- end
 pub record RiseScanned (t : Table) (x : ℕ → ℕ) (lo hi c u b above moved tail end : ℕ) (ws : List ℕ) : Type 0 where
   pub apart : (j : ℕ) → pairCounts t lo j ≡ true → j < b → touches t j u ≡ true → dayOf t j ≤ hi → (value t x j u ≤ c) ⊎ (above ≤ value t x j u)
   pub moves : moved ≡ count (moving t x lo c u) b
@@ -164,7 +171,9 @@ pub record Scanned (t : Table) (p : Frame) (times : List ℕ) (s : Scan) (n abov
 pub record ScannedForRise (t : Table) (p : Frame) (times : List ℕ) (s : Scan) (tail : ℕ) (ws ws′ : List ℕ) (r : RiseScan) : Type 0 where
   pub found : Scanned t p times s (r .count) (r .above) (r .more) (r .walked)
   pub within : r .end ≤ 4352
-  pub rise-scanned : r .count < p .query .k → RiseScanned t (estimate times) (p .lo) (p .stop) (s .day) (s .account) (size t) (r .above) (r .moved) tail (r .end) ws′
+  pub rise-scanned : r .count < p .query .k
+      → RiseScanned t (estimate times) (p .lo) (p .stop) (s .day) (s .account) (size t) (r .above) (r .moved) tail
+      (r .end) ws′
   pub behind : Behind tail ws ws′
 
 pub record DayFoundBy (t : Table) (p : Frame) (times : List ℕ) (s : Scan) (time slack walked : ℕ) : Type 0 where
@@ -210,7 +219,14 @@ pub record ListedAsks (sp ws : List ℕ) (tail upto : ℕ) : Type 0 where
 pub record DroppedSupported (t : Table) (x : ℕ → ℕ) (lo u b old new : ℕ) (sp₀ sp : List ℕ) : Type 0 where
   pub long : length sp ≡ 4096
   pub less : (w : ℕ) → getD sp w 0 ≤ getD sp₀ w 0
-  pub dropped : (j : ℕ) → j < b → leads t lo j ≡ true → touches t j u ≡ true → old ≤ x (otherOf t j u) → dayOf t j ≤ x (otherOf t j u) → x (otherOf t j u) < new → getD sp (otherOf t j u) 0 ≤ getD sp₀ (otherOf t j u) 0 - 1
+  pub dropped : (j : ℕ)
+      → j < b
+      → leads t lo j ≡ true
+      → touches t j u ≡ true
+      → old ≤ x (otherOf t j u)
+      → dayOf t j ≤ x (otherOf t j u)
+      → x (otherOf t j u) < new
+      → getD sp (otherOf t j u) 0 ≤ getD sp₀ (otherOf t j u) 0 - 1
 
 -- the rows below j leave: each account with a time has as many to spare less as rows of it that backed it
 pub record Leaving (t : Table) (x : ℕ → ℕ) (lo j : ℕ) (sp₀ sp : List ℕ) : Type 0 where

@@ -38,7 +38,7 @@ same-length-4 c =
     let clear = c .before .before .clear in
     let has-room = c .before .before .before .before .before .before .before .before .before .before .before .before .before .has-room in
     let prepare = c .before .before .before .before .before .before .before .before .before .before .before .before .before .before .before .before .before .before .before .before .prepare in
-    (clear) .kept .0 ∙ ((has-room) .kept .1 .1 .1 .0 ∙ (prepare) .kept .1 .1 .1 .0)
+    clear .kept .0 ∙ (has-room .kept .1 .1 .1 .0 ∙ prepare .kept .1 .1 .1 .0)
 
 returns : tie.Need-returns
 unfolding cleared
@@ -47,19 +47,19 @@ returns c =
     let if1 = c .before .before .before .before .if1 in
     let has-room = c .before .before .before .before .before .before .before .before .before .before .before .before .before .has-room in
     let prepare = c .before .before .before .before .before .before .before .before .before .before .before .before .before .before .before .before .before .before .before .before .prepare in
-    find-refused _ _ _ _ ((has-room) .ensures)
-    ((clear) .ensures ∙ ap (λ (m : ℕ). replicate m 0) ((has-room) .kept .1 .1 .1 .0 ∙ (prepare) .kept .1 .1 .1 .0))
-    (not-true _ ((if1) .taken))
+    find-refused _ _ _ _ (has-room .ensures)
+    (clear .ensures ∙ ap (λ (m : ℕ). replicate m 0) (has-room .kept .1 .1 .1 .0 ∙ prepare .kept .1 .1 .1 .0))
+    (not-true _ (if1 .taken))
 
 pass-requires : tie.Need-pass-requires
 pass-requires c κs =
     let has-room = c .before .before .before .before .before .before .before .before .before .before .before .before .before .has-room in
     let pre = c .before .before .before .before .before .before .before .before .before .before .before .before .before .before .before .before .before .before .before .before .before .before .before .before .before .before .before .before .before .pre in
     record {
-      sound = (pre) .sound;
-      prepared = (has-room) .ensures .prepared;
-      asked = (pre) .asked;
-      columns = found-room ((pre) .columns) ((has-room) .ensures .unwritten);
+      sound = pre .sound;
+      prepared = has-room .ensures .prepared;
+      asked = pre .asked;
+      columns = found-room (pre .columns) (has-room .ensures .unwritten);
     }
 
 clear-requires-2 : tie.Need-clear-requires-2
@@ -80,7 +80,7 @@ same-length-8 c =
     let pass = c .before .before .before .before .before .before .before .before .before .before .before .before .pass in
     let has-room = c .before .before .before .before .before .before .before .before .before .before .before .before .before .before .before .before .before .before .before .before .before .before .before .before .before .before .has-room in
     let prepare = c .before .before .before .before .before .before .before .before .before .before .before .before .before .before .before .before .before .before .before .before .before .before .before .before .before .before .before .before .before .before .before .before .before .prepare in
-    (clear2) .kept .0 ∙ ((pass) .kept .1 .1 .1 .0 ∙ ((has-room) .kept .1 .1 .1 .0 ∙ (prepare) .kept .1 .1 .1 .0))
+    clear2 .kept .0 ∙ (pass .kept .1 .1 .1 .0 ∙ (has-room .kept .1 .1 .1 .0 ∙ prepare .kept .1 .1 .1 .0))
 
 returns-2 : tie.Need-returns-2
 unfolding cleared
@@ -90,11 +90,11 @@ returns-2 c =
     let if1 = c .before .before .before .before .before .before .before .before .before .before .before .before .before .before .before .before .before .if1 in
     let has-room = c .before .before .before .before .before .before .before .before .before .before .before .before .before .before .before .before .before .before .before .before .before .before .before .before .before .before .has-room in
     let prepare = c .before .before .before .before .before .before .before .before .before .before .before .before .before .before .before .before .before .before .before .before .before .before .before .before .before .before .before .before .before .before .before .before .before .prepare in
-    find-done _ _ _ _ ((has-room) .ensures)
+    find-done _ _ _ _ (has-room .ensures)
     (
-    (clear2) .ensures ∙ ap (λ (m : ℕ). replicate m 0)
-    ((pass) .kept .1 .1 .1 .0 ∙ ((has-room) .kept .1 .1 .1 .0 ∙ (prepare) .kept .1 .1 .1 .0))
-    ) (not-false _ ((if1) .left)) refl ((pass) .ensures)
+    clear2 .ensures ∙ ap (λ (m : ℕ). replicate m 0)
+    (pass .kept .1 .1 .1 .0 ∙ (has-room .kept .1 .1 .1 .0 ∙ prepare .kept .1 .1 .1 .0))
+    ) (not-false _ (if1 .left)) refl (pass .ensures)
 
 pub find-rings-spec : {M : Type 1} → statement M
 find-rings-spec =

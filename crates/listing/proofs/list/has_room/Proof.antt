@@ -20,7 +20,7 @@ cast-most c = search needs
 most-requires : tie.Need-most-requires
 most-requires c κs =
     let pre = c .before .before .before .before .before .before .before .pre in
-    omega (arith, (pre) .asked .from, (pre) .asked .order, (pre) .asked .to)
+    omega (arith, pre .asked .from, pre .asked .order, pre .asked .to)
 
 cast-longest : tie.Need-cast-longest
 cast-longest c = search needs
@@ -29,7 +29,7 @@ returns : tie.Need-returns
 returns c =
     let most = c .before .most in
     let pre = c .before .before .before .before .before .before .before .before .before .pre in
-    room-most _ _ _ _ _ ((pre) .prepared) ((most) .ensures) (c .if1 .taken)
+    room-most _ _ _ _ _ (pre .prepared) (most .ensures) (c .if1 .taken)
 
 pass-requires : tie.Need-pass-requires
 pass-requires c κs = search needs
@@ -49,7 +49,7 @@ same-length-4 c = search needs
 returns-2 : tie.Need-returns-2
 returns-2 c =
     let pass = c .before .before .before .before .before .before .before .before .before .pass in
-    room-counted _ _ _ _ ((pass) .ensures)
+    room-counted _ _ _ _ (pass .ensures)
 
 pub has-room-spec : {M : Type 1} → statement M
 has-room-spec =

@@ -34,9 +34,9 @@ find-rings-requires c κs =
     let are-equal = c .before .before .before .before .before .before .before .are-equal in
     let is-window = c .before .before .before .before .before .before .before .before .is-window in
     let args = c .before .before .before .before .before .before .before .before .before .before .before .before .before .before .before .before .args in
-    list-checked (tableOf ((args) .days .now) ((args) .first .now) ((args) .second .now)) ((args) .query) ((args) .ts)
-    ((args) .te) (columnsOf ((args) .starts .now) ((args) .ends .now) ((args) .rows .now)) ((args) .scratch .now)
-    ((is-window) .ensures) ((are-equal) .ensures) (sym ((check-call) .ensures) ∙ (enum-told) .given .1)
+    list-checked (tableOf (args .days .now) (args .first .now) (args .second .now)) (args .query) (args .ts)
+    (args .te) (columnsOf (args .starts .now) (args .ends .now) (args .rows .now)) (args .scratch .now)
+    (is-window .ensures) (are-equal .ensures) (sym (check-call .ensures) ∙ enum-told .given .1)
 
 returns : tie.Need-returns
 returns c =
@@ -45,9 +45,9 @@ returns c =
     let are-equal = c .before .before .before .before .are-equal in
     let is-window = c .before .before .before .before .before .is-window in
     let args = c .before .before .before .before .before .before .before .before .before .before .before .before .before .args in
-    list-refused _ _ _ _ (columnsOf ((args) .starts .now) ((args) .ends .now) ((args) .rows .now))
-    ((args) .scratch .now) ((is-window) .ensures) ((are-equal) .ensures)
-    (sym ((check-call) .ensures) ∙ (found) .given .1)
+    list-refused _ _ _ _ (columnsOf (args .starts .now) (args .ends .now) (args .rows .now))
+    (args .scratch .now) (is-window .ensures) (are-equal .ensures)
+    (sym (check-call .ensures) ∙ found .given .1)
 
 same-length : tie.Need-same-length
 same-length c = search needs
@@ -69,9 +69,9 @@ returns-2 c =
     let are-equal = c .before .before .before .before .before .before .before .before .before .before .before .before .before .before .before .before .are-equal in
     let is-window = c .before .before .before .before .before .before .before .before .before .before .before .before .before .before .before .before .before .is-window in
     let args = c .before .before .before .before .before .before .before .before .before .before .before .before .before .before .before .before .before .before .before .before .before .before .before .before .before .args in
-    list-done _ _ _ _ (columnsOf ((args) .starts .now) ((args) .ends .now) ((args) .rows .now)) ((args) .scratch .now)
-    ((is-window) .ensures) ((are-equal) .ensures) (sym ((check-call) .ensures) ∙ (enum-told) .given .1)
-    ((find-rings) .ensures)
+    list-done _ _ _ _ (columnsOf (args .starts .now) (args .ends .now) (args .rows .now)) (args .scratch .now)
+    (is-window .ensures) (are-equal .ensures) (sym (check-call .ensures) ∙ enum-told .given .1)
+    (find-rings .ensures)
 
 pub list-rings-spec : {M : Type 1} → statement M
 list-rings-spec =

@@ -17,20 +17,20 @@ returns : tie.Need-returns
 returns c =
     let report-table = c .before .report-table in
     let args = c .before .before .args in
-    told-rows ((args) .read) ((args) .query) ((args) .ts) ((args) .te) ((report-table) .ensures) ((c .if1) .taken)
+    told-rows (args .read) (args .query) (args .ts) (args .te) (report-table .ensures) ((c .if1) .taken)
 
 reader-line-requires : tie.Need-reader-line-requires
 reader-line-requires c κs =
     let report-table = c .before .report-table in
     let pre = c .before .before .pre in
-    omega (arith, (pre), ap (λ (t : Report). t .place) ((report-table) .ensures))
+    omega (arith, pre, ap (λ (t : Report). t .place) (report-table .ensures))
 
 returns-2 : tie.Need-returns-2
 returns-2 c =
     let if1 = c .before .if1 in
     let report-table = c .before .before .report-table in
     let args = c .before .before .before .args in
-    told-refused ((args) .read) ((args) .query) ((args) .ts) ((args) .te) ((report-table) .ensures) ((if1) .left)
+    told-refused (args .read) (args .query) (args .ts) (args .te) (report-table .ensures) (if1 .left)
     ((c .reader-line) .ensures)
 
 pub asked-by-spec : {M : Type 1} → statement M

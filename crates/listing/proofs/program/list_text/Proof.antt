@@ -23,8 +23,8 @@ returns : tie.Need-returns
 returns c =
     let if1 = c .before .if1 in
     let args = c .before .before .before .before .args in
-    let prints = answer-refused (outcome ((args) .input .now)) ((args) .output .now) TooLarge
-    (too-long ((args) .input .now) ((if1) .taken)) ((c .refused) .ensures) in (prints .answer, prints .output)
+    let prints = answer-refused (outcome (args .input .now)) (args .output .now) TooLarge
+    (too-long (args .input .now) (if1 .taken)) ((c .refused) .ensures) in (prints .answer, prints .output)
 
 slice-aggregate-read-input : tie.Need-slice-aggregate-read-input
 slice-aggregate-read-input c = search needs
@@ -46,8 +46,8 @@ returns-2 c =
     let asked = c .before .asked in
     let read-input = c .before .before .before .before .before .before .read-input in
     let args = c .before .before .before .before .before .before .before .before .before .before .before .before .before .args in
-    let prints = answer-none (outcome ((args) .input .now)) ((args) .output .now)
-    (asked-none ((read-input) .ensures) ((asked) .given .1)) in (prints .answer, prints .output)
+    let prints = answer-none (outcome (args .input .now)) (args .output .now)
+    (asked-none (read-input .ensures) (asked .given .1)) in (prints .answer, prints .output)
 
 enum-known-asked-2 : tie.Need-enum-known-asked-2
 enum-known-asked-2 c = search needs
@@ -56,7 +56,7 @@ array-share-prefix-days : tie.Need-array-share-prefix-days
 array-share-prefix-days c =
     let asked2 = c .before .asked2 in
     let read-input = c .before .before .before .before .before .before .read-input in
-    omega (arith, asked-most ((read-input) .ensures) ((asked2) .given .1))
+    omega (arith, asked-most (read-input .ensures) (asked2 .given .1))
 
 slice-aggregate-print-rings : tie.Need-slice-aggregate-print-rings
 slice-aggregate-print-rings c =
@@ -64,15 +64,15 @@ slice-aggregate-print-rings c =
     let read-input = c .before .before .before .before .before .before .before .read-input in
     sym
     (
-    length-take-le _ ((read-input) .last .1 .0)
-    (omega (arith, asked-most ((read-input) .ensures) ((asked2) .given .1)))
+    length-take-le _ (read-input .last .1 .0)
+    (omega (arith, asked-most (read-input .ensures) (asked2 .given .1)))
     )
 
 array-share-prefix-first : tie.Need-array-share-prefix-first
 array-share-prefix-first c =
     let asked2 = c .before .before .asked2 in
     let read-input = c .before .before .before .before .before .before .before .read-input in
-    omega (arith, asked-most ((read-input) .ensures) ((asked2) .given .1))
+    omega (arith, asked-most (read-input .ensures) (asked2 .given .1))
 
 slice-aggregate-print-rings-2 : tie.Need-slice-aggregate-print-rings-2
 slice-aggregate-print-rings-2 c =
@@ -80,15 +80,15 @@ slice-aggregate-print-rings-2 c =
     let read-input = c .before .before .before .before .before .before .before .before .read-input in
     sym
     (
-    length-take-le _ ((read-input) .last .1 .1 .0)
-    (omega (arith, asked-most ((read-input) .ensures) ((asked2) .given .1)))
+    length-take-le _ (read-input .last .1 .1 .0)
+    (omega (arith, asked-most (read-input .ensures) (asked2 .given .1)))
     )
 
 array-share-prefix-second : tie.Need-array-share-prefix-second
 array-share-prefix-second c =
     let asked2 = c .before .before .before .asked2 in
     let read-input = c .before .before .before .before .before .before .before .before .read-input in
-    omega (arith, asked-most ((read-input) .ensures) ((asked2) .given .1))
+    omega (arith, asked-most (read-input .ensures) (asked2 .given .1))
 
 slice-aggregate-print-rings-3 : tie.Need-slice-aggregate-print-rings-3
 slice-aggregate-print-rings-3 c =
@@ -96,15 +96,15 @@ slice-aggregate-print-rings-3 c =
     let read-input = c .before .before .before .before .before .before .before .before .before .read-input in
     sym
     (
-    length-take-le _ ((read-input) .last .1 .1 .1 .0)
-    (omega (arith, asked-most ((read-input) .ensures) ((asked2) .given .1)))
+    length-take-le _ (read-input .last .1 .1 .1 .0)
+    (omega (arith, asked-most (read-input .ensures) (asked2 .given .1)))
     )
 
 print-rings-requires : tie.Need-print-rings-requires
 print-rings-requires c κs =
     let asked2 = c .before .before .before .before .before .asked2 in
     let read-input = c .before .before .before .before .before .before .before .before .before .before .read-input in
-    part-most ((read-input) .ensures) ((read-input) .last .1 .0) ((asked2) .given .1)
+    part-most (read-input .ensures) (read-input .last .1 .0) (asked2 .given .1)
 
 same-length : tie.Need-same-length
 same-length c = search needs
@@ -114,7 +114,7 @@ returns-3 c =
     let print-rings = c .before .before .print-rings in
     let asked2 = c .before .before .before .before .before .before .before .before .asked2 in
     let read-input = c .before .before .before .before .before .before .before .before .before .before .before .before .before .read-input in
-    let prints = answer-as (asked-rows ((read-input) .ensures) ((asked2) .given .1)) ((print-rings) .ensures) in
+    let prints = answer-as (asked-rows (read-input .ensures) (asked2 .given .1)) (print-rings .ensures) in
     (prints .answer, prints .output)
 
 pub list-text-spec : {M : Type 1} → statement M

@@ -18,7 +18,7 @@ add-result : tie.Need-add-result
 add-result c =
     let place = c .before .place in
     let pre = c .before .before .before .pre in
-    omega (arith, (pre), ap placeNumber ((place) .given .1))
+    omega (arith, pre, ap placeNumber (place .given .1))
 
 enum-told-2 : tie.Need-enum-told-2
 enum-told-2 c = search needs
@@ -29,7 +29,7 @@ returns c = ap placeLine (sym ((c .enum-told) .given .1))
 returns-2 : tie.Need-returns-2
 returns-2 c =
     let place = c .before .place in
-    ap placeLine (sym ((place) .given .1))
+    ap placeLine (sym (place .given .1))
 
 returns-3 : tie.Need-returns-3
 returns-3 c = ap placeLine (sym ((c .enum-told2) .given .1))

@@ -23,14 +23,14 @@ sub-read-rows c =
     let line = c .before .line in
     let read-query = c .before .before .before .read-query in
     let args = c .before .before .before .before .before .before .before .before .args in
-    omega (arith, query-fits ((args) .input .now) _ _ _ (sym ((read-query) .ensures) ∙ (line) .given .1))
+    omega (arith, query-fits (args .input .now) _ _ _ (sym (read-query .ensures) ∙ line .given .1))
 
 part-read-rows-start : tie.Need-part-read-rows-start
 part-read-rows-start c =
     let line = c .before .line in
     let read-query = c .before .before .before .read-query in
     let args = c .before .before .before .before .before .before .before .before .args in
-    omega (arith, query-fits ((args) .input .now) _ _ _ (sym ((read-query) .ensures) ∙ (line) .given .1))
+    omega (arith, query-fits (args .input .now) _ _ _ (sym (read-query .ensures) ∙ line .given .1))
 
 part-read-rows-end : tie.Need-part-read-rows-end
 part-read-rows-end c = search needs
@@ -56,7 +56,7 @@ returns c =
     .before .before .before .before .before .before .before .before .before .before .args in
     let pre = c .before .before .before .before .before .before .before .before .before
     .before .before .before .before .before .before .before .before .before .before .pre in
-    asks-query ((args) .input .now) ((pre) .short) ((read-query) .ensures) ((line) .given .1) ((read-rows) .ensures)
+    asks-query (args .input .now) (pre .short) (read-query .ensures) (line .given .1) (read-rows .ensures)
 
 enum-told : tie.Need-enum-told
 enum-told c = search needs
@@ -71,7 +71,7 @@ returns-2 c =
     let read-query = c .before .before .before .read-query in
     let args = c .before .before .before .before .before .before .before .before .args in
     let pre = c .before .before .before .before .before .before .before .before .pre in
-    asks-none ((args) .input .now) ((pre) .short) QueryRead.BadLine ((read-query) .ensures) ((enum-told) .given .1)
+    asks-none (args .input .now) (pre .short) QueryRead.BadLine (read-query .ensures) (enum-told .given .1)
     refl ((c .bad-query) .ensures)
 
 enum-told-2 : tie.Need-enum-told-2
@@ -87,7 +87,7 @@ returns-3 c =
     let read-query = c .before .before .before .read-query in
     let args = c .before .before .before .before .before .before .before .before .args in
     let pre = c .before .before .before .before .before .before .before .before .pre in
-    asks-none ((args) .input .now) ((pre) .short) QueryRead.BadField ((read-query) .ensures) ((enum-told2) .given .1)
+    asks-none (args .input .now) (pre .short) QueryRead.BadField (read-query .ensures) (enum-told2 .given .1)
     refl ((c .bad-query2) .ensures)
 
 enum-told-3 : tie.Need-enum-told-3
@@ -103,7 +103,7 @@ returns-4 c =
     let read-query = c .before .before .before .read-query in
     let args = c .before .before .before .before .before .before .before .before .args in
     let pre = c .before .before .before .before .before .before .before .before .pre in
-    asks-none ((args) .input .now) ((pre) .short) QueryRead.BadNumber ((read-query) .ensures) ((enum-told3) .given .1)
+    asks-none (args .input .now) (pre .short) QueryRead.BadNumber (read-query .ensures) (enum-told3 .given .1)
     refl ((c .bad-query3) .ensures)
 
 pub read-input-spec : {M : Type 1} → statement M

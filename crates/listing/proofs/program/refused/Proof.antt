@@ -18,13 +18,13 @@ place-line-requires : tie.Need-place-line-requires
 unfolding placeOf toldOf
 place-line-requires c κs =
     let pre = c .before .pre in
-    omega (arith, (pre), ap (λ (t : Told). placeNumber (t .place)) ((c .tell) .ensures))
+    omega (arith, pre, ap (λ (t : Told). placeNumber (t .place)) ((c .tell) .ensures))
 
 returns : tie.Need-returns
 returns c =
     let tell = c .before .tell in
     let args = c .before .before .args in
-    refused-told ((args) .r) ((tell) .ensures) ((c .place-line) .ensures)
+    refused-told (args .r) (tell .ensures) ((c .place-line) .ensures)
 
 pub refused-spec : {M : Type 1} → statement M
 refused-spec = tie.close (tie.spec tell-requires place-line-requires returns)

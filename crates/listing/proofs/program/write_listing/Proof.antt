@@ -25,8 +25,8 @@ returns : tie.Need-returns
 returns c =
     let if1 = c .before .if1 in
     let args = c .before .before .before .before .before .before .args in
-    text-none (columnsOf ((args) .starts .now) ((args) .ends .now) ((args) .rows .now)) ((args) .output .now)
-    ((args) .count) ((if1) .taken) ((c .refused) .ensures)
+    text-none (columnsOf (args .starts .now) (args .ends .now) (args .rows .now)) (args .output .now)
+    (args .count) (if1 .taken) ((c .refused) .ensures)
 
 put-header-requires : tie.Need-put-header-requires
 put-header-requires c κs = search needs
@@ -43,9 +43,9 @@ returns-2 c =
     let put-header = c .before .before .before .before .before .before .put-header in
     let if1 = c .before .before .before .before .before .before .before .before .if1 in
     let args = c .before .before .before .before .before .before .before .before .before .before .before .before .before .args in
-    text-done (columnsOf ((args) .starts .now) ((args) .ends .now) ((args) .rows .now)) ((args) .output .now)
-    ((args) .count) ((if1) .left) ((put-header) .ensures .answers) ((put-header) .ensures .holds)
-    ((write-lines) .ensures)
+    text-done (columnsOf (args .starts .now) (args .ends .now) (args .rows .now)) (args .output .now)
+    (args .count) (if1 .left) (put-header .ensures .answers) (put-header .ensures .holds)
+    (write-lines .ensures)
 
 pub write-listing-spec : {M : Type 1} → statement M
 write-listing-spec =

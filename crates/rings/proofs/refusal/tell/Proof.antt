@@ -53,19 +53,19 @@ returns-3 : tie.Need-returns-3
 unfolding toldOf numberOf
 returns-3 c =
     let r = c .before .r in
-    ap toldOf (sym ((r) .given .1))
+    ap toldOf (sym (r .given .1))
 
 returns-4 : tie.Need-returns-4
 unfolding toldOf numberOf
 returns-4 c =
     let r2 = c .before .r2 in
-    ap toldOf (sym ((r2) .given .1))
+    ap toldOf (sym (r2 .given .1))
 
 returns-5 : tie.Need-returns-5
 unfolding toldOf numberOf
 returns-5 c =
     let r3 = c .before .r3 in
-    ap toldOf (sym ((r3) .given .1))
+    ap toldOf (sym (r3 .given .1))
 
 returns-6 : tie.Need-returns-6
 unfolding toldOf numberOf
@@ -91,7 +91,7 @@ returns-11 : tie.Need-returns-11
 unfolding toldOf numberOf
 returns-11 c =
     let r4 = c .before .r4 in
-    ap toldOf (sym ((r4) .given .1))
+    ap toldOf (sym (r4 .given .1))
 
 pub tell-spec : {M : Type 1} → statement M
 tell-spec =

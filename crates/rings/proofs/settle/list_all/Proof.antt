@@ -17,7 +17,7 @@ abbrev μ-loop : tie.MeasureT-loop
 loop-holds : tie.Need-loop-holds Inv-loop μ-loop
 loop-holds c =
     let pre = c .before .pre in
-    (omega arith, filled-start (λ (i : ℕ). i) _ (pre))
+    (omega arith, filled-start (λ (i : ℕ). i) _ pre)
 
 put-requires : tie.Need-put-requires Inv-loop μ-loop
 put-requires c κs =
@@ -49,7 +49,7 @@ same-length : tie.Need-same-length Inv-loop μ-loop
 same-length c =
     let loop = c .before .loop in
     let pre = c .before .before .before .pre in
-    loop .inv .1 .long ∙ sym (pre)
+    loop .inv .1 .long ∙ sym pre
 
 returns : tie.Need-returns Inv-loop μ-loop
 returns c =

@@ -44,7 +44,7 @@ loop-again c =
     let loop-test = c .before .before .loop-test in
     let loop = c .before .before .before .loop in
     let pre = c .before .before .before .before .pre in
-    binary-up (pre) (loop .inv) (omega (arith, loop-test .taken)) (omega (arith, loop-test .taken)) (c .if1 .taken)
+    binary-up pre (loop .inv) (omega (arith, loop-test .taken)) (omega (arith, loop-test .taken)) (c .if1 .taken)
 
 loop-less-2 : tie.Need-loop-less-2 Inv-loop μ-loop
 loop-less-2 c =
@@ -56,7 +56,7 @@ loop-again-2 c =
     let loop-test = c .before .before .loop-test in
     let loop = c .before .before .before .loop in
     let pre = c .before .before .before .before .pre in
-    binary-down (pre) (loop .inv) (omega (arith, loop-test .taken)) (omega (arith, loop-test .taken)) (c .if1 .left)
+    binary-down pre (loop .inv) (omega (arith, loop-test .taken)) (omega (arith, loop-test .taken)) (c .if1 .left)
 
 returns : tie.Need-returns Inv-loop μ-loop
 returns c =

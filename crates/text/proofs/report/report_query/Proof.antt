@@ -36,22 +36,22 @@ refused-requires-4 c κs = search needs
 returns : tie.Need-returns
 returns c =
     let enum-told = c .before .enum-told in
-    (c .refused) .ensures ∙ ap queryReport (sym ((enum-told) .given .1))
+    (c .refused) .ensures ∙ ap queryReport (sym (enum-told .given .1))
 
 returns-2 : tie.Need-returns-2
 returns-2 c =
     let enum-told2 = c .before .enum-told2 in
-    (c .refused2) .ensures ∙ ap queryReport (sym ((enum-told2) .given .1))
+    (c .refused2) .ensures ∙ ap queryReport (sym (enum-told2 .given .1))
 
 returns-3 : tie.Need-returns-3
 returns-3 c =
     let enum-told3 = c .before .enum-told3 in
-    (c .refused3) .ensures ∙ ap queryReport (sym ((enum-told3) .given .1))
+    (c .refused3) .ensures ∙ ap queryReport (sym (enum-told3 .given .1))
 
 returns-4 : tie.Need-returns-4
 returns-4 c =
     let enum-told4 = c .before .enum-told4 in
-    (c .refused4) .ensures ∙ ap queryReport (sym ((enum-told4) .given .1))
+    (c .refused4) .ensures ∙ ap queryReport (sym (enum-told4 .given .1))
 
 pub report-query-spec : {M : Type 1} → statement M
 report-query-spec =

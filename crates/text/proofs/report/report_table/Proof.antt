@@ -39,27 +39,27 @@ refused-requires-4 c κs = search needs
 returns : tie.Need-returns
 returns c =
     let read = c .before .read in
-    ap tableReport (sym ((read) .given .1))
+    ap tableReport (sym (read .given .1))
 
 returns-2 : tie.Need-returns-2
 returns-2 c =
     let read2 = c .before .before .read2 in
-    (c .refused) .ensures ∙ ap tableReport (sym ((read2) .given .1))
+    (c .refused) .ensures ∙ ap tableReport (sym (read2 .given .1))
 
 returns-3 : tie.Need-returns-3
 returns-3 c =
     let read3 = c .before .before .read3 in
-    (c .refused2) .ensures ∙ ap tableReport (sym ((read3) .given .1))
+    (c .refused2) .ensures ∙ ap tableReport (sym (read3 .given .1))
 
 returns-4 : tie.Need-returns-4
 returns-4 c =
     let read4 = c .before .before .read4 in
-    (c .refused3) .ensures ∙ ap tableReport (sym ((read4) .given .1))
+    (c .refused3) .ensures ∙ ap tableReport (sym (read4 .given .1))
 
 returns-5 : tie.Need-returns-5
 returns-5 c =
     let enum-told = c .before .enum-told in
-    (c .refused4) .ensures ∙ ap tableReport (sym ((enum-told) .given .1))
+    (c .refused4) .ensures ∙ ap tableReport (sym (enum-told .given .1))
 
 pub report-table-spec : {M : Type 1} → statement M
 report-table-spec =
