@@ -15,6 +15,28 @@ use Rattle.listing.proofs.list.pass.Reads as pass-reads
 use Rattle.rings.proofs.clear.Reads as clear-reads
 use Rattle.rings.proofs.starts.prepare.Reads as prepare-reads
 
+-- ---- the ways back, from a place of the code to an earlier one
+
+abbrev starts-to-start : tie.After-starts → tie.Start
+starts-to-start c =
+    c .before .before .before .before .before .before .before .before .before .before .before .before .before
+    .before .before .before .before .before .before
+
+abbrev ends-to-prepare : tie.After-ends → tie.After-prepare
+ends-to-prepare c = c .before .before .before .before .before .before .before .before .before .before .before .before
+
+abbrev rows-to-has-room : tie.After-rows → tie.After-has-room
+rows-to-has-room c = c .before .before .before .before .before .before .before
+
+abbrev starts2-to-prepare : tie.After-starts2 → tie.After-prepare
+starts2-to-prepare c =
+    ends-to-prepare (c .before .before .before .before .before .before .before .before .before .before .before
+    .before)
+
+abbrev starts2-to-has-room : tie.After-starts2 → tie.After-has-room
+starts2-to-has-room c =
+    rows-to-has-room (c .before .before .before .before .before .before .before .before .before .before)
+
 prepare-requires : tie.Need-prepare-requires
 prepare-requires c κs = search needs
 
@@ -36,8 +58,8 @@ same-length-3 c = search needs
 same-length-4 : tie.Need-same-length-4
 same-length-4 c =
     let clear = c .before .before .clear in
-    let has-room = c .before .before .before .before .before .before .before .before .before .before .before .before .before .has-room in
-    let prepare = c .before .before .before .before .before .before .before .before .before .before .before .before .before .before .before .before .before .before .before .before .prepare in
+    let has-room = rows-to-has-room (c .before .before .before .before .before .before) .has-room in
+    let prepare = ends-to-prepare (c .before .before .before .before .before .before .before .before) .prepare in
     clear .kept .0 ∙ (has-room .kept .1 .1 .1 .0 ∙ prepare .kept .1 .1 .1 .0)
 
 returns : tie.Need-returns
@@ -45,16 +67,16 @@ unfolding cleared
 returns c =
     let clear = c .before .before .clear in
     let if1 = c .before .before .before .before .if1 in
-    let has-room = c .before .before .before .before .before .before .before .before .before .before .before .before .before .has-room in
-    let prepare = c .before .before .before .before .before .before .before .before .before .before .before .before .before .before .before .before .before .before .before .before .prepare in
+    let has-room = rows-to-has-room (c .before .before .before .before .before .before) .has-room in
+    let prepare = ends-to-prepare (c .before .before .before .before .before .before .before .before) .prepare in
     find-refused _ _ _ _ (has-room .ensures)
     (clear .ensures ∙ ap (λ (m : ℕ). replicate m 0) (has-room .kept .1 .1 .1 .0 ∙ prepare .kept .1 .1 .1 .0))
     (not-true _ (if1 .taken))
 
 pass-requires : tie.Need-pass-requires
 pass-requires c κs =
-    let has-room = c .before .before .before .before .before .before .before .before .before .before .before .before .before .has-room in
-    let pre = c .before .before .before .before .before .before .before .before .before .before .before .before .before .before .before .before .before .before .before .before .before .before .before .before .before .before .before .before .before .pre in
+    let has-room = rows-to-has-room (c .before .before .before .before .before .before) .has-room in
+    let pre = starts-to-start (c .before .before .before .before .before .before .before .before .before .before) .pre in
     record {
       sound = pre .sound;
       prepared = has-room .ensures .prepared;
@@ -78,8 +100,8 @@ same-length-8 : tie.Need-same-length-8
 same-length-8 c =
     let clear2 = c .before .before .clear2 in
     let pass = c .before .before .before .before .before .before .before .before .before .before .before .before .pass in
-    let has-room = c .before .before .before .before .before .before .before .before .before .before .before .before .before .before .before .before .before .before .before .before .before .before .before .before .before .before .has-room in
-    let prepare = c .before .before .before .before .before .before .before .before .before .before .before .before .before .before .before .before .before .before .before .before .before .before .before .before .before .before .before .before .before .before .before .before .before .prepare in
+    let has-room = starts2-to-has-room (c .before .before .before .before .before .before .before .before .before) .has-room in
+    let prepare = starts2-to-prepare (c .before .before .before .before .before .before .before .before .before) .prepare in
     clear2 .kept .0 ∙ (pass .kept .1 .1 .1 .0 ∙ (has-room .kept .1 .1 .1 .0 ∙ prepare .kept .1 .1 .1 .0))
 
 returns-2 : tie.Need-returns-2
@@ -88,8 +110,8 @@ returns-2 c =
     let clear2 = c .before .before .clear2 in
     let pass = c .before .before .before .before .before .before .before .before .before .before .before .before .pass in
     let if1 = c .before .before .before .before .before .before .before .before .before .before .before .before .before .before .before .before .before .if1 in
-    let has-room = c .before .before .before .before .before .before .before .before .before .before .before .before .before .before .before .before .before .before .before .before .before .before .before .before .before .before .has-room in
-    let prepare = c .before .before .before .before .before .before .before .before .before .before .before .before .before .before .before .before .before .before .before .before .before .before .before .before .before .before .before .before .before .before .before .before .before .prepare in
+    let has-room = starts2-to-has-room (c .before .before .before .before .before .before .before .before .before) .has-room in
+    let prepare = starts2-to-prepare (c .before .before .before .before .before .before .before .before .before) .prepare in
     find-done _ _ _ _ (has-room .ensures)
     (
     clear2 .ensures ∙ ap (λ (m : ℕ). replicate m 0)

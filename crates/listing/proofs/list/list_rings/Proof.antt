@@ -12,6 +12,18 @@ use Rattle.rings.proofs.checks.are_equal.Reads as are-equal-reads
 use Rattle.rings.proofs.checks.check_call.Reads as check-call-reads
 use Rattle.rings.proofs.checks.is_window.Reads as is-window-reads
 
+-- ---- the ways back, from a place of the code to an earlier one
+
+abbrev check-call-to-start : tie.After-check-call → tie.Start
+check-call-to-start c = c .before .before .before .before .before .before .before .before .before .before
+
+abbrev find-rings-to-start : tie.After-find-rings → tie.Start
+find-rings-to-start c = check-call-to-start (c .before .before .before .before .before .before .before)
+
+abbrev scratch-to-enum-told : tie.After-scratch → tie.After-enum-told
+scratch-to-enum-told c =
+    c .before .before .before .before .before .before .before .before .before .before .before .before
+
 is-window-requires : tie.Need-is-window-requires
 is-window-requires c κs = search needs
 
@@ -33,7 +45,7 @@ find-rings-requires c κs =
     let check-call = c .before .before .before .before .before .before .check-call in
     let are-equal = c .before .before .before .before .before .before .before .are-equal in
     let is-window = c .before .before .before .before .before .before .before .before .is-window in
-    let args = c .before .before .before .before .before .before .before .before .before .before .before .before .before .before .before .before .args in
+    let args = check-call-to-start (c .before .before .before .before .before .before) .args in
     list-checked (tableOf (args .days .now) (args .first .now) (args .second .now)) (args .query) (args .ts)
     (args .te) (columnsOf (args .starts .now) (args .ends .now) (args .rows .now)) (args .scratch .now)
     (is-window .ensures) (are-equal .ensures) (sym (check-call .ensures) ∙ enum-told .given .1)
@@ -44,7 +56,7 @@ returns c =
     let check-call = c .before .before .before .check-call in
     let are-equal = c .before .before .before .before .are-equal in
     let is-window = c .before .before .before .before .before .is-window in
-    let args = c .before .before .before .before .before .before .before .before .before .before .before .before .before .args in
+    let args = check-call-to-start (c .before .before .before) .args in
     list-refused _ _ _ _ (columnsOf (args .starts .now) (args .ends .now) (args .rows .now))
     (args .scratch .now) (is-window .ensures) (are-equal .ensures)
     (sym (check-call .ensures) ∙ found .given .1)
@@ -64,11 +76,11 @@ same-length-4 c = search needs
 returns-2 : tie.Need-returns-2
 returns-2 c =
     let find-rings = c .before .before .before .before .before .before .before .before .find-rings in
-    let enum-told = c .before .before .before .before .before .before .before .before .before .before .before .before .before .enum-told in
-    let check-call = c .before .before .before .before .before .before .before .before .before .before .before .before .before .before .before .check-call in
-    let are-equal = c .before .before .before .before .before .before .before .before .before .before .before .before .before .before .before .before .are-equal in
-    let is-window = c .before .before .before .before .before .before .before .before .before .before .before .before .before .before .before .before .before .is-window in
-    let args = c .before .before .before .before .before .before .before .before .before .before .before .before .before .before .before .before .before .before .before .before .before .before .before .before .before .args in
+    let enum-told = scratch-to-enum-told (c .before) .enum-told in
+    let check-call = scratch-to-enum-told (c .before) .before .before .check-call in
+    let are-equal = scratch-to-enum-told (c .before) .before .before .before .are-equal in
+    let is-window = scratch-to-enum-told (c .before) .before .before .before .before .is-window in
+    let args = find-rings-to-start (c .before .before .before .before .before .before .before .before) .args in
     list-done _ _ _ _ (columnsOf (args .starts .now) (args .ends .now) (args .rows .now)) (args .scratch .now)
     (is-window .ensures) (are-equal .ensures) (sym (check-call .ensures) ∙ enum-told .given .1)
     (find-rings .ensures)
