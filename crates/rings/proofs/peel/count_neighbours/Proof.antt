@@ -84,8 +84,7 @@ add-put c =
     let entry = c .before .before .before .before .entry in
     let loop-test = c .before .before .before .before .before .before .before .loop-test in
     let loop = c .before .before .before .before .before .before .before .before .loop in
-    let pre =
-    entry3-to-start (c .before) .pre in
+    let pre = entry3-to-start (c .before) .pre in
     let ready = pre .0 in
     let span = pre .1 .0 in
     omega (
@@ -99,8 +98,7 @@ put-requires c κs =
     let entry = c .before .before .before .before .entry in
     let loop-test = c .before .before .before .before .before .before .before .loop-test in
     let loop = c .before .before .before .before .before .before .before .before .loop in
-    let pre =
-    entry3-to-start (c .before) .pre in
+    let pre = entry3-to-start (c .before) .pre in
     let ready = pre .0 in
     let span = pre .1 .0 in
     let first = count-first _ _ _ _ _ ready (loop .inv) (loop-test .taken) span (entry .ensures)
@@ -117,8 +115,7 @@ entry-requires-4 c κs =
     c .before .before .before .before .before .before .before .before .before .before .before .loop-test in
     let loop =
     c .before .before .before .before .before .before .before .before .before .before .before .before .loop in
-    let pre =
-    entry3-to-start (c .before .before .before .before .before) .pre in
+    let pre = entry3-to-start (c .before .before .before .before .before) .pre in
     let ready = pre .0 in
     let span = pre .1 .0 in
     count-second _ _ _ _ _ ready (loop .inv) (loop-test .taken) span (entry .ensures) (entry2 .ensures)
@@ -131,12 +128,9 @@ add-put-2 c =
     let entry3 = c .before .before .before .before .before .before .before .entry3 in
     let entry2 = c .before .before .before .before .before .before .before .before .before .entry2 in
     let entry = entry4-to-entry (c .before) .entry in
-    let loop-test =
-    entry4-to-entry (c .before) .before .before .before .loop-test in
-    let loop =
-    entry4-to-entry (c .before) .before .before .before .before .loop in
-    let pre =
-    entry4-to-start (c .before) .pre in
+    let loop-test = entry4-to-entry (c .before) .before .before .before .loop-test in
+    let loop = entry4-to-entry (c .before) .before .before .before .before .loop in
+    let pre = entry4-to-start (c .before) .pre in
     let ready = pre .0 in
     let span = pre .1 .0 in
     omega (
@@ -152,12 +146,9 @@ put-requires-2 c κs =
     let entry3 = c .before .before .before .before .before .before .before .entry3 in
     let entry2 = c .before .before .before .before .before .before .before .before .before .entry2 in
     let entry = entry4-to-entry (c .before) .entry in
-    let loop-test =
-    entry4-to-entry (c .before) .before .before .before .loop-test in
-    let loop =
-    entry4-to-entry (c .before) .before .before .before .before .loop in
-    let pre =
-    entry4-to-start (c .before) .pre in
+    let loop-test = entry4-to-entry (c .before) .before .before .before .loop-test in
+    let loop = entry4-to-entry (c .before) .before .before .before .before .loop in
+    let pre = entry4-to-start (c .before) .pre in
     let ready = pre .0 in
     let span = pre .1 .0 in
     let second = count-second _ _ _ _ _ ready (loop .inv) (loop-test .taken) span (entry .ensures)
@@ -166,20 +157,16 @@ put-requires-2 c κs =
 
 add-j : tie.Need-add-j Inv-loop μ-loop
 add-j c =
-    let loop-test =
-    entry4-to-entry (c .before .before .before .before) .before .before .before .loop-test in
-    let loop =
-    entry4-to-entry (c .before .before .before .before) .before .before .before .before .loop in
-    let pre =
-    entry4-to-start (c .before .before .before .before) .pre in
+    let loop-test = entry4-to-entry (c .before .before .before .before) .before .before .before .loop-test in
+    let loop = entry4-to-entry (c .before .before .before .before) .before .before .before .before .loop in
+    let pre = entry4-to-start (c .before .before .before .before) .pre in
     let ready = pre .0 in
     let span = pre .1 .0 in
     omega (arith, count-below _ _ _ _ _ ready (loop .inv) (loop-test .taken) span, ready .sound .most)
 
 loop-less : tie.Need-loop-less Inv-loop μ-loop
 loop-less c =
-    let loop-test =
-    entry4-to-entry (c .before .before .before .before) .before .before .before .loop-test in
+    let loop-test = entry4-to-entry (c .before .before .before .before) .before .before .before .loop-test in
     omega (arith, loop-test .taken)
 
 loop-again : tie.Need-loop-again Inv-loop μ-loop
@@ -190,18 +177,12 @@ loop-again c =
     let entry3 = c .before .before .before .before .before .before .before .before .before .before .entry3 in
     let entry2 =
     c .before .before .before .before .before .before .before .before .before .before .before .before .entry2 in
-    let entry =
-    entry4-to-entry (c .before .before .before .before) .entry in
-    let if1 =
-    entry4-to-entry (c .before .before .before .before) .before .if1 in
-    let leads =
-    entry4-to-entry (c .before .before .before .before) .before .before .leads in
-    let loop-test =
-    entry4-to-entry (c .before .before .before .before) .before .before .before .loop-test in
-    let loop =
-    entry4-to-entry (c .before .before .before .before) .before .before .before .before .loop in
-    let pre =
-    entry4-to-start (c .before .before .before .before) .pre in
+    let entry = entry4-to-entry (c .before .before .before .before) .entry in
+    let if1 = entry4-to-entry (c .before .before .before .before) .before .if1 in
+    let leads = entry4-to-entry (c .before .before .before .before) .before .before .leads in
+    let loop-test = entry4-to-entry (c .before .before .before .before) .before .before .before .loop-test in
+    let loop = entry4-to-entry (c .before .before .before .before) .before .before .before .before .loop in
+    let pre = entry4-to-start (c .before .before .before .before) .pre in
     let ready = pre .0 in
     let span = pre .1 .0 in
     count-row _ _ _ _ _ ready (loop .inv) (loop-test .taken) span (leads .ensures) (if1 .taken)

@@ -82,8 +82,7 @@ entry-requires-3 : tie.Need-entry-requires-3
 entry-requires-3 c κs =
     let entry2 = c .before .entry2 in
     let entry = c .before .before .entry in
-    let pre =
-    entry-to-start (c .before .before) .pre in
+    let pre = entry-to-start (c .before .before) .pre in
     remove-row-accounts _ _ _ _ _ (pre .0) (pre .1) refl (entry .ensures) (entry2 .ensures) .0
 
 same-length : tie.Need-same-length
@@ -93,16 +92,14 @@ returns : tie.Need-returns
 returns c =
     let entry3 = c .before .entry3 in
     let entry = c .before .before .before .before .entry in
-    let pre =
-    entry-to-start (c .before .before .before .before) .pre in
+    let pre = entry-to-start (c .before .before .before .before) .pre in
     let if2 = c .if2 in remove-row-a-removed _ _ _ _ _ (pre .0) (pre .1) refl (entry .ensures) (entry3 .ensures) (if2 .taken)
 
 entry-requires-4 : tie.Need-entry-requires-4
 entry-requires-4 c κs =
     let entry2 = c .before .before .before .before .entry2 in
     let entry = c .before .before .before .before .before .entry in
-    let pre =
-    entry-to-start (c .before .before .before .before .before) .pre in
+    let pre = entry-to-start (c .before .before .before .before .before) .pre in
     remove-row-accounts _ _ _ _ _ (pre .0) (pre .1) refl (entry .ensures) (entry2 .ensures) .1
 
 same-length-2 : tie.Need-same-length-2
@@ -112,8 +109,7 @@ returns-2 : tie.Need-returns-2
 returns-2 c =
     let entry4 = c .before .entry4 in
     let entry2 = c .before .before .before .before .before .before .entry2 in
-    let pre =
-    entry-to-start (c .before .before .before .before .before .before .before) .pre in
+    let pre = entry-to-start (c .before .before .before .before .before .before .before) .pre in
     let if3 = c .if3 in remove-row-b-removed _ _ _ _ _ (pre .0) (pre .1) refl (entry2 .ensures) (entry4 .ensures) (if3 .taken)
 
 drop-neighbour-requires : tie.Need-drop-neighbour-requires
@@ -135,24 +131,15 @@ drop-neighbour-requires c κs =
 drop-neighbour-requires-2 : tie.Need-drop-neighbour-requires-2
 drop-neighbour-requires-2 c κs =
     let drop-neighbour = c .before .before .before .before .before .before .before .before .before .drop-neighbour in
-    let if3 =
-    queue-to-else3 (c .before .before .before .before) .if3 in
-    let entry4 =
-    queue-to-else3 (c .before .before .before .before) .before .entry4 in
-    let if2 =
-    queue-to-else3 (c .before .before .before .before) .before .before .before .if2 in
-    let entry3 =
-    queue-to-else3 (c .before .before .before .before) .before .before .before .before .entry3 in
-    let entry2 =
-    drop-neighbour-arg6-to-entry2 c .entry2 in
-    let entry =
-    drop-neighbour-arg6-to-entry2 c .before .entry in
-    let if1 =
-    drop-neighbour-arg6-to-entry2 c .before .before .if1 in
-    let leads =
-    drop-neighbour-arg6-to-entry2 c .before .before .before .leads in
-    let pre =
-    times-to-start (c .before .before .before .before .before .before .before .before) .pre in
+    let if3 = queue-to-else3 (c .before .before .before .before) .if3 in
+    let entry4 = queue-to-else3 (c .before .before .before .before) .before .entry4 in
+    let if2 = queue-to-else3 (c .before .before .before .before) .before .before .before .if2 in
+    let entry3 = queue-to-else3 (c .before .before .before .before) .before .before .before .before .entry3 in
+    let entry2 = drop-neighbour-arg6-to-entry2 c .entry2 in
+    let entry = drop-neighbour-arg6-to-entry2 c .before .entry in
+    let if1 = drop-neighbour-arg6-to-entry2 c .before .before .if1 in
+    let leads = drop-neighbour-arg6-to-entry2 c .before .before .before .leads in
+    let pre = times-to-start (c .before .before .before .before .before .before .before .before) .pre in
     remove-row-room-b _ _ _ _ _ (pre .0) (pre .1) refl (leads .ensures) (if1 .taken) (entry .ensures) (entry2 .ensures)
     (entry3 .ensures) (entry4 .ensures) (if2 .left) (if3 .left) (drop-neighbour .ensures)
 
@@ -161,22 +148,15 @@ remove-queued-requires c κs =
     let drop-neighbour2 = c .before .before .before .before .before .before .before .before .before .drop-neighbour2 in
     let drop-neighbour =
     times2-to-drop-neighbour (c .before .before .before .before .before .before .before .before) .drop-neighbour in
-    let if3 =
-    left2-to-else3 (c .before .before .before .before .before .before) .if3 in
-    let entry4 =
-    left2-to-else3 (c .before .before .before .before .before .before) .before .entry4 in
-    let if2 =
-    left2-to-else3 (c .before .before .before .before .before .before) .before .before .before .if2 in
+    let if3 = left2-to-else3 (c .before .before .before .before .before .before) .if3 in
+    let entry4 = left2-to-else3 (c .before .before .before .before .before .before) .before .entry4 in
+    let if2 = left2-to-else3 (c .before .before .before .before .before .before) .before .before .before .if2 in
     let entry3 =
     left2-to-else3 (c .before .before .before .before .before .before) .before .before .before .before .entry3 in
-    let entry2 =
-    queue2-to-entry2 (c .before .before .before .before) .entry2 in
-    let entry =
-    queue2-to-entry2 (c .before .before .before .before) .before .entry in
-    let if1 =
-    queue2-to-entry2 (c .before .before .before .before) .before .before .if1 in
-    let leads =
-    queue2-to-entry2 (c .before .before .before .before) .before .before .before .leads in
+    let entry2 = queue2-to-entry2 (c .before .before .before .before) .entry2 in
+    let entry = queue2-to-entry2 (c .before .before .before .before) .before .entry in
+    let if1 = queue2-to-entry2 (c .before .before .before .before) .before .before .if1 in
+    let leads = queue2-to-entry2 (c .before .before .before .before) .before .before .before .leads in
     let pre =
     queue2-to-start (c .before .before .before .before) .pre in (
       pre .0,

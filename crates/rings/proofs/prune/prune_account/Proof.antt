@@ -108,8 +108,7 @@ wide-requires c κs = search needs
 
 add-end : tie.Need-add-end Inv-loop μ-loop
 add-end c =
-    let pre =
-    wide-to-start c .pre in
+    let pre = wide-to-start c .pre in
     let loop = wide-to-in-loop c .before .loop in
     let wide = c .wide in
     let one = c .before .one in
@@ -117,8 +116,7 @@ add-end c =
 
 add-p : tie.Need-add-p Inv-loop μ-loop
 add-p c =
-    let pre =
-    wide-to-start c .pre in
+    let pre = wide-to-start c .pre in
     let loop = wide-to-in-loop c .before .loop in
     omega (arith, pruning-few (pre .pruned) (pre .account) (loop .inv .pruning) (pre .sound .most))
 
@@ -130,15 +128,13 @@ loop-less c =
 loop-again : tie.Need-loop-again Inv-loop μ-loop
 loop-again c =
     let loop = wide-to-in-loop c .before .loop in
-    let pre =
-    wide-to-start c .pre in
+    let pre = wide-to-start c .pre in
     let loop-test = wide-to-in-loop c .loop-test in
     let row-at = c .before .before .before .before .before .before .before .row-at in
     let put = c .before .before .before .before .put in
     let wide = c .wide in
     let one = c .before .one in
-    let args =
-    wide-to-start c .args in
+    let args = wide-to-start c .args in
     record {
       cursor = loop .inv .cursor;
       pruning =

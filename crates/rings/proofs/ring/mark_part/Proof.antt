@@ -35,8 +35,7 @@ slice-aggregate-core-3 c = search needs
 core-requires : tie.Need-core-requires
 core-requires c κs =
     let prepare-adjacency = c .before .before .before .before .before .before .prepare-adjacency in
-    let pre =
-    times-to-start (c .before .before) .pre in
+    let pre = times-to-start (c .before .before) .pre in
     let whole = pre .0 in
     let asked = whole .asked in (
       ready-of (whole .sound) (adjacency-later (prepare-adjacency .ensures) (omega (arith, whole .from))) (asked .some-k)
@@ -52,8 +51,7 @@ mark-rows-requires c κs =
     let core = c .before .before .before .before .before .core in
     let prepare-adjacency =
     c .before .before .before .before .before .before .before .before .before .before .before .before .prepare-adjacency in
-    let pre =
-    times-to-start (c .before .before .before .before .before .before .before .before) .pre in
+    let pre = times-to-start (c .before .before .before .before .before .before .before .before) .pre in
     let whole = pre .0 in
     let asked = whole .asked in (
       whole,

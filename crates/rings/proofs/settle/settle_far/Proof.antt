@@ -6,6 +6,8 @@ use Rattle.rings.proofs.SettleNearLaws.{account-days, account-now, acco
 use mathlib.Core.Path.{refl, sym, _∙_}
 use native.Mathlib.Omega.{arith}
 use borrow.Author.Needs.{needs}
+use Rattle.rings.specs.Table.{tableOf}
+use Rattle.rings.specs.Inner.Settling.{DayFoundBy}
 use Rattle.rings.proofs.settle.settle_far.Statement.{statement}
 use Rattle.rings.proofs.settle.settle_far.Tie as tie
 use Rattle.rings.proofs.settle.settle_far.Reads as reads
@@ -31,6 +33,14 @@ abbrev else2-to-put : tie.Else2 → tie.After-put
 else2-to-put c =
     c .before .before .before .before .before .before .before .before .before .before .before .before .before
     .before
+
+-- what find_day ensures, where it found a day
+found-day-at : (c : tie.After-outcome)
+    → let a = outcome-to-start c .args in
+    let o = c .outcome .given .0 in
+    DayFoundBy (tableOf (a .days .now) (a .first .now) (a .second .now)) (a .frame) (a .times .now) (a .scan) (o .0) (o .1 .0)
+    (o .1 .1 .0)
+found-day-at c = rw (c .outcome .given .1) at (c .before .before .find-day .ensures)
 
 mul-old : tie.Need-mul-old
 mul-old c =
@@ -85,9 +95,7 @@ slice-write-slack c =
 
 add-t28 : tie.Need-add-t28
 add-t28 c =
-    let outcome = c .before .before .before .outcome in
-    let find-day = c .before .before .before .before .before .find-day in
-    let found-day = rw (outcome .given .1) at (find-day .ensures) in
+    let found-day = found-day-at (c .before .before .before) in
     let pre = outcome-to-start (c .before .before .before) .pre in
     let w = pre .working in
     let h = pre .at-head in
@@ -95,9 +103,7 @@ add-t28 c =
 
 add-t29 : tie.Need-add-t29
 add-t29 c =
-    let outcome = c .before .before .before .before .outcome in
-    let find-day = c .before .before .before .before .before .before .find-day in
-    let found-day = rw (outcome .given .1) at (find-day .ensures) in
+    let found-day = found-day-at (c .before .before .before .before) in
     let pre = outcome-to-start (c .before .before .before .before) .pre in
     let w = pre .working in
     let h = pre .at-head in
@@ -111,9 +117,7 @@ same-length-3 c = search needs
 
 returns-2 : tie.Need-returns-2
 returns-2 c =
-    let outcome = c .before .before .before .before .outcome in
-    let find-day = c .before .before .before .before .before .before .find-day in
-    let found-day = rw (outcome .given .1) at (find-day .ensures) in
+    let found-day = found-day-at (c .before .before .before .before) in
     let pre = outcome-to-start (c .before .before .before .before) .pre in
     let w = pre .working in
     let h = pre .at-head in
@@ -152,9 +156,7 @@ drop-supported-requires c κs =
     let put = c .before .before .before .before .before .before .put in
     let if1 = c .before .before .before .before .before .before .before .before .if1 in
     let args = drop-supported-arg4-to-start c .args in
-    let outcome = c .before .before .before .before .before .before .before .before .before .before .outcome in
-    let find-day = c .before .before .before .before .before .before .before .before .before .before .before .before .find-day in
-    let found-day = rw (outcome .given .1) at (find-day .ensures) in
+    let found-day = found-day-at (c .before .before .before .before .before .before .before .before .before .before) in
     let pre = drop-supported-arg4-to-start c .pre in
     let w = pre .working in
     let h = pre .at-head in
@@ -196,10 +198,7 @@ returns-3 c =
 
 add-t21 : tie.Need-add-t21
 add-t21 c =
-    let outcome = else2-to-put (c .before) .before .before .before .before .outcome in
-    let find-day = c .before .before .before .before .before .before .before .before .before .before .before
-    .before .before .before .before .before .before .before .before .before .before .find-day in
-    let found-day = rw (outcome .given .1) at (find-day .ensures) in
+    let found-day = found-day-at (else2-to-put (c .before) .before .before .before .before) in
     let pre = else2-to-start (c .before) .pre in
     let w = pre .working in
     let h = pre .at-head in
@@ -207,11 +206,7 @@ add-t21 c =
 
 add-t43 : tie.Need-add-t43
 add-t43 c =
-    let outcome = else2-to-put (c .before .before) .before .before .before .before .outcome in
-    let find-day = c .before .before .before .before .before .before .before .before .before .before .before
-    .before .before .before .before .before .before .before .before .before .before .before
-    .find-day in
-    let found-day = rw (outcome .given .1) at (find-day .ensures) in
+    let found-day = found-day-at (else2-to-put (c .before .before) .before .before .before .before) in
     let pre = else2-to-start (c .before .before) .pre in
     let w = pre .working in
     let h = pre .at-head in
@@ -219,11 +214,7 @@ add-t43 c =
 
 add-t44 : tie.Need-add-t44
 add-t44 c =
-    let outcome = else2-to-put (c .before .before .before) .before .before .before .before .outcome in
-    let find-day = c .before .before .before .before .before .before .before .before .before .before .before
-    .before .before .before .before .before .before .before .before .before .before .before .before
-    .find-day in
-    let found-day = rw (outcome .given .1) at (find-day .ensures) in
+    let found-day = found-day-at (else2-to-put (c .before .before .before) .before .before .before .before) in
     let pre = else2-to-start (c .before .before .before) .pre in
     let w = pre .working in
     let h = pre .at-head in
@@ -249,11 +240,7 @@ returns-4 c =
     let drop-supported = c .before .before .before .before .before .before .before .before .before .before .drop-supported in
     let put = else2-to-put (c .before .before .before) .put in
     let args = else2-to-start (c .before .before .before) .args in
-    let outcome = else2-to-put (c .before .before .before) .before .before .before .before .outcome in
-    let find-day = c .before .before .before .before .before .before .before .before .before .before .before
-    .before .before .before .before .before .before .before .before .before .before .before .before
-    .find-day in
-    let found-day = rw (outcome .given .1) at (find-day .ensures) in
+    let found-day = found-day-at (else2-to-put (c .before .before .before) .before .before .before .before) in
     let pre = else2-to-start (c .before .before .before) .pre in
     let w = pre .working in
     let h = pre .at-head in
