@@ -2,6 +2,7 @@ use mathlib.Core.Path.{sym, refl, _∙_}
 use Rattle.rings.proofs.FindDayLaws.{short-start}
 use native.Mathlib.Omega.{arith}
 use lib.ListN.{length-set}
+use Rattle.rings.proofs.SettleNearLaws.{scanned-on, rise-scanned-on, moving-on}
 use Rattle.rings.proofs.SettleNearLaws.{near-short, near-day, near-every, near-same, near-never, near-asks, near-counts, near-small, near-rise}
 use borrow.Author.Needs.{needs}
 use Rattle.rings.proofs.settle.settle_near.Statement.{statement}
@@ -33,10 +34,10 @@ else4-to-start c = struct-known5-to-start (c .before .before .before .before)
 abbrev queue3-to-start : tie.After-queue3 → tie.Start
 queue3-to-start c = else4-to-start (c .before .before .before .before .before .before .before .before .before .before)
 
-abbrev queue3-to-else1 : tie.After-queue3 → tie.Else1
-queue3-to-else1 c =
-    else3-to-else1 (c .before .before .before .before .before .before .before .before .before .before .before
-    .before .before)
+abbrev queue3-to-entry : tie.After-queue3 → tie.After-entry
+queue3-to-entry c =
+    c .before .before .before .before .before .before .before .before .before .before .before .before .before
+    .before .before .before .before .before .before .before .before .before .before .before
 
 abbrev queue3-to-scan-for-rise : tie.After-queue3 → tie.After-scan-for-rise
 queue3-to-scan-for-rise c =
@@ -174,7 +175,7 @@ returns-3 c =
       within = w .within;
       walked = omega (arith, scan-for-rise .ensures .found .short-walk);
       rising = λ xs Z. near-same _ _ _ _ _ _ _ (w .opened .setting) (args .times .now) (w .times-long) (w .days) (h .small)
-          (λ e. if1 .left (pre .its-time ∙ e)) (rw (pre .its-time) at (scan-for-rise .ensures .found .scanned)) (if3 .taken)
+          (λ e. if1 .left (pre .its-time ∙ e)) (scanned-on (pre .its-time) (scan-for-rise .ensures .found .scanned)) (if3 .taken)
           (scan-for-rise .ensures .behind) Z (h .is-head) (w .waits) (w .within);
       nevers = λ v e. e;
       counted = record { counted = λ y. w .counted y .counts-are; same = λ y. refl };
@@ -217,7 +218,7 @@ returns-4 c =
       same-counts = refl;
       behind = scan-for-rise .ensures .behind;
       short = near-short _ _ _ _ _ _ _ (w .opened .setting) (args .times .now) (w .times-long) (w .days) (h .small)
-          (λ e. if1 .left (pre .its-time ∙ e)) (rw (pre .its-time) at (scan-for-rise .ensures .found .scanned)) (if3 .left);
+          (λ e. if1 .left (pre .its-time ∙ e)) (scanned-on (pre .its-time) (scan-for-rise .ensures .found .scanned)) (if3 .left);
       few = omega (arith, scan-for-rise .ensures .found .short-walk);
     }
 
@@ -263,8 +264,8 @@ drop-listed-supporters-requires c κs =
     let pre = else4-to-start (c .before .before .before .before .before .before) .pre in
     let w = pre .working in
     let h = pre .at-head in
-    let outcome = rw (pre .its-time) at (scan-for-rise .ensures .found .scanned) in
-    let rise-scanned = rw (pre .its-time) at (scan-for-rise .ensures .rise-scanned (if3 .left)) in
+    let outcome = scanned-on (pre .its-time) (scan-for-rise .ensures .found .scanned) in
+    let rise-scanned = rise-scanned-on (pre .its-time) (scan-for-rise .ensures .rise-scanned (if3 .left)) in
     record {
       slack-long = length-set (args .slack .now) (args .scan .account) (slack-above .result) ∙ w .slack-long;
       queue-long = put .kept .0 ∙ (scan-for-rise .ensures .behind) .long;
@@ -280,15 +281,14 @@ move-in-histogram-requires c κs =
     let if4 = queue3-to-else4 (c .before .before) .if4 in
     let slack-above = queue3-to-else4 (c .before .before) .before .slack-above in
     let if3 = queue3-to-else4 (c .before .before) .before .before .before .if3 in
-    let scan-for-rise = c .before .before .before .before .before .before .before .before .before .before .before
-    .before .before .before .before .before .before .before .before .before .scan-for-rise in
-    let if1 = queue3-to-else1 (c .before .before) .if1 in
+    let scan-for-rise = queue3-to-scan-for-rise (c .before .before) .scan-for-rise in
+    let if1 = queue3-to-entry (c .before .before) .before .if1 in
     let args = queue3-to-start (c .before .before) .args in
     let pre = queue3-to-start (c .before .before) .pre in
     let w = pre .working in
     let h = pre .at-head in
-    let outcome = rw (pre .its-time) at (scan-for-rise .ensures .found .scanned) in
-    let rise-scanned = rw (pre .its-time) at (scan-for-rise .ensures .rise-scanned (if3 .left)) in
+    let outcome = scanned-on (pre .its-time) (scan-for-rise .ensures .found .scanned) in
+    let rise-scanned = rise-scanned-on (pre .its-time) (scan-for-rise .ensures .rise-scanned (if3 .left)) in
     rw (pre .its-time) (λ y. near-asks _ _ _ _ _ _ _ (w .opened .setting) (args .times .now) (w .times-long) (w .days) (h .small)
     (λ e. if1 .left (pre .its-time ∙ e)) outcome (if3 .left) refl (slack-above .ensures) (if4 .left) rise-scanned
     (w .opened .sound .most) (w .counted y .in-days) (w .counted y .counts-are))
@@ -338,16 +338,14 @@ returns-5 c =
     let if4 = counts-to-put (c .before .before .before .before .before) .before .before .if4 in
     let slack-above = counts-to-put (c .before .before .before .before .before) .before .before .before .slack-above in
     let if3 = queue3-to-else4 (c .before .before .before .before .before .before .before .before .before) .before .before .before .if3 in
-    let scan-for-rise = c .before .before .before .before .before .before .before .before .before .before .before
-    .before .before .before .before .before .before .before .before .before .before .before
-    .before .before .before .before .before .scan-for-rise in
-    let if1 = queue3-to-else1 (c .before .before .before .before .before .before .before .before .before) .if1 in
+    let scan-for-rise = queue3-to-scan-for-rise (c .before .before .before .before .before .before .before .before .before) .scan-for-rise in
+    let if1 = queue3-to-entry (c .before .before .before .before .before .before .before .before .before) .before .if1 in
     let args = counts-to-start (c .before .before .before .before .before) .args in
     let pre = counts-to-start (c .before .before .before .before .before) .pre in
     let w = pre .working in
     let h = pre .at-head in
-    let outcome = rw (pre .its-time) at (scan-for-rise .ensures .found .scanned) in
-    let rise-scanned = rw (pre .its-time) at (scan-for-rise .ensures .rise-scanned (if3 .left)) in
+    let outcome = scanned-on (pre .its-time) (scan-for-rise .ensures .found .scanned) in
+    let rise-scanned = rise-scanned-on (pre .its-time) (scan-for-rise .ensures .rise-scanned (if3 .left)) in
     record {
       next = refl;
       within = drop-listed-supporters .ensures .within;
@@ -361,7 +359,7 @@ returns-5 c =
       counted = record {
         counted = λ y. near-counts _ _ _ _ _ _ _ (w .opened .setting) (args .times .now) (w .times-long) (w .days) (h .small)
             (λ e. if1 .left (pre .its-time ∙ e)) outcome (if3 .left) refl (slack-above .ensures) (if4 .left) rise-scanned (w .counted y .counts-are)
-            (rw (pre .its-time) at (move-in-histogram .ensures .counted y));
+            (moving-on (pre .its-time) (move-in-histogram .ensures .counted y));
         same = move-in-histogram .ensures .same;
       };
     }
