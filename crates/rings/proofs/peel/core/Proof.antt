@@ -62,7 +62,8 @@ queue-low-degree-requires c κs =
 
 remove-queued-requires : tie.Need-remove-queued-requires
 remove-queued-requires c κs =
-    let queue-low-degree = c .before .before .before .before .before .before .before .before .before .queue-low-degree in
+    let queue-low-degree =
+    c .before .before .before .before .before .before .before .before .before .queue-low-degree in
     let pre = times2-to-start (c .before .before .before .before .before .before .before .before) .pre in
     let ready = pre .0 in
     (ready, queue-low-degree .ensures .state)
@@ -79,7 +80,9 @@ same-length-2 c =
     let remove-queued = c .before .before .before .before .before .before .remove-queued in
     let queue-low-degree = times3-to-queue-low-degree (c .before .before .before .before .before) .queue-low-degree in
     let count-neighbours =
-    queue-to-count-neighbours (c .before .before .before .before .before .before .before .before .before .before .before) .count-neighbours in
+    queue-to-count-neighbours
+    (c .before .before .before .before .before .before .before .before .before .before .before)
+    .count-neighbours in
     let clear2 = times3-to-clear2 (c .before .before .before .before .before) .clear2 in
     remove-queued .kept .1 .1 .1 .1 .1 .1 .1 .0 ∙
     (queue-low-degree .kept .1 .1 .1 .1 .1 .1 .1 .0 ∙ (count-neighbours .kept .1 .1 .1 .1 .1 .1 .0 ∙ clear2 .kept .0))
@@ -106,6 +109,7 @@ pub core-spec : {M : Type 1} → statement M
 core-spec =
     tie.close
     (
-    tie.spec clear-requires clear-requires-2 count-neighbours-requires queue-low-degree-requires remove-queued-requires same-length
+    tie.spec clear-requires clear-requires-2 count-neighbours-requires queue-low-degree-requires
+    remove-queued-requires same-length
     same-length-2 same-length-3 returns
     )

@@ -1,4 +1,5 @@
--- `peel::queue_low_degree` meets its contract. The loop's invariant: the accounts below u have been tested, and none from u on
+-- `peel::queue_low_degree` meets its contract. The loop's invariant: the accounts below u have been tested, and none
+-- from u on
 -- has been removed (PeelLoopLaws).
 -- Assumes nothing.
 use native.Mathlib.Omega.{arith}
@@ -60,7 +61,10 @@ put-requires-2 c κs =
     let loop-test = c .before .before .before .before .before .before .before .before .loop-test in
     let loop = c .before .before .before .before .before .before .before .before .before .loop in
     let pre = then1-to-start (c .before .before .before .before .before) .pre in
-    record { place = low-degree-room _ _ _ _ _ (pre .0) (loop .inv) (loop-test .taken) .0; number = omega (arith, loop-test .taken) }
+    record {
+      place = low-degree-room _ _ _ _ _ (pre .0) (loop .inv) (loop-test .taken) .0;
+      number = omega (arith, loop-test .taken);
+    }
 
 add-tail : tie.Need-add-tail Inv-loop μ-loop
 add-tail c =

@@ -1,4 +1,5 @@
--- `peel::remove_account` meets its contract. The loop's invariant: the rows of u before place p have been passed (RemoveAccountLaws).
+-- `peel::remove_account` meets its contract. The loop's invariant: the rows of u before place p have been passed
+-- (RemoveAccountLaws).
 -- Assumes nothing.
 use native.Mathlib.Omega.{arith}
 use Prim.Native.Nat.{_-_}
@@ -132,7 +133,8 @@ loop-again c =
     let if2 = c .before .before .before .before .before .before .before .before .before .before .if2 in
     let drop-neighbour = c .before .before .before .before .before .before .drop-neighbour in
     removing-drop _ _ _ _ _ (pre .0) (loop .inv) (loop-test .taken) (row-at .ensures) (if1 .left) (if2 .taken)
-    (drop-neighbour .kept .1 .1 .1 .1 .0) (drop-neighbour .kept .1 .1 .1 .1 .1 .0) (drop-neighbour .kept .1 .1 .1 .1 .1 .1 .0) (drop-neighbour .ensures)
+    (drop-neighbour .kept .1 .1 .1 .1 .0) (drop-neighbour .kept .1 .1 .1 .1 .1 .0)
+    (drop-neighbour .kept .1 .1 .1 .1 .1 .1 .0) (drop-neighbour .ensures)
 
 loop-less-2 : tie.Need-loop-less-2 Inv-loop μ-loop
 loop-less-2 c =

@@ -38,7 +38,8 @@ core-requires c κs =
     let pre = times-to-start (c .before .before) .pre in
     let whole = pre .0 in
     let asked = whole .asked in (
-      ready-of (whole .sound) (adjacency-later (prepare-adjacency .ensures) (omega (arith, whole .from))) (asked .some-k)
+      ready-of (whole .sound) (adjacency-later (prepare-adjacency .ensures) (omega (arith, whole .from)))
+          (asked .some-k)
           (asked .last-day) (whole .from),
       (span-of (asked .ordered) (whole .from) (whole .to), record { times = refl; left = refl; queue = omega arith }),
     )
@@ -50,7 +51,8 @@ mark-rows-requires : tie.Need-mark-rows-requires
 mark-rows-requires c κs =
     let core = c .before .before .before .before .before .core in
     let prepare-adjacency =
-    c .before .before .before .before .before .before .before .before .before .before .before .before .prepare-adjacency in
+    c .before .before .before .before .before .before .before .before .before .before .before .before
+    .prepare-adjacency in
     let pre = times-to-start (c .before .before .before .before .before .before .before .before) .pre in
     let whole = pre .0 in
     let asked = whole .asked in (
@@ -58,7 +60,8 @@ mark-rows-requires c κs =
       (
         remaining-of _ _ _ _ _
             (
-            ready-of (whole .sound) (adjacency-later (prepare-adjacency .ensures) (omega (arith, whole .from))) (asked .some-k)
+            ready-of (whole .sound) (adjacency-later (prepare-adjacency .ensures) (omega (arith, whole .from)))
+            (asked .some-k)
             (asked .last-day) (whole .from)
             ) (asked .ordered) (span-of (asked .ordered) (whole .from) (whole .to)) (core .ensures),
         pre .1 .marks,

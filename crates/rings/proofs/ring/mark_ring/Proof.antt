@@ -4,7 +4,8 @@
 use mathlib.Core.Path.{refl, _∙_, ap}
 use Prim.Native.Nat.{ℕ}
 use lib.ListN.{replicate}
-use Rattle.rings.proofs.PartTableLaws.{part-sound, part-same, room-long, part-room, part-from, part-to, part-members, part-marks}
+use Rattle.rings.proofs.PartTableLaws.{part-sound, part-same, room-long, part-room, part-from, part-to}
+use Rattle.rings.proofs.PartTableLaws.{part-members, part-marks}
 use Rattle.rings.proofs.DayLaws.{span-of}
 use borrow.Author.Needs.{needs}
 use Rattle.rings.proofs.ring.mark_ring.Statement.{statement}

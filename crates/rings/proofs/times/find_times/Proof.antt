@@ -117,7 +117,8 @@ returns c =
     let move-heads =
     queue2-to-move-heads (c .before .before .before .before .before .before .before .before .before) .move-heads in
     let prepare-adjacency =
-    queue2-to-prepare-adjacency (c .before .before .before .before .before .before .before .before .before) .prepare-adjacency in
+    queue2-to-prepare-adjacency
+    (c .before .before .before .before .before .before .before .before .before) .prepare-adjacency in
     record {
       accounts = accounts-are (peel .ensures);
       rows = time-rows .ensures;
