@@ -102,7 +102,6 @@ add-t28 c =
     let found-day = found-day-at (c .before .before .before) in
     let pre = outcome-to-start (c .before .before .before) .pre in
     let w = pre .working in
-    let h = pre .at-head in
     omega (arith, w .waits, w .within, w .behind, w .few, found-day .short-walk)
 
 add-t29 : tie.Need-add-t29
@@ -110,7 +109,6 @@ add-t29 c =
     let found-day = found-day-at (c .before .before .before .before) in
     let pre = outcome-to-start (c .before .before .before .before) .pre in
     let w = pre .working in
-    let h = pre .at-head in
     omega (arith, w .waits, w .within, w .behind, w .few, found-day .short-walk)
 
 same-length-2 : tie.Need-same-length-2
@@ -212,7 +210,6 @@ add-t21 c =
     let found-day = found-day-at (else2-to-put (c .before) .before .before .before .before) in
     let pre = else2-to-start (c .before) .pre in
     let w = pre .working in
-    let h = pre .at-head in
     omega (arith, w .waits, w .within, w .behind, w .few, found-day .short-walk)
 
 add-t43 : tie.Need-add-t43
@@ -220,7 +217,6 @@ add-t43 c =
     let found-day = found-day-at (else2-to-put (c .before .before) .before .before .before .before) in
     let pre = else2-to-start (c .before .before) .pre in
     let w = pre .working in
-    let h = pre .at-head in
     omega (arith, w .waits, w .within, w .behind, w .few, found-day .short-walk)
 
 add-t44 : tie.Need-add-t44
@@ -228,7 +224,6 @@ add-t44 c =
     let found-day = found-day-at (else2-to-put (c .before .before .before) .before .before .before .before) in
     let pre = else2-to-start (c .before .before .before) .pre in
     let w = pre .working in
-    let h = pre .at-head in
     omega (arith, w .waits, w .within, w .behind, w .few, found-day .short-walk)
 
 same-length-8 : tie.Need-same-length-8

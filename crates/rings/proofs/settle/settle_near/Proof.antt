@@ -1,5 +1,5 @@
 use mathlib.Core.Path.{sym, refl, _∙_}
-use Rattle.rings.proofs.FindDayLaws.{short-start}
+use Rattle.rings.proofs.WorklistLaws.{unmoved-none}
 use native.Mathlib.Omega.{arith}
 use lib.ListN.{length-set}
 use Rattle.rings.proofs.SettleNearLaws.{scanned-on, rise-scanned-on, moving-on}
@@ -57,16 +57,7 @@ counts-to-put c = c .before .before .before .before .before .before .before .bef
 returns : tie.Need-returns
 returns c =
     let pre = c .before .before .before .before .before .before .before .before .before .before .pre in
-    record {
-      same-times = refl;
-      same-slack = refl;
-      same-counts = refl;
-      behind = record { long = pre .working .queue-long; front = λ i l. refl };
-      short =
-          rw (pre .its-time) (short-start _ _ _ _ _ (pre .working .opened .setting) _ _ _
-          (pre .working .days _ (pre .at-head .small)));
-      few = omega arith;
-    }
+    unmoved-none pre
 
 entry-requires : tie.Need-entry-requires
 entry-requires c κs =
@@ -96,16 +87,7 @@ add-if2-2 c =
 returns-2 : tie.Need-returns-2
 returns-2 c =
     let pre = else1-to-start (c .before .before .before .before) .pre in
-    record {
-      same-times = refl;
-      same-slack = refl;
-      same-counts = refl;
-      behind = record { long = pre .working .queue-long; front = λ i l. refl };
-      short =
-          rw (pre .its-time) (short-start _ _ _ _ _ (pre .working .opened .setting) _ _ _
-          (pre .working .days _ (pre .at-head .small)));
-      few = omega arith;
-    }
+    unmoved-none pre
 
 scan-for-rise-requires : tie.Need-scan-for-rise-requires
 scan-for-rise-requires c κs =
