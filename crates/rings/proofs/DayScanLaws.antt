@@ -153,32 +153,32 @@ module _ (d f g scratch : List ℕ) (r : Frame) (R : ReadyPruned d f g scratch r
               scanned-count tt (r .query) (r .start) (r .stop) (r .lo) (R .setting) (estimate xs) (G .scanned) (it .row) from gap
               (λ i a k. let e = I .day in let y = R .setting .rising (it .row) i a k in let z = o .0 in omega arith) (let b = I .below in omega arith)
 
-      day-scan-skip : {n′ above′ more′ : ℕ} → it .leads ≡ false → RowNoted true never c n above more n′ above′ more′
+      -- the walk goes on behind this row
+      day-scan-on : {n′ above′ more′ : ℕ} → RowsScanned tt (estimate xs) (r .lo) (r .stop) c u (it .row + 1) n′ above′ more′
           → DayScanning d f g scratch r xs u c (p + 1) n′ above′ more′
-      day-scan-skip h N =
+      day-scan-on N =
           record {
             b = it .row + 1;
             within = let b = I .below in omega arith;
             late = let b = day-scan-late in omega arith;
             reading = reading-next d f g scratch (R .sound) (R .pruned) small (G .reading) ee here (I .row);
-            scanned =
-                scanned-not-lead tt (r .query) (r .start) (r .stop) (r .lo) (R .setting) (estimate xs) (G .scanned)
-                (it .row) from gap (sym (I .leads day-scan-late) ∙ h) N;
+            scanned = N;
           }
+
+      day-scan-skip : {n′ above′ more′ : ℕ} → it .leads ≡ false → RowNoted true never c n above more n′ above′ more′
+          → DayScanning d f g scratch r xs u c (p + 1) n′ above′ more′
+      day-scan-skip h N =
+          day-scan-on
+          (scanned-not-lead tt (r .query) (r .start) (r .stop) (r .lo) (R .setting) (estimate xs) (G .scanned)
+          (it .row) from gap (sym (I .leads day-scan-late) ∙ h) N)
 
       day-scan-note : {z n′ above′ more′ : ℕ} → it .leads ≡ true → it .day ≤ r .stop → z ≡ max (getD xs (it .other) 0) (it .day)
           → RowNoted true z c n above more n′ above′ more′ → DayScanning d f g scratch r xs u c (p + 1) n′ above′ more′
       unfolding value
       day-scan-note {z} h l ez N =
-          record {
-            b = it .row + 1;
-            within = let b = I .below in omega arith;
-            late = let b = day-scan-late in omega arith;
-            reading = reading-next d f g scratch (R .sound) (R .pruned) small (G .reading) ee here (I .row);
-            scanned =
-                scanned-note tt (r .query) (r .start) (r .stop) (r .lo) (R .setting) (estimate xs) (G .scanned)
-                (it .row) from gap (sym (I .leads day-scan-late) ∙ h) (I .touch) is-value in-range N;
-          }
+          day-scan-on
+          (scanned-note tt (r .query) (r .start) (r .stop) (r .lo) (R .setting) (estimate xs) (G .scanned)
+          (it .row) from gap (sym (I .leads day-scan-late) ∙ h) (I .touch) is-value in-range N)
         where
           is-value : z ≡ max (estimate xs (otherOf tt (it .row) u)) (dayOf tt (it .row))
           is-value =

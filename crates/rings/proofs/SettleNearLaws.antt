@@ -1,5 +1,6 @@
 -- Settling one account by the common way (src/settle.rt, `settle_near`), and what stays where nothing changed.
 --     behind-rising, same-short, same-rising, same-covered, same-counted     what is written behind the queue changes nothing
+--     scanned-on, rise-scanned-on, moving-on     a scan, or a move, on a day that has two names
 --     account-days, account-now, account-never, account-every, account-counts-before-rise        what the loop over its rows asks of it
 --     near-day, near-every, near-short, near-same, near-never, near-asks, near-counts, near-small, near-rise     the common way: one walk is enough
 -- Assumes nothing.
@@ -95,6 +96,20 @@ pub same-counted : (t : Table) (s hi : ℕ) {n : ℕ} {xs xs′ counts counts′
 same-counted t s hi {n} {xs} {xs′} {counts} {counts′} e h T =
     subst (λ (ys : List ℕ). Histogram (timeBy t (estimate ys) s hi) n counts′) (sym e)
     (subst (Histogram (timeBy t (estimate xs) s hi) n) (sym h) T)
+
+-- a scan on a day is one on any number that is equal to it, and so is a move from it
+pub scanned-on : {t : Table} {x : ℕ → ℕ} {lo hi c c′ u b k n above more : ℕ} → c ≡ c′
+    → DayScanned t x lo hi c u b k n above more → DayScanned t x lo hi c′ u b k n above more
+scanned-on {t} {x} {lo} {hi} {u = u} {b = b} {k = k} {n = n} {above = above} {more = more} =
+    subst (λ (c : ℕ). DayScanned t x lo hi c u b k n above more)
+
+pub rise-scanned-on : {t : Table} {x : ℕ → ℕ} {lo hi c c′ u b above moved tail end : ℕ} {ws : List ℕ} → c ≡ c′
+    → RiseScanned t x lo hi c u b above moved tail end ws → RiseScanned t x lo hi c′ u b above moved tail end ws
+rise-scanned-on {t} {x} {lo} {hi} {u = u} {b = b} {above = above} {moved = moved} {tail = tail} {end = end} {ws = ws} =
+    subst (λ (c : ℕ). RiseScanned t x lo hi c u b above moved tail end ws)
+
+pub moving-on : {m c c′ new : ℕ} {xs xs′ : List ℕ} → c ≡ c′ → Moving m c new xs xs′ → Moving m c′ new xs xs′
+moving-on {m} {new = new} {xs = xs} {xs′ = xs′} = subst (λ (c : ℕ). Moving m c new xs xs′)
 
 -- what the loop over its rows asks of an account that rose
 module _ (xs : List ℕ) {t : Table} {k s hi u y m : ℕ} (fits : hi < never) (long : length xs ≡ 4096)

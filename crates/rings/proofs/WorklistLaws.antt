@@ -1,4 +1,5 @@
 -- From one account of the worklist to the next, in the terms of specs/Inner/Worklist.antt: what the functions of src/settle.rt hand on.
+--     unmoved-none       nothing was done for an account
 --     unmoved-working    an account that one walk leaves open can be worked on further
 --     unmoved-attempt    what the long way makes of it is what both ways make
 --     moved-more         a wider bound on the rows that scans passed
@@ -7,7 +8,7 @@
 --     step-placed  what a step works on, at the start that it leaves
 use Prim.Native.Nat.{ℕ, _+_, _≤_}
 use native.Mathlib.Omega.{arith}
-use mathlib.Core.Path.{_≡_, sym, _∙_, ap, subst}
+use mathlib.Core.Path.{_≡_, refl, sym, _∙_, ap, subst}
 use mathlib.Core.Bool.{Bool}
 use mathlib.Core.List.{List}
 use lib.ListN.{length}
@@ -16,17 +17,31 @@ use Rattle.rings.specs.Inner.Adjacency.{Covered}
 use Rattle.rings.specs.Inner.Peeling.{ReadyPairs, estimate}
 use Rattle.rings.specs.Inner.Settling.{Days, Rising}
 use Rattle.rings.specs.Inner.Counting.{CountsBy, WhereCounted}
-use Rattle.rings.specs.Inner.Worklist.{Arrays, Working, Moved, Unmoved, AttemptIs, StepAsks}
+use Rattle.rings.specs.Inner.Worklist.{Arrays, Working, NearAsks, Moved, Unmoved, AttemptIs, StepAsks}
 use Rattle.rings.specs.declared.frame.Frame.{Frame}
 use Rattle.rings.specs.declared.scan.Scan.{Scan}
 use Rattle.rings.specs.declared.settle.Worklist.{Worklist}
 use Rattle.rings.specs.declared.settle.Attempt.{Attempt}
+use Rattle.rings.proofs.FindDayLaws.{short-start}
 use Rattle.rings.proofs.SettleNearLaws.{same-rising, same-covered, same-counted}
 use Rattle.rings.proofs.DayLaws.{ready-pairs-of, pruned-paired}
 
 -- the worklist with another number of rows passed
 abbrev pub walkedTo : Worklist → ℕ → Worklist
 walkedTo list walked = record { head = list .head; tail = list .tail; raised = list .raised; walked = walked }
+
+pub unmoved-none : {d f g scratch : List ℕ} {p : Frame} {counting : Bool} {list : Worklist} {s : Scan} {a : Arrays}
+    → NearAsks d f g scratch p counting list s a → Unmoved (tableOf d f g) p list s a a (list .walked) (s .day)
+unmoved-none A =
+    let w = A .working in
+    record {
+      same-times = refl;
+      same-slack = refl;
+      same-counts = refl;
+      behind = record { long = w .queue-long; front = λ i l. refl };
+      short = rw (A .its-time) (short-start _ _ _ _ _ (w .opened .setting) _ _ _ (w .days _ (A .at-head .small)));
+      few = omega arith;
+    }
 
 pub unmoved-working : {d f g scratch : List ℕ} {p : Frame} {counting : Bool} {list : Worklist} {s : Scan} {a a′ : Arrays} {walked day : ℕ}
     → Unmoved (tableOf d f g) p list s a a′ walked day → Working d f g scratch p counting list 65536 a

@@ -55,8 +55,10 @@ returns-2 c =
     let refuse′ = c .before .before .refuse in
     let printed2′ = c .before .before .before .before .before .printed2 in
     let list-text′ = c .before .before .before .before .before .before .before .before .before .list-text in
-    let args = c .before .before .before .before .before .before .before .before .before .before .before .before .before .args in
-    let pre′ = c .before .before .before .before .before .before .before .before .before .before .before .before .before .pre in
+    let args = c .before .before .before .before .before .before .before .before .before .before .before .before
+    .before .args in
+    let pre′ = c .before .before .before .before .before .before .before .before .before .before .before .before
+    .before .pre in
     let a = args in
     let refuse = refuse′ in
     let pre = pre′ in

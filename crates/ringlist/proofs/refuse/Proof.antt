@@ -25,7 +25,8 @@ returns c =
     let a = args in
     let pre = pre′ in
     let put-refused = put-refused′ in
-    prints-refused (a .output .now) (a .number) (a .line) (pre .2) (put-refused .ensures .answers) (put-refused .ensures .holds)
+    prints-refused (a .output .now) (a .number) (a .line) (pre .2) (put-refused .ensures .answers)
+    (put-refused .ensures .holds)
 
 pub refuse-spec : {M : Type 1} → statement M
 refuse-spec =

@@ -12,7 +12,9 @@ report-table-requires : tie.Need-report-table-requires
 report-table-requires c κs = search needs
 
 returns : tie.Need-returns
-returns c = ap {B = Numbers} (λ (t : Report). record { number = t .number; place = t .place; count = t .count }) ((c .report-table) .ensures)
+returns c =
+    ap {B = Numbers} (λ (t : Report). record { number = t .number; place = t .place; count = t .count })
+    ((c .report-table) .ensures)
 
 pub of-read-spec : {M : Type 1} → statement M
 of-read-spec = tie.close (tie.spec report-table-requires returns)

@@ -24,7 +24,8 @@ same-length-3 c = search needs
 returns : tie.Need-returns
 returns c =
     let read-table = c .before .before .before .before .before .before .before .read-table in
-    let args = c .before .before .before .before .before .before .before .before .before .before .before .before .before .before .before .args in
+    let args = c .before .before .before .before .before .before .before .before .before .before .before .before
+    .before .before .before .args in
     read-told (daysOf (args .text .now)) (firstsOf (args .text .now)) (secondsOf (args .text .now)) (args .days .now)
     (args .first .now) (args .second .now) (read-table .ensures .answers) (read-table .ensures .days-hold)
     (read-table .ensures .first-hold) (read-table .ensures .second-hold) (c .of-read .ensures)

@@ -76,7 +76,8 @@ returns c =
 pass-requires : tie.Need-pass-requires
 pass-requires c κs =
     let has-room = rows-to-has-room (c .before .before .before .before .before .before) .has-room in
-    let pre = starts-to-start (c .before .before .before .before .before .before .before .before .before .before) .pre in
+    let pre =
+    starts-to-start (c .before .before .before .before .before .before .before .before .before .before) .pre in
     record {
       sound = pre .sound;
       prepared = has-room .ensures .prepared;
@@ -99,19 +100,26 @@ same-length-7 c = search needs
 same-length-8 : tie.Need-same-length-8
 same-length-8 c =
     let clear2 = c .before .before .clear2 in
-    let pass = c .before .before .before .before .before .before .before .before .before .before .before .before .pass in
-    let has-room = starts2-to-has-room (c .before .before .before .before .before .before .before .before .before) .has-room in
-    let prepare = starts2-to-prepare (c .before .before .before .before .before .before .before .before .before) .prepare in
+    let pass =
+    c .before .before .before .before .before .before .before .before .before .before .before .before .pass in
+    let has-room =
+    starts2-to-has-room (c .before .before .before .before .before .before .before .before .before) .has-room in
+    let prepare =
+    starts2-to-prepare (c .before .before .before .before .before .before .before .before .before) .prepare in
     clear2 .kept .0 ∙ (pass .kept .1 .1 .1 .0 ∙ (has-room .kept .1 .1 .1 .0 ∙ prepare .kept .1 .1 .1 .0))
 
 returns-2 : tie.Need-returns-2
 unfolding cleared
 returns-2 c =
     let clear2 = c .before .before .clear2 in
-    let pass = c .before .before .before .before .before .before .before .before .before .before .before .before .pass in
-    let if1 = c .before .before .before .before .before .before .before .before .before .before .before .before .before .before .before .before .before .if1 in
-    let has-room = starts2-to-has-room (c .before .before .before .before .before .before .before .before .before) .has-room in
-    let prepare = starts2-to-prepare (c .before .before .before .before .before .before .before .before .before) .prepare in
+    let pass =
+    c .before .before .before .before .before .before .before .before .before .before .before .before .pass in
+    let if1 = c .before .before .before .before .before .before .before .before .before .before .before .before
+    .before .before .before .before .before .if1 in
+    let has-room =
+    starts2-to-has-room (c .before .before .before .before .before .before .before .before .before) .has-room in
+    let prepare =
+    starts2-to-prepare (c .before .before .before .before .before .before .before .before .before) .prepare in
     find-done _ _ _ _ (has-room .ensures)
     (
     clear2 .ensures ∙ ap (λ (m : ℕ). replicate m 0)

@@ -1,4 +1,5 @@
-use Rattle.listing.proofs.EndsLaws.{EndsAt, ends-none, ends-start, ends-total, ends-room, ends-skip, ends-one, ends-end}
+use Rattle.listing.proofs.EndsLaws.{EndsAt, ends-none, ends-start, ends-total, ends-room, ends-skip, ends-one}
+use Rattle.listing.proofs.EndsLaws.{ends-end}
 use Rattle.listing.specs.ListingCall.{columnsOf}
 use borrow.Author.Needs.{needs}
 use borrow.Author.Tests.{not-true, not-false}
@@ -12,11 +13,14 @@ use Rattle.listing.proofs.list.enter.Reads as enter-reads
 use Rattle.listing.proofs.list.is_listed.Reads as is-listed-reads
 
 abbrev Inv-loop : tie.InvT-loop
-Inv-loop s te low least room passed counts starts₀ ends₀ rows₀ entries₀ summed₀ total₀ e₀ starts ends rows entries summed total e =
-    EndsAt counts least s low te room passed (columnsOf starts₀ ends₀ rows₀) e total entries summed (columnsOf starts ends rows)
+Inv-loop s te low least room passed counts starts₀ ends₀ rows₀ entries₀ summed₀ total₀ e₀ starts ends rows entries
+    summed total e =
+    EndsAt counts least s low te room passed (columnsOf starts₀ ends₀ rows₀) e total entries summed
+    (columnsOf starts ends rows)
 
 abbrev μ-loop : tie.MeasureT-loop
-μ-loop s te low least room passed counts starts₀ ends₀ rows₀ entries₀ summed₀ total₀ e₀ starts ends rows entries summed total e =
+μ-loop s te low least room passed counts starts₀ ends₀ rows₀ entries₀ summed₀ total₀ e₀ starts ends rows entries
+    summed total e =
     te + 1 - e
 
 -- ---- the ways back, from a place of the code to an earlier one
@@ -135,7 +139,8 @@ loop-again-2 : tie.Need-loop-again-2 Inv-loop μ-loop
 loop-again-2 c =
     let enter = c .before .before .before .before .before .before .enter in
     let if2 = c .before .before .before .before .before .before .before .before .before .before .before .if2 in
-    let is-listed = c .before .before .before .before .before .before .before .before .before .before .before .before .is-listed in
+    let is-listed = c .before .before .before .before .before .before .before .before .before .before .before
+    .before .is-listed in
     let loop-test = rows-to-in-loop (c .before) .loop-test in
     let loop = rows-to-in-loop (c .before) .before .loop in
     let pre = ends-to-start (c .before .before .before) .pre in

@@ -1,4 +1,5 @@
--- `longest::most` meets its contract: the table is the list longest 0, .., longest 1024 itself, so antt compares the two lists.
+-- `longest::most` meets its contract: the table is the list longest 0, .., longest 1024 itself, so antt compares the
+-- two lists.
 -- Assumes nothing.
 use borrow.Author.Needs.{needs}
 use Rattle.listing.specs.LongestList.{longest}

@@ -45,7 +45,8 @@ returns-2 : tie.Need-returns-2
 returns-2 c =
     let asked = c .before .asked in
     let read-input = c .before .before .before .before .before .before .read-input in
-    let args = c .before .before .before .before .before .before .before .before .before .before .before .before .before .args in
+    let args = c .before .before .before .before .before .before .before .before .before .before .before .before
+    .before .args in
     let prints = answer-none (outcome (args .input .now)) (args .output .now)
     (asked-none (read-input .ensures) (asked .given .1)) in (prints .answer, prints .output)
 
@@ -113,7 +114,8 @@ returns-3 : tie.Need-returns-3
 returns-3 c =
     let print-rings = c .before .before .print-rings in
     let asked2 = c .before .before .before .before .before .before .before .before .asked2 in
-    let read-input = c .before .before .before .before .before .before .before .before .before .before .before .before .before .read-input in
+    let read-input = c .before .before .before .before .before .before .before .before .before .before .before
+    .before .before .read-input in
     let prints = answer-as (asked-rows (read-input .ensures) (asked2 .given .1)) (print-rings .ensures) in
     (prints .answer, prints .output)
 

@@ -7,7 +7,8 @@ use borrow.Author.Needs.{needs}
 use Rattle.rings.specs.Table.{tableOf}
 use Rattle.listing.specs.ListingCall.{each}
 use Rattle.listing.specs.Program.{found, mostListed, programScratch, listed}
-use Rattle.listing.proofs.AnswerLaws.{refused-place, listed-rings, listed-none, rings-are, rings-rise, answer-refused, answer-as}
+use Rattle.listing.proofs.AnswerLaws.{refused-place, listed-rings, listed-none, rings-are, rings-rise}
+use Rattle.listing.proofs.AnswerLaws.{answer-refused, answer-as}
 use Rattle.listing.proofs.program.print_rings.Statement.{statement}
 use Rattle.listing.proofs.program.print_rings.Tie as tie
 
@@ -41,7 +42,8 @@ slice-aggregate-write-listing-3 c = search needs
 write-listing-requires : tie.Need-write-listing-requires
 write-listing-requires c κs =
     let rings′ = c .before .before .before .before .before .rings in
-    let list-rings′ = c .before .before .before .before .before .before .before .before .before .before .before .list-rings in
+    let list-rings′ =
+    c .before .before .before .before .before .before .before .before .before .before .before .list-rings in
     let args = c .before .before .before .before .before .before .before .before .before
     .before .before .before .before .before .before .before .before .before .before .before .args in
     let a = args in
@@ -57,9 +59,11 @@ returns : tie.Need-returns
 returns c =
     let write-listing = c .before .before .write-listing in
     let rings′ = c .before .before .before .before .before .before .before .before .rings in
-    let list-rings′ = c .before .before .before .before .before .before .before .before .before .before .before .before .before .before .list-rings in
+    let list-rings′ = c .before .before .before .before .before .before .before .before .before .before .before
+    .before .before .before .list-rings in
     let args = c .before .before .before .before .before .before .before .before .before
-    .before .before .before .before .before .before .before .before .before .before .before .before .before .before .args in
+    .before .before .before .before .before .before .before .before .before .before .before .before .before
+    .before .args in
     let a = args in
     let list-rings = list-rings′ in
     let rings = rings′ in
@@ -83,15 +87,18 @@ refused-requires : tie.Need-refused-requires
 refused-requires c κs =
     let rings2 = c .before .rings2 in
     let list-rings′ = c .before .before .before .before .before .before .before .list-rings in
-    let args = c .before .before .before .before .before .before .before .before .before .before .before .before .before .before .before .before .args in
-    let pre′ = c .before .before .before .before .before .before .before .before .before .before .before .before .before .before .before .before .pre in
+    let args = c .before .before .before .before .before .before .before .before .before .before .before .before
+    .before .before .before .before .args in
+    let pre′ = c .before .before .before .before .before .before .before .before .before .before .before .before
+    .before .before .before .before .pre in
     let pre = pre′ in
     let a = args in
     let list-rings = list-rings′ in
     omega (
       arith,
       pre,
-      refused-place (tableOf (a .days .now) (a .first .now) (a .second .now)) (a .query) (a .ts) (a .te) (each mostListed)
+      refused-place (tableOf (a .days .now) (a .first .now) (a .second .now)) (a .query) (a .ts) (a .te)
+          (each mostListed)
           programScratch (sym (list-rings .ensures .0) ∙ rings2 .given .1),
     )
 

@@ -50,8 +50,10 @@ same-length-3 c = search needs
 returns : tie.Need-returns
 returns c =
     let read-rows = c .before .before .before .before .before .before .read-rows in
-    let line = c .before .before .before .before .before .before .before .before .before .before .before .before .line in
-    let read-query = c .before .before .before .before .before .before .before .before .before .before .before .before .before .before .read-query in
+    let line =
+    c .before .before .before .before .before .before .before .before .before .before .before .before .line in
+    let read-query = c .before .before .before .before .before .before .before .before .before .before .before
+    .before .before .before .read-query in
     let args = c .before .before .before .before .before .before .before .before .before
     .before .before .before .before .before .before .before .before .before .before .args in
     let pre = c .before .before .before .before .before .before .before .before .before

@@ -13,8 +13,10 @@ read-table-requires c κs = search needs
 asked-by-requires : tie.Need-asked-by-requires
 asked-by-requires c κs =
     let read-table′ = c .before .before .before .before .before .before .read-table in
-    let args = c .before .before .before .before .before .before .before .before .before .before .before .before .before .before .args in
-    let pre′ = c .before .before .before .before .before .before .before .before .before .before .before .before .before .before .pre in
+    let args = c .before .before .before .before .before .before .before .before .before .before .before .before
+    .before .before .args in
+    let pre′ = c .before .before .before .before .before .before .before .before .before .before .before .before
+    .before .before .pre in
     let pre = pre′ in
     let a = args in
     let read-table = read-table′ in
@@ -37,8 +39,10 @@ same-length-3 c = search needs
 returns : tie.Need-returns
 returns c =
     let read-table′ = c .before .before .before .before .before .before .before .read-table in
-    let args = c .before .before .before .before .before .before .before .before .before .before .before .before .before .before .before .args in
-    let pre′ = c .before .before .before .before .before .before .before .before .before .before .before .before .before .before .before .pre in
+    let args = c .before .before .before .before .before .before .before .before .before .before .before .before
+    .before .before .before .args in
+    let pre′ = c .before .before .before .before .before .before .before .before .before .before .before .before
+    .before .before .before .pre in
     let a = args in
     let read-table = read-table′ in
     let pre = pre′ in

@@ -10,7 +10,8 @@ use Rattle.listing.proofs.program.write_lines.Statement.{statement}
 use Rattle.listing.proofs.program.write_lines.Tie as tie
 
 abbrev Inv-loop : tie.InvT-loop
-Inv-loop starts ends rows count output₀ at₀ i₀ output at i = (i ≤ count) × Printing (columnsOf starts ends rows) output₀ output at i
+Inv-loop starts ends rows count output₀ at₀ i₀ output at i =
+    (i ≤ count) × Printing (columnsOf starts ends rows) output₀ output at i
 
 abbrev μ-loop : tie.MeasureT-loop
 μ-loop starts ends rows count output₀ at₀ i₀ output at i = count - i
@@ -18,7 +19,8 @@ abbrev μ-loop : tie.MeasureT-loop
 loop-holds : tie.Need-loop-holds Inv-loop μ-loop
 loop-holds c =
     let args = c .before .before .before .before .args in
-    let a = args in (omega arith, print-start (columnsOf (a .starts .now) (a .ends .now) (a .rows .now)) (a .output .now))
+    let a = args in
+    (omega arith, print-start (columnsOf (a .starts .now) (a .ends .now) (a .rows .now)) (a .output .now))
 
 mul-start : tie.Need-mul-start Inv-loop μ-loop
 mul-start c =
@@ -69,14 +71,16 @@ add-at : tie.Need-add-at Inv-loop μ-loop
 add-at c =
     let loop-test′ = c .before .before .before .before .before .before .before .loop-test in
     let loop′ = c .before .before .before .before .before .before .before .before .loop in
-    let pre′ = c .before .before .before .before .before .before .before .before .before .before .before .before .before .pre in
+    let pre′ = c .before .before .before .before .before .before .before .before .before .before .before .before
+    .before .pre in
     let loop-test = loop-test′ in
     let pre = pre′ in let loop = loop′ in omega (arith, loop-test .taken, pre .rising .most, loop .inv .1 .next)
 
 add-i : tie.Need-add-i Inv-loop μ-loop
 add-i c =
     let loop-test′ = c .before .before .before .before .before .before .before .loop-test in
-    let pre′ = c .before .before .before .before .before .before .before .before .before .before .before .before .before .pre in
+    let pre′ = c .before .before .before .before .before .before .before .before .before .before .before .before
+    .before .pre in
     let loop-test = loop-test′ in let pre = pre′ in omega (arith, loop-test .taken, pre .rising .most)
 
 loop-less : tie.Need-loop-less Inv-loop μ-loop
@@ -90,15 +94,18 @@ loop-again c =
     let put-line′ = c .before .before .put-line in
     let loop-test′ = c .before .before .before .before .before .before .before .loop-test in
     let loop′ = c .before .before .before .before .before .before .before .before .loop in
-    let args = c .before .before .before .before .before .before .before .before .before .before .before .before .before .args in
-    let pre′ = c .before .before .before .before .before .before .before .before .before .before .before .before .before .pre in
+    let args = c .before .before .before .before .before .before .before .before .before .before .before .before
+    .before .args in
+    let pre′ = c .before .before .before .before .before .before .before .before .before .before .before .before
+    .before .pre in
     let loop-test = loop-test′ in
     let a = args in
     let loop = loop′ in
     let pre = pre′ in
     let put-line = put-line′ in (
       omega (arith, loop-test .taken),
-      print-next (columnsOf (a .starts .now) (a .ends .now) (a .rows .now)) (loop .inv .1) (loop-test .taken) (pre .room)
+      print-next (columnsOf (a .starts .now) (a .ends .now) (a .rows .now)) (loop .inv .1) (loop-test .taken)
+          (pre .room)
           (put-line .ensures .answers) (put-line .ensures .holds),
     )
 
@@ -113,7 +120,8 @@ returns c =
     let args = c .before .before .before .before .before .before .args in
     let a = args in
     let loop = loop′ in
-    print-end (columnsOf (a .starts .now) (a .ends .now) (a .rows .now)) (loop .inv .1) (loop .inv .0) (c .loop-test .left)
+    print-end (columnsOf (a .starts .now) (a .ends .now) (a .rows .now)) (loop .inv .1) (loop .inv .0)
+    (c .loop-test .left)
 
 pub write-lines-spec : {M : Type 1} → statement M
 write-lines-spec =

@@ -42,7 +42,8 @@ returns-2 c =
     let write-lines = c .before .before .write-lines in
     let put-header = c .before .before .before .before .before .before .put-header in
     let if1 = c .before .before .before .before .before .before .before .before .if1 in
-    let args = c .before .before .before .before .before .before .before .before .before .before .before .before .before .args in
+    let args = c .before .before .before .before .before .before .before .before .before .before .before .before
+    .before .args in
     text-done (columnsOf (args .starts .now) (args .ends .now) (args .rows .now)) (args .output .now)
     (args .count) (if1 .left) (put-header .ensures .answers) (put-header .ensures .holds)
     (write-lines .ensures)

@@ -99,7 +99,8 @@ loop-again c =
       long = passing-long (pass-head2 .ensures) ∙ (passing-long (pass-head .ensures) ∙ loop .inv .long);
       passed = heads-next (loop .inv .passed)
           (first-small (pre .sound) (omega (arith, loop-test .taken, pre .within)) (entry .ensures))
-          (second-small (pre .sound) (omega (arith, loop-test .taken, pre .within)) (entry2 .ensures)) (pass-head .ensures) (pass-head2 .ensures);
+          (second-small (pre .sound) (omega (arith, loop-test .taken, pre .within)) (entry2 .ensures))
+          (pass-head .ensures) (pass-head2 .ensures);
       within = omega (arith, loop-test .taken);
     }
 

@@ -38,7 +38,8 @@ loop-holds c =
     let pre = c .before .before .before .before .before .before .before .before .before .pre in (
       omega arith,
       pre .0 .known .span .ordered,
-      hist-start _ _ _ (pre .1) (clear .ensures) (λ j h. row-before _ _ _ _ j (pre .0 .known .framed .setting .before-lo j h)),
+      hist-start _ _ _ (pre .1) (clear .ensures)
+          (λ j h. row-before _ _ _ _ j (pre .0 .known .framed .setting .before-lo j h)),
     )
 
 row-time-requires : tie.Need-row-time-requires Inv-loop μ-loop
@@ -52,7 +53,8 @@ add-count-requires c κs =
     let loop-test = c .before .before .loop-test in
     let loop = c .before .before .before .loop in
     let pre = loop-to-start (c .before .before .before) .pre in
-    hist-few _ (loop .inv .2) (omega (arith, loop-test .taken, pre .0 .known .span .within, pre .0 .known .framed .sound .most))
+    hist-few _ (loop .inv .2)
+    (omega (arith, loop-test .taken, pre .0 .known .span .within, pre .0 .known .framed .sound .most))
     (is-time _ _ _ _ _ (pre .0 .in-days) (row-time .ensures))
 
 add-j : tie.Need-add-j Inv-loop μ-loop

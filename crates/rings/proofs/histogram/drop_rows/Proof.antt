@@ -50,7 +50,8 @@ drop-count-requires c κs =
     let loop-test = c .before .before .loop-test in
     let loop = c .before .before .before .loop in
     let pre = c .before .before .before .before .before .before .before .before .before .pre in
-    drop-asks _ _ _ _ _ _ _ (pre .0 .known .framed .setting) (pre .0 .known .times-are) (pre .1 .follows) (loop-test .taken) (pre .0 .in-days)
+    drop-asks _ _ _ _ _ _ _ (pre .0 .known .framed .setting) (pre .0 .known .times-are) (pre .1 .follows)
+    (loop-test .taken) (pre .0 .in-days)
     (row-time .ensures) (loop .inv .2)
 
 add-j : tie.Need-add-j Inv-loop μ-loop
@@ -70,10 +71,12 @@ loop-again c =
     let row-time = c .before .before .before .before .row-time in
     let loop-test = c .before .before .before .before .before .loop-test in
     let loop = c .before .before .before .before .before .before .loop in
-    let pre = c .before .before .before .before .before .before .before .before .before .before .before .before .pre in (
+    let pre =
+    c .before .before .before .before .before .before .before .before .before .before .before .before .pre in (
       omega (arith, loop .inv .0),
       omega (arith, loop-test .taken),
-      drop-next _ _ _ _ _ _ _ (pre .0 .known .framed .setting) (pre .0 .known .times-are) (pre .1 .follows) (loop-test .taken) (pre .0 .in-days)
+      drop-next _ _ _ _ _ _ _ (pre .0 .known .framed .setting) (pre .0 .known .times-are) (pre .1 .follows)
+          (loop-test .taken) (pre .0 .in-days)
           (row-time .ensures) (loop .inv .2) (drop-count .ensures),
     )
 
@@ -87,7 +90,8 @@ returns : tie.Need-returns Inv-loop μ-loop
 returns c =
     let loop = c .before .loop in
     let pre = c .before .before .before .before .before .before .before .pre in
-    drop-end _ _ _ _ _ _ _ (pre .0 .known .framed .setting) (pre .0 .known .times-are) (pre .1 .follows) (c .loop-test .left) (loop .inv .2)
+    drop-end _ _ _ _ _ _ _ (pre .0 .known .framed .setting) (pre .0 .known .times-are) (pre .1 .follows)
+    (c .loop-test .left) (loop .inv .2)
 
 pub drop-rows-spec : {M : Type 1} → statement M
 drop-rows-spec =

@@ -35,7 +35,8 @@ sub-counts c =
     let if1 = c .before .before .if1 in
     let args = c .before .before .before .before .args in
     let pre = c .before .before .before .before .pre in
-    subst (λ (i : ℕ). args .m ≤ getD (args .counts .now) i 0) (sym (wide .ensures)) ((pre (not-false _ (if1 .left))) .enough)
+    subst (λ (i : ℕ). args .m ≤ getD (args .counts .now) i 0) (sym (wide .ensures))
+    ((pre (not-false _ (if1 .left))) .enough)
 
 mul-counts-2 : tie.Need-mul-counts-2
 mul-counts-2 c = search needs
@@ -53,7 +54,8 @@ add-count-requires c κs =
     let if1 = c .before .before .before .if1 in
     let args = c .before .before .before .before .before .args in
     let pre = c .before .before .before .before .before .pre in
-    moving-room _ _ _ (args .counts .now) _ ((pre (not-false _ (if1 .left))) .long) ((pre (not-false _ (if1 .left))) .from-day)
+    moving-room _ _ _ (args .counts .now) _ ((pre (not-false _ (if1 .left))) .long)
+    ((pre (not-false _ (if1 .left))) .from-day)
     ((pre (not-false _ (if1 .left))) .enough)
     (ap (λ (i : ℕ). set (args .counts .now) i (getD (args .counts .now) i 0 - args .m)) (wide .ensures))
     ((pre (not-false _ (if1 .left))) .room)

@@ -53,7 +53,8 @@ returns c =
     let entry = c .before .before .before .before .before .entry in
     let args = c .before .before .before .before .before .before .before .before .before .before .args in
     let pre = c .before .before .before .before .before .before .before .before .before .before .pre in
-    row-read pre (entry .ensures) (entry2 .ensures) (entry3 .ensures) (args .lo) refl (other .ensures) (c .entry4 .ensures)
+    row-read pre (entry .ensures) (entry2 .ensures) (entry3 .ensures) (args .lo) refl (other .ensures)
+    (c .entry4 .ensures)
 
 pub row-at-spec : {M : Type 1} → statement M
 row-at-spec =

@@ -41,10 +41,8 @@ clear-requires-2 c κs = search needs
 count-neighbours-requires : tie.Need-count-neighbours-requires
 count-neighbours-requires c κs =
     let clear2 = c .before .before .before .clear2 in
-    let args =
-    clear2-to-start (c .before .before .before) .args in
-    let pre =
-    clear2-to-start (c .before .before .before) .pre in
+    let args = clear2-to-start (c .before .before .before) .args in
+    let pre = clear2-to-start (c .before .before .before) .pre in
     let ready = pre .0 in
     let span = pre .1 .0 in
     let buffers = pre .1 .1 in
@@ -56,8 +54,7 @@ queue-low-degree-requires c κs =
     let clear =
     c .before .before .before .before .before .before .before .before .before .before .before .before
     .before .clear in
-    let pre =
-    clear2-to-start (c .before .before .before .before .before .before .before .before .before) .pre in
+    let pre = clear2-to-start (c .before .before .before .before .before .before .before .before .before) .pre in
     let ready = pre .0 in
     let span = pre .1 .0 in
     let buffers = pre .1 .1 in
@@ -65,30 +62,28 @@ queue-low-degree-requires c κs =
 
 remove-queued-requires : tie.Need-remove-queued-requires
 remove-queued-requires c κs =
-    let queue-low-degree = c .before .before .before .before .before .before .before .before .before .queue-low-degree in
-    let pre =
-    times2-to-start (c .before .before .before .before .before .before .before .before) .pre in
+    let queue-low-degree =
+    c .before .before .before .before .before .before .before .before .before .queue-low-degree in
+    let pre = times2-to-start (c .before .before .before .before .before .before .before .before) .pre in
     let ready = pre .0 in
     (ready, queue-low-degree .ensures .state)
 
 same-length : tie.Need-same-length
 same-length c =
     let remove-queued = c .before .before .before .before .before .before .remove-queued in
-    let queue-low-degree =
-    times3-to-queue-low-degree (c .before .before .before .before .before) .queue-low-degree in
-    let clear =
-    times3-to-clear2 (c .before .before .before .before .before) .before .before .before .before .clear in
+    let queue-low-degree = times3-to-queue-low-degree (c .before .before .before .before .before) .queue-low-degree in
+    let clear = times3-to-clear2 (c .before .before .before .before .before) .before .before .before .before .clear in
     remove-queued .kept .1 .1 .1 .1 .1 .1 .0 ∙ (queue-low-degree .kept .1 .1 .1 .1 .1 .1 .0 ∙ clear .kept .0)
 
 same-length-2 : tie.Need-same-length-2
 same-length-2 c =
     let remove-queued = c .before .before .before .before .before .before .remove-queued in
-    let queue-low-degree =
-    times3-to-queue-low-degree (c .before .before .before .before .before) .queue-low-degree in
+    let queue-low-degree = times3-to-queue-low-degree (c .before .before .before .before .before) .queue-low-degree in
     let count-neighbours =
-    queue-to-count-neighbours (c .before .before .before .before .before .before .before .before .before .before .before) .count-neighbours in
-    let clear2 =
-    times3-to-clear2 (c .before .before .before .before .before) .clear2 in
+    queue-to-count-neighbours
+    (c .before .before .before .before .before .before .before .before .before .before .before)
+    .count-neighbours in
+    let clear2 = times3-to-clear2 (c .before .before .before .before .before) .clear2 in
     remove-queued .kept .1 .1 .1 .1 .1 .1 .1 .0 ∙
     (queue-low-degree .kept .1 .1 .1 .1 .1 .1 .1 .0 ∙ (count-neighbours .kept .1 .1 .1 .1 .1 .1 .0 ∙ clear2 .kept .0))
 
@@ -98,8 +93,7 @@ same-length-3 c = search needs
 returns : tie.Need-returns
 returns c =
     let remove-queued = c .before .before .before .before .before .before .remove-queued in
-    let queue-low-degree =
-    times3-to-queue-low-degree (c .before .before .before .before .before) .queue-low-degree in
+    let queue-low-degree = times3-to-queue-low-degree (c .before .before .before .before .before) .queue-low-degree in
     let empty = remove-queued .ensures in
     record {
       goes-on = record {
@@ -115,6 +109,7 @@ pub core-spec : {M : Type 1} → statement M
 core-spec =
     tie.close
     (
-    tie.spec clear-requires clear-requires-2 count-neighbours-requires queue-low-degree-requires remove-queued-requires same-length
+    tie.spec clear-requires clear-requires-2 count-neighbours-requires queue-low-degree-requires
+    remove-queued-requires same-length
     same-length-2 same-length-3 returns
     )

@@ -1,10 +1,12 @@
 -- `peel::count_neighbours` meets its contract. The loop's invariant: the rows below j have been counted (PeelLoopLaws).
 -- Assumes nothing.
 use native.Mathlib.Omega.{arith}
-use Prim.Native.Nat.{_-_}
+use Prim.Native.Nat.{_-_, _≤_, _<_}
+use lib.ListN.{length}
 use mathlib.Core.Path.{refl}
 use Rattle.rings.proofs.PeelLoopLaws.{Counting, count-end}
-use Rattle.rings.proofs.CountNeighbourLaws.{count-start, count-below, count-place, count-first, count-second, count-skip, count-row}
+use Rattle.rings.proofs.CountNeighbourLaws.{count-start, count-below, count-place, count-first, count-second}
+use Rattle.rings.proofs.CountNeighbourLaws.{count-skip, count-row}
 use Rattle.rings.proofs.peel.count_neighbours.Statement.{statement}
 use Rattle.rings.proofs.peel.count_neighbours.Tie as tie
 use Rattle.rings.proofs.peel.count_neighbours.Reads as reads
@@ -22,17 +24,47 @@ abbrev μ-loop : tie.MeasureT-loop
 
 -- ---- the ways back, from a place of the code to an earlier one
 
-abbrev leads-to-start : tie.After-leads Inv-loop μ-loop → tie.Start Inv-loop μ-loop
-leads-to-start c = c .before .before .before .before .before .before .before .before
+abbrev in-loop-to-start : tie.In-loop Inv-loop μ-loop → tie.Start Inv-loop μ-loop
+in-loop-to-start c = c .before .before .before .before .before .before .before
 
 abbrev entry3-to-start : tie.After-entry3 Inv-loop μ-loop → tie.Start Inv-loop μ-loop
-entry3-to-start c = leads-to-start (c .before .before .before .before .before)
-
-abbrev entry4-to-start : tie.After-entry4 Inv-loop μ-loop → tie.Start Inv-loop μ-loop
-entry4-to-start c = entry3-to-start (c .before .before .before .before .before .before)
+entry3-to-start c = in-loop-to-start (c .before .before .before .before .before .before)
 
 abbrev entry4-to-entry : tie.After-entry4 Inv-loop μ-loop → tie.After-entry Inv-loop μ-loop
 entry4-to-entry c = c .before .before .before .before .before .before .before .before .before
+
+-- the row of this turn stands in the table
+row-below : (c : tie.In-loop Inv-loop μ-loop) → c .before .loop .j < length (in-loop-to-start c .args .days .now)
+row-below c =
+    let pre = in-loop-to-start c .pre in
+    count-below _ _ _ _ _ (pre .0) (c .before .loop .inv) (c .loop-test .taken) (pre .1 .0)
+
+-- the numbers of its two accounts have a place, and one more fits
+first-at : (c : tie.After-entry3 Inv-loop μ-loop)
+    → (c .before .before .before .entry .result
+    < length (c .before .before .before .before .before .before .before .loop .left))
+    × (c .entry3 .result ≤ 16384)
+first-at c =
+    let entry = c .before .before .before .entry in
+    let loop-test = c .before .before .before .before .before .before .loop-test in
+    let loop = c .before .before .before .before .before .before .before .loop in
+    let pre = entry3-to-start c .pre in
+    count-first _ _ _ _ _ (pre .0) (loop .inv) (loop-test .taken) (pre .1 .0) (entry .ensures) (c .entry3 .ensures)
+
+second-at : (c : tie.After-entry4 Inv-loop μ-loop)
+    → (c .before .before .before .before .before .before .before .before .entry2 .result
+    < length (c .before .before .before .before .put .last .0))
+    × (c .entry4 .result ≤ 16384)
+second-at c =
+    let put = c .before .before .before .before .put in
+    let entry3 = c .before .before .before .before .before .before .entry3 in
+    let entry2 = c .before .before .before .before .before .before .before .before .entry2 in
+    let entry = entry4-to-entry c .entry in
+    let loop-test = entry4-to-entry c .before .before .before .loop-test in
+    let loop = entry4-to-entry c .before .before .before .before .loop in
+    let pre = entry3-to-start (c .before .before .before .before .before .before) .pre in
+    count-second _ _ _ _ _ (pre .0) (loop .inv) (loop-test .taken) (pre .1 .0) (entry .ensures) (entry2 .ensures)
+    (entry3 .ensures) (put .ensures) (c .entry4 .ensures)
 
 loop-holds : tie.Need-loop-holds Inv-loop μ-loop
 loop-holds c =
@@ -45,67 +77,40 @@ loop-holds c =
 leads-requires : tie.Need-leads-requires Inv-loop μ-loop
 leads-requires c κs =
     let loop = c .before .loop in
-    let pre = c .before .before .before .before .before .before .before .pre in
+    let pre = in-loop-to-start c .pre in
     let ready = pre .0 in
     let span = pre .1 .0 in
     let loop-test = c .loop-test in count-place _ _ _ _ _ ready (loop .inv) (loop-test .taken) span
 
 entry-requires : tie.Need-entry-requires Inv-loop μ-loop
 entry-requires c κs =
-    let loop-test = c .before .before .loop-test in
-    let loop = c .before .before .before .loop in
-    let pre = leads-to-start (c .before) .pre in
-    let ready = pre .0 in
-    let span = pre .1 .0 in
-    omega (arith, count-below _ _ _ _ _ ready (loop .inv) (loop-test .taken) span, ready .sound .firsts)
+    let pre = in-loop-to-start (c .before .before) .pre in
+    omega (arith, row-below (c .before .before), pre .0 .sound .firsts)
 
 entry-requires-2 : tie.Need-entry-requires-2 Inv-loop μ-loop
 entry-requires-2 c κs =
-    let loop-test = c .before .before .before .loop-test in
-    let loop = c .before .before .before .before .loop in
-    let pre = leads-to-start (c .before .before) .pre in
-    let ready = pre .0 in
-    let span = pre .1 .0 in
-    omega (arith, count-below _ _ _ _ _ ready (loop .inv) (loop-test .taken) span, ready .sound .seconds)
+    let pre = in-loop-to-start (c .before .before .before) .pre in
+    omega (arith, row-below (c .before .before .before), pre .0 .sound .seconds)
 
 entry-requires-3 : tie.Need-entry-requires-3 Inv-loop μ-loop
 entry-requires-3 c κs =
     let entry = c .before .before .entry in
     let loop-test = c .before .before .before .before .before .loop-test in
     let loop = c .before .before .before .before .before .before .loop in
-    let pre = leads-to-start (c .before .before .before .before) .pre in
+    let pre = in-loop-to-start (c .before .before .before .before .before) .pre in
     let ready = pre .0 in
     let span = pre .1 .0 in
     count-first _ _ _ _ _ ready (loop .inv) (loop-test .taken) span (entry .ensures) refl .0
 
 add-put : tie.Need-add-put Inv-loop μ-loop
 add-put c =
-    let entry3 = c .before .entry3 in
-    let entry = c .before .before .before .before .entry in
-    let loop-test = c .before .before .before .before .before .before .before .loop-test in
-    let loop = c .before .before .before .before .before .before .before .before .loop in
-    let pre =
-    entry3-to-start (c .before) .pre in
-    let ready = pre .0 in
-    let span = pre .1 .0 in
-    omega (
-      arith,
-      count-first _ _ _ _ _ ready (loop .inv) (loop-test .taken) span (entry .ensures) (entry3 .ensures),
-    )
+    let first = first-at (c .before) in
+    omega arith
 
 put-requires : tie.Need-put-requires Inv-loop μ-loop
 put-requires c κs =
-    let entry3 = c .before .entry3 in
-    let entry = c .before .before .before .before .entry in
-    let loop-test = c .before .before .before .before .before .before .before .loop-test in
-    let loop = c .before .before .before .before .before .before .before .before .loop in
-    let pre =
-    entry3-to-start (c .before) .pre in
-    let ready = pre .0 in
-    let span = pre .1 .0 in
-    let first = count-first _ _ _ _ _ ready (loop .inv) (loop-test .taken) span (entry .ensures)
-    (entry3 .ensures) in
-    record { place = first .0; number = omega (arith, first .1) }
+    let first = first-at (c .before) in
+    record { place = first .0; number = omega arith }
 
 entry-requires-4 : tie.Need-entry-requires-4 Inv-loop μ-loop
 entry-requires-4 c κs =
@@ -117,8 +122,7 @@ entry-requires-4 c κs =
     c .before .before .before .before .before .before .before .before .before .before .before .loop-test in
     let loop =
     c .before .before .before .before .before .before .before .before .before .before .before .before .loop in
-    let pre =
-    entry3-to-start (c .before .before .before .before .before) .pre in
+    let pre = entry3-to-start (c .before .before .before .before .before) .pre in
     let ready = pre .0 in
     let span = pre .1 .0 in
     count-second _ _ _ _ _ ready (loop .inv) (loop-test .taken) span (entry .ensures) (entry2 .ensures)
@@ -126,60 +130,27 @@ entry-requires-4 c κs =
 
 add-put-2 : tie.Need-add-put-2 Inv-loop μ-loop
 add-put-2 c =
-    let entry4 = c .before .entry4 in
-    let put = c .before .before .before .before .before .put in
-    let entry3 = c .before .before .before .before .before .before .before .entry3 in
-    let entry2 = c .before .before .before .before .before .before .before .before .before .entry2 in
-    let entry = entry4-to-entry (c .before) .entry in
-    let loop-test =
-    entry4-to-entry (c .before) .before .before .before .loop-test in
-    let loop =
-    entry4-to-entry (c .before) .before .before .before .before .loop in
-    let pre =
-    entry4-to-start (c .before) .pre in
-    let ready = pre .0 in
-    let span = pre .1 .0 in
-    omega (
-      arith,
-      count-second _ _ _ _ _ ready (loop .inv) (loop-test .taken) span (entry .ensures) (entry2 .ensures)
-          (entry3 .ensures) (put .ensures) (entry4 .ensures),
-    )
+    let second = second-at (c .before) in
+    omega arith
 
 put-requires-2 : tie.Need-put-requires-2 Inv-loop μ-loop
 put-requires-2 c κs =
-    let entry4 = c .before .entry4 in
-    let put = c .before .before .before .before .before .put in
-    let entry3 = c .before .before .before .before .before .before .before .entry3 in
-    let entry2 = c .before .before .before .before .before .before .before .before .before .entry2 in
-    let entry = entry4-to-entry (c .before) .entry in
-    let loop-test =
-    entry4-to-entry (c .before) .before .before .before .loop-test in
-    let loop =
-    entry4-to-entry (c .before) .before .before .before .before .loop in
-    let pre =
-    entry4-to-start (c .before) .pre in
-    let ready = pre .0 in
-    let span = pre .1 .0 in
-    let second = count-second _ _ _ _ _ ready (loop .inv) (loop-test .taken) span (entry .ensures)
-    (entry2 .ensures) (entry3 .ensures) (put .ensures) (entry4 .ensures) in
-    record { place = second .0; number = omega (arith, second .1) }
+    let second = second-at (c .before) in
+    record { place = second .0; number = omega arith }
 
 add-j : tie.Need-add-j Inv-loop μ-loop
 add-j c =
-    let loop-test =
-    entry4-to-entry (c .before .before .before .before) .before .before .before .loop-test in
-    let loop =
-    entry4-to-entry (c .before .before .before .before) .before .before .before .before .loop in
     let pre =
-    entry4-to-start (c .before .before .before .before) .pre in
-    let ready = pre .0 in
-    let span = pre .1 .0 in
-    omega (arith, count-below _ _ _ _ _ ready (loop .inv) (loop-test .taken) span, ready .sound .most)
+    entry3-to-start (c .before .before .before .before .before .before .before .before .before .before) .pre in
+    omega (
+      arith,
+      row-below (entry4-to-entry (c .before .before .before .before) .before .before .before),
+      pre .0 .sound .most,
+    )
 
 loop-less : tie.Need-loop-less Inv-loop μ-loop
 loop-less c =
-    let loop-test =
-    entry4-to-entry (c .before .before .before .before) .before .before .before .loop-test in
+    let loop-test = entry4-to-entry (c .before .before .before .before) .before .before .before .loop-test in
     omega (arith, loop-test .taken)
 
 loop-again : tie.Need-loop-again Inv-loop μ-loop
@@ -190,18 +161,13 @@ loop-again c =
     let entry3 = c .before .before .before .before .before .before .before .before .before .before .entry3 in
     let entry2 =
     c .before .before .before .before .before .before .before .before .before .before .before .before .entry2 in
-    let entry =
-    entry4-to-entry (c .before .before .before .before) .entry in
-    let if1 =
-    entry4-to-entry (c .before .before .before .before) .before .if1 in
-    let leads =
-    entry4-to-entry (c .before .before .before .before) .before .before .leads in
-    let loop-test =
-    entry4-to-entry (c .before .before .before .before) .before .before .before .loop-test in
-    let loop =
-    entry4-to-entry (c .before .before .before .before) .before .before .before .before .loop in
+    let entry = entry4-to-entry (c .before .before .before .before) .entry in
+    let if1 = entry4-to-entry (c .before .before .before .before) .before .if1 in
+    let leads = entry4-to-entry (c .before .before .before .before) .before .before .leads in
+    let loop-test = entry4-to-entry (c .before .before .before .before) .before .before .before .loop-test in
+    let loop = entry4-to-entry (c .before .before .before .before) .before .before .before .before .loop in
     let pre =
-    entry4-to-start (c .before .before .before .before) .pre in
+    entry3-to-start (c .before .before .before .before .before .before .before .before .before .before) .pre in
     let ready = pre .0 in
     let span = pre .1 .0 in
     count-row _ _ _ _ _ ready (loop .inv) (loop-test .taken) span (leads .ensures) (if1 .taken)
@@ -209,12 +175,8 @@ loop-again c =
 
 add-j-2 : tie.Need-add-j-2 Inv-loop μ-loop
 add-j-2 c =
-    let loop-test = c .before .before .loop-test in
-    let loop = c .before .before .before .loop in
-    let pre = leads-to-start (c .before) .pre in
-    let ready = pre .0 in
-    let span = pre .1 .0 in
-    omega (arith, count-below _ _ _ _ _ ready (loop .inv) (loop-test .taken) span, ready .sound .most)
+    let pre = in-loop-to-start (c .before .before) .pre in
+    omega (arith, row-below (c .before .before), pre .0 .sound .most)
 
 loop-less-2 : tie.Need-loop-less-2 Inv-loop μ-loop
 loop-less-2 c =
@@ -226,7 +188,7 @@ loop-again-2 c =
     let leads = c .before .leads in
     let loop-test = c .before .before .loop-test in
     let loop = c .before .before .before .loop in
-    let pre = leads-to-start (c .before) .pre in
+    let pre = in-loop-to-start (c .before .before) .pre in
     let ready = pre .0 in
     let span = pre .1 .0 in
     let if1 = c .if1 in

@@ -1,4 +1,5 @@
--- `peel::queue_low_degree` meets its contract. The loop's invariant: the accounts below u have been tested, and none from u on
+-- `peel::queue_low_degree` meets its contract. The loop's invariant: the accounts below u have been tested, and none
+-- from u on
 -- has been removed (PeelLoopLaws).
 -- Assumes nothing.
 use native.Mathlib.Omega.{arith}
@@ -52,38 +53,34 @@ put-requires : tie.Need-put-requires Inv-loop μ-loop
 put-requires c κs =
     let loop-test = c .before .before .before .before .loop-test in
     let loop = c .before .before .before .before .before .loop in
-    let pre =
-    then1-to-start (c .before) .pre in
+    let pre = then1-to-start (c .before) .pre in
     record { place = low-degree-room _ _ _ _ _ (pre .0) (loop .inv) (loop-test .taken) .1; number = omega arith }
 
 put-requires-2 : tie.Need-put-requires-2 Inv-loop μ-loop
 put-requires-2 c κs =
     let loop-test = c .before .before .before .before .before .before .before .before .loop-test in
     let loop = c .before .before .before .before .before .before .before .before .before .loop in
-    let pre =
-    then1-to-start (c .before .before .before .before .before) .pre in
-    record { place = low-degree-room _ _ _ _ _ (pre .0) (loop .inv) (loop-test .taken) .0; number = omega (arith, loop-test .taken) }
+    let pre = then1-to-start (c .before .before .before .before .before) .pre in
+    record {
+      place = low-degree-room _ _ _ _ _ (pre .0) (loop .inv) (loop-test .taken) .0;
+      number = omega (arith, loop-test .taken);
+    }
 
 add-tail : tie.Need-add-tail Inv-loop μ-loop
 add-tail c =
-    let loop-test =
-    queue-to-in-loop (c .before) .loop-test in
-    let loop =
-    queue-to-in-loop (c .before) .before .loop in
-    let pre =
-    then1-to-start (c .before .before .before .before .before .before .before .before) .pre in
+    let loop-test = queue-to-in-loop (c .before) .loop-test in
+    let loop = queue-to-in-loop (c .before) .before .loop in
+    let pre = then1-to-start (c .before .before .before .before .before .before .before .before) .pre in
     let small = low-degree-small _ _ _ _ _ (pre .0) (loop .inv) (loop-test .taken) in omega (arith, small)
 
 add-u : tie.Need-add-u Inv-loop μ-loop
 add-u c =
-    let loop-test =
-    queue-to-in-loop (c .before) .loop-test in
+    let loop-test = queue-to-in-loop (c .before) .loop-test in
     omega (arith, loop-test .taken)
 
 loop-less : tie.Need-loop-less Inv-loop μ-loop
 loop-less c =
-    let loop-test =
-    queue-to-in-loop (c .before) .loop-test in
+    let loop-test = queue-to-in-loop (c .before) .loop-test in
     omega (arith, loop-test .taken)
 
 loop-again : tie.Need-loop-again Inv-loop μ-loop
@@ -91,12 +88,9 @@ loop-again c =
     let put2 = c .before .before .put2 in
     let put = c .before .before .before .before .before .before .put in
     let if1 = c .before .before .before .before .before .before .before .before .if1 in
-    let loop-test =
-    queue-to-in-loop (c .before) .loop-test in
-    let loop =
-    queue-to-in-loop (c .before) .before .loop in
-    let pre =
-    then1-to-start (c .before .before .before .before .before .before .before .before) .pre in
+    let loop-test = queue-to-in-loop (c .before) .loop-test in
+    let loop = queue-to-in-loop (c .before) .before .loop in
+    let pre = then1-to-start (c .before .before .before .before .before .before .before .before) .pre in
     low-degree-removal _ _ _ _ _ (pre .0) (loop .inv) (loop-test .taken) (if1 .taken) (put .ensures) (put2 .ensures)
 
 add-u-2 : tie.Need-add-u-2 Inv-loop μ-loop

@@ -1,4 +1,5 @@
--- `peel::remove_account` meets its contract. The loop's invariant: the rows of u before place p have been passed (RemoveAccountLaws).
+-- `peel::remove_account` meets its contract. The loop's invariant: the rows of u before place p have been passed
+-- (RemoveAccountLaws).
 -- Assumes nothing.
 use native.Mathlib.Omega.{arith}
 use Prim.Native.Nat.{_-_}
@@ -65,16 +66,14 @@ loop-holds c =
 
 row-at-requires : tie.Need-row-at-requires Inv-loop μ-loop
 row-at-requires c κs =
-    let pre =
-    entry2-to-start (c .before .before .before) .pre in
+    let pre = entry2-to-start (c .before .before .before) .pre in
     let loop = c .before .loop in
     let loop-test = c .loop-test in
     removing-stands _ _ _ _ _ (pre .0) (loop .inv) (loop-test .taken)
 
 add-t21 : tie.Need-add-t21 Inv-loop μ-loop
 add-t21 c =
-    let pre =
-    entry2-to-start (c .before .before .before .before .before .before .before) .pre in
+    let pre = entry2-to-start (c .before .before .before .before .before .before .before) .pre in
     omega (arith, head-small _ _ _ _ _ (pre .0) (pre .1))
 
 same-length : tie.Need-same-length Inv-loop μ-loop
@@ -94,8 +93,7 @@ same-length-3 c =
 
 returns : tie.Need-returns Inv-loop μ-loop
 returns c =
-    let pre =
-    entry2-to-start (c .before .before .before .before .before .before .before) .pre in
+    let pre = entry2-to-start (c .before .before .before .before .before .before .before) .pre in
     let loop = c .before .before .before .before .before .loop in
     let loop-test = c .before .before .before .before .loop-test in
     let row-at = c .before .before .before .row-at in
@@ -104,16 +102,14 @@ returns c =
 
 add-p : tie.Need-add-p Inv-loop μ-loop
 add-p c =
-    let pre =
-    entry2-to-start (c .before .before .before .before .before .before) .pre in
+    let pre = entry2-to-start (c .before .before .before .before .before .before) .pre in
     let loop = c .before .before .before .before .loop in
     let loop-test = c .before .before .before .loop-test in
     omega (arith, removing-few _ _ _ _ _ (pre .0) (loop .inv) (loop-test .taken))
 
 drop-neighbour-requires : tie.Need-drop-neighbour-requires Inv-loop μ-loop
 drop-neighbour-requires c κs =
-    let pre =
-    then2-to-start (c .before .before .before) .pre in
+    let pre = then2-to-start (c .before .before .before) .pre in
     let loop = c .before .before .before .before .before .before .before .before .before .before .loop in
     let loop-test = c .before .before .before .before .before .before .before .before .before .loop-test in
     let row-at = c .before .before .before .before .before .before .before .before .row-at in
@@ -123,26 +119,22 @@ drop-neighbour-requires c κs =
 
 loop-less : tie.Need-loop-less Inv-loop μ-loop
 loop-less c =
-    let loop-test =
-    queue-to-else1 (c .before) .before .before .before .loop-test in
+    let loop-test = queue-to-else1 (c .before) .before .before .before .loop-test in
     omega (arith, loop-test .taken)
 
 loop-again : tie.Need-loop-again Inv-loop μ-loop
 loop-again c =
     let pre =
     then2-to-start (c .before .before .before .before .before .before .before .before .before .before) .pre in
-    let loop =
-    queue-to-else1 (c .before) .before .before .before .before .loop in
-    let loop-test =
-    queue-to-else1 (c .before) .before .before .before .loop-test in
-    let row-at =
-    queue-to-else1 (c .before) .before .before .row-at in
-    let if1 =
-    queue-to-else1 (c .before) .if1 in
+    let loop = queue-to-else1 (c .before) .before .before .before .before .loop in
+    let loop-test = queue-to-else1 (c .before) .before .before .before .loop-test in
+    let row-at = queue-to-else1 (c .before) .before .before .row-at in
+    let if1 = queue-to-else1 (c .before) .if1 in
     let if2 = c .before .before .before .before .before .before .before .before .before .before .if2 in
     let drop-neighbour = c .before .before .before .before .before .before .drop-neighbour in
     removing-drop _ _ _ _ _ (pre .0) (loop .inv) (loop-test .taken) (row-at .ensures) (if1 .left) (if2 .taken)
-    (drop-neighbour .kept .1 .1 .1 .1 .0) (drop-neighbour .kept .1 .1 .1 .1 .1 .0) (drop-neighbour .kept .1 .1 .1 .1 .1 .1 .0) (drop-neighbour .ensures)
+    (drop-neighbour .kept .1 .1 .1 .1 .0) (drop-neighbour .kept .1 .1 .1 .1 .1 .0)
+    (drop-neighbour .kept .1 .1 .1 .1 .1 .1 .0) (drop-neighbour .ensures)
 
 loop-less-2 : tie.Need-loop-less-2 Inv-loop μ-loop
 loop-less-2 c =
@@ -151,8 +143,7 @@ loop-less-2 c =
 
 loop-again-2 : tie.Need-loop-again-2 Inv-loop μ-loop
 loop-again-2 c =
-    let pre =
-    entry2-to-start (c .before .before .before .before .before .before .before .before .before) .pre in
+    let pre = entry2-to-start (c .before .before .before .before .before .before .before .before .before) .pre in
     let loop = c .before .before .before .before .before .before .before .loop in
     let loop-test = c .before .before .before .before .before .before .loop-test in
     let row-at = c .before .before .before .before .before .row-at in
@@ -161,8 +152,7 @@ loop-again-2 c =
 
 add-t19 : tie.Need-add-t19 Inv-loop μ-loop
 add-t19 c =
-    let pre =
-    entry2-to-start (c .before .before .before .before) .pre in
+    let pre = entry2-to-start (c .before .before .before .before) .pre in
     omega (arith, head-small _ _ _ _ _ (pre .0) (pre .1))
 
 same-length-4 : tie.Need-same-length-4 Inv-loop μ-loop
@@ -182,8 +172,7 @@ same-length-6 c =
 
 returns-2 : tie.Need-returns-2 Inv-loop μ-loop
 returns-2 c =
-    let pre =
-    entry2-to-start (c .before .before .before .before) .pre in
+    let pre = entry2-to-start (c .before .before .before .before) .pre in
     let loop = c .before .before .loop in
     let loop-test = c .before .loop-test in
     removing-out _ _ _ _ _ (pre .0) (loop .inv) (loop-test .left)

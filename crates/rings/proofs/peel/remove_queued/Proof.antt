@@ -1,8 +1,10 @@
--- `peel::remove_queued` meets its contract. The loop's invariant: the removal has gone on from where it began (PeelLoopLaws).
+-- `peel::remove_queued` meets its contract. The loop's invariant: the removal has gone on from where it began
+-- (PeelLoopLaws).
 -- Assumes nothing.
 use native.Mathlib.Omega.{arith}
 use Prim.Native.Nat.{_-_}
-use Rattle.rings.proofs.PeelLoopLaws.{RemovingQueued, tail-most, remove-queued-start, remove-queued-next, remove-queued-end}
+use Rattle.rings.proofs.PeelLoopLaws.{RemovingQueued, tail-most, remove-queued-start, remove-queued-next}
+use Rattle.rings.proofs.PeelLoopLaws.{remove-queued-end}
 use Rattle.rings.proofs.peel.remove_queued.Statement.{statement}
 use Rattle.rings.proofs.peel.remove_queued.Tie as tie
 use Rattle.rings.proofs.peel.remove_queued.Reads as reads
@@ -49,7 +51,8 @@ loop-again c =
     let pre =
     c .before .before .before .before .before .before .before .before .before .before .before .before .before
     .before .before .before .before .before .before .before .pre in
-    remove-queued-next _ _ _ _ _ (pre .0) (loop .inv) (remove-account .kept .1 .1 .1 .1 .1 .1 .0) (remove-account .kept .1 .1 .1 .1 .1 .1 .1 .0)
+    remove-queued-next _ _ _ _ _ (pre .0) (loop .inv) (remove-account .kept .1 .1 .1 .1 .1 .1 .0)
+    (remove-account .kept .1 .1 .1 .1 .1 .1 .1 .0)
     (remove-account .kept .1 .1 .1 .1 .1 .1 .1 .1 .0) (remove-account .ensures)
 
 same-length : tie.Need-same-length Inv-loop μ-loop
@@ -77,6 +80,7 @@ pub remove-queued-spec : {M : Type 1} → statement M
 remove-queued-spec =
     tie.close
     (
-    tie.spec Inv-loop μ-loop loop-holds remove-account-requires loop-less loop-again same-length same-length-2 same-length-3
+    tie.spec Inv-loop μ-loop loop-holds remove-account-requires loop-less loop-again same-length same-length-2
+    same-length-3
     returns
     )

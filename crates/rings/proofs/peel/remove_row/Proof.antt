@@ -1,4 +1,5 @@
--- `peel::remove_row` meets its contract: the last row leaves freely where it does not lead or one of its accounts has been removed;
+-- `peel::remove_row` meets its contract: the last row leaves freely where it does not lead or one of its accounts has
+-- been removed;
 -- else both accounts lose a neighbour (PeelLoopLaws).
 -- Assumes nothing.
 use native.Mathlib.Omega.{arith}
@@ -82,8 +83,7 @@ entry-requires-3 : tie.Need-entry-requires-3
 entry-requires-3 c κs =
     let entry2 = c .before .entry2 in
     let entry = c .before .before .entry in
-    let pre =
-    entry-to-start (c .before .before) .pre in
+    let pre = entry-to-start (c .before .before) .pre in
     remove-row-accounts _ _ _ _ _ (pre .0) (pre .1) refl (entry .ensures) (entry2 .ensures) .0
 
 same-length : tie.Need-same-length
@@ -93,16 +93,15 @@ returns : tie.Need-returns
 returns c =
     let entry3 = c .before .entry3 in
     let entry = c .before .before .before .before .entry in
-    let pre =
-    entry-to-start (c .before .before .before .before) .pre in
-    let if2 = c .if2 in remove-row-a-removed _ _ _ _ _ (pre .0) (pre .1) refl (entry .ensures) (entry3 .ensures) (if2 .taken)
+    let pre = entry-to-start (c .before .before .before .before) .pre in
+    let if2 = c .if2 in
+    remove-row-a-removed _ _ _ _ _ (pre .0) (pre .1) refl (entry .ensures) (entry3 .ensures) (if2 .taken)
 
 entry-requires-4 : tie.Need-entry-requires-4
 entry-requires-4 c κs =
     let entry2 = c .before .before .before .before .entry2 in
     let entry = c .before .before .before .before .before .entry in
-    let pre =
-    entry-to-start (c .before .before .before .before .before) .pre in
+    let pre = entry-to-start (c .before .before .before .before .before) .pre in
     remove-row-accounts _ _ _ _ _ (pre .0) (pre .1) refl (entry .ensures) (entry2 .ensures) .1
 
 same-length-2 : tie.Need-same-length-2
@@ -112,9 +111,9 @@ returns-2 : tie.Need-returns-2
 returns-2 c =
     let entry4 = c .before .entry4 in
     let entry2 = c .before .before .before .before .before .before .entry2 in
-    let pre =
-    entry-to-start (c .before .before .before .before .before .before .before) .pre in
-    let if3 = c .if3 in remove-row-b-removed _ _ _ _ _ (pre .0) (pre .1) refl (entry2 .ensures) (entry4 .ensures) (if3 .taken)
+    let pre = entry-to-start (c .before .before .before .before .before .before .before) .pre in
+    let if3 = c .if3 in
+    remove-row-b-removed _ _ _ _ _ (pre .0) (pre .1) refl (entry2 .ensures) (entry4 .ensures) (if3 .taken)
 
 drop-neighbour-requires : tie.Need-drop-neighbour-requires
 drop-neighbour-requires c κs =
@@ -135,24 +134,15 @@ drop-neighbour-requires c κs =
 drop-neighbour-requires-2 : tie.Need-drop-neighbour-requires-2
 drop-neighbour-requires-2 c κs =
     let drop-neighbour = c .before .before .before .before .before .before .before .before .before .drop-neighbour in
-    let if3 =
-    queue-to-else3 (c .before .before .before .before) .if3 in
-    let entry4 =
-    queue-to-else3 (c .before .before .before .before) .before .entry4 in
-    let if2 =
-    queue-to-else3 (c .before .before .before .before) .before .before .before .if2 in
-    let entry3 =
-    queue-to-else3 (c .before .before .before .before) .before .before .before .before .entry3 in
-    let entry2 =
-    drop-neighbour-arg6-to-entry2 c .entry2 in
-    let entry =
-    drop-neighbour-arg6-to-entry2 c .before .entry in
-    let if1 =
-    drop-neighbour-arg6-to-entry2 c .before .before .if1 in
-    let leads =
-    drop-neighbour-arg6-to-entry2 c .before .before .before .leads in
-    let pre =
-    times-to-start (c .before .before .before .before .before .before .before .before) .pre in
+    let if3 = queue-to-else3 (c .before .before .before .before) .if3 in
+    let entry4 = queue-to-else3 (c .before .before .before .before) .before .entry4 in
+    let if2 = queue-to-else3 (c .before .before .before .before) .before .before .before .if2 in
+    let entry3 = queue-to-else3 (c .before .before .before .before) .before .before .before .before .entry3 in
+    let entry2 = drop-neighbour-arg6-to-entry2 c .entry2 in
+    let entry = drop-neighbour-arg6-to-entry2 c .before .entry in
+    let if1 = drop-neighbour-arg6-to-entry2 c .before .before .if1 in
+    let leads = drop-neighbour-arg6-to-entry2 c .before .before .before .leads in
+    let pre = times-to-start (c .before .before .before .before .before .before .before .before) .pre in
     remove-row-room-b _ _ _ _ _ (pre .0) (pre .1) refl (leads .ensures) (if1 .taken) (entry .ensures) (entry2 .ensures)
     (entry3 .ensures) (entry4 .ensures) (if2 .left) (if3 .left) (drop-neighbour .ensures)
 
@@ -161,27 +151,21 @@ remove-queued-requires c κs =
     let drop-neighbour2 = c .before .before .before .before .before .before .before .before .before .drop-neighbour2 in
     let drop-neighbour =
     times2-to-drop-neighbour (c .before .before .before .before .before .before .before .before) .drop-neighbour in
-    let if3 =
-    left2-to-else3 (c .before .before .before .before .before .before) .if3 in
-    let entry4 =
-    left2-to-else3 (c .before .before .before .before .before .before) .before .entry4 in
-    let if2 =
-    left2-to-else3 (c .before .before .before .before .before .before) .before .before .before .if2 in
+    let if3 = left2-to-else3 (c .before .before .before .before .before .before) .if3 in
+    let entry4 = left2-to-else3 (c .before .before .before .before .before .before) .before .entry4 in
+    let if2 = left2-to-else3 (c .before .before .before .before .before .before) .before .before .before .if2 in
     let entry3 =
     left2-to-else3 (c .before .before .before .before .before .before) .before .before .before .before .entry3 in
-    let entry2 =
-    queue2-to-entry2 (c .before .before .before .before) .entry2 in
-    let entry =
-    queue2-to-entry2 (c .before .before .before .before) .before .entry in
-    let if1 =
-    queue2-to-entry2 (c .before .before .before .before) .before .before .if1 in
-    let leads =
-    queue2-to-entry2 (c .before .before .before .before) .before .before .before .leads in
+    let entry2 = queue2-to-entry2 (c .before .before .before .before) .entry2 in
+    let entry = queue2-to-entry2 (c .before .before .before .before) .before .entry in
+    let if1 = queue2-to-entry2 (c .before .before .before .before) .before .before .if1 in
+    let leads = queue2-to-entry2 (c .before .before .before .before) .before .before .before .leads in
     let pre =
     queue2-to-start (c .before .before .before .before) .pre in (
       pre .0,
       remove-row-now _ _ _ _ _ (pre .0) (pre .1) refl (leads .ensures) (if1 .taken) (entry .ensures) (entry2 .ensures)
-          (entry3 .ensures) (entry4 .ensures) (if2 .left) (if3 .left) (drop-neighbour .ensures) (drop-neighbour2 .ensures),
+          (entry3 .ensures) (entry4 .ensures) (if2 .left) (if3 .left) (drop-neighbour .ensures)
+          (drop-neighbour2 .ensures),
     )
 
 same-length-3 : tie.Need-same-length-3
@@ -196,7 +180,8 @@ same-length-5 c = search needs
 returns-3 : tie.Need-returns-3
 returns-3 c =
     let remove-queued = c .before .before .before .before .before .before .remove-queued in
-    let pre = queue2-to-start (c .before .before .before .before .before .before .before .before .before .before .before) .pre in
+    let pre = queue2-to-start (c .before .before .before .before .before .before .before .before .before .before
+    .before) .pre in
     remove-row-left _ _ _ _ _ (pre .0) (pre .1) refl refl refl (remove-queued .ensures)
 
 returns-4 : tie.Need-returns-4
@@ -210,6 +195,7 @@ remove-row-spec =
     tie.close
     (
     tie.spec sub-j mul-e shared-slice-read-e leads-requires entry-requires entry-requires-2 entry-requires-3
-    same-length returns entry-requires-4 same-length-2 returns-2 drop-neighbour-requires drop-neighbour-requires-2 remove-queued-requires
+    same-length returns entry-requires-4 same-length-2 returns-2 drop-neighbour-requires drop-neighbour-requires-2
+    remove-queued-requires
     same-length-3 same-length-4 same-length-5 returns-3 returns-4
     )

@@ -1,5 +1,6 @@
 use native.Mathlib.Omega.{arith}
--- `peel::remove_rows_from_the_end` meets its contract. The loop's invariant: the rows from the end of the removal on have left, and nobody
+-- `peel::remove_rows_from_the_end` meets its contract. The loop's invariant: the rows from the end of the removal on
+-- have left, and nobody
 -- waits (PeelLoopLaws).
 -- Assumes nothing.
 use Rattle.rings.proofs.PeelLoopLaws.{RemovingRows, removing-rows-start, removing-rows-next, removing-rows-end}
@@ -41,9 +42,11 @@ loop-less c =
 loop-again : tie.Need-loop-again Inv-loop μ-loop
 loop-again c =
     let remove-row = c .before .before .before .before .before .before .remove-row in
-    let loop = c .before .before .before .before .before .before .before .before .before .before .before .before .loop in
+    let loop =
+    c .before .before .before .before .before .before .before .before .before .before .before .before .loop in
     let pre = then1-to-start (c .before .before .before .before .before .before .before .before .before .before) .pre in
-    removing-rows-next _ _ _ _ _ (pre .0) (loop .inv) (remove-row .kept .1 .1 .1 .1 .1 .1 .1 .0) (remove-row .kept .1 .1 .1 .1 .1 .1 .1 .1 .0)
+    removing-rows-next _ _ _ _ _ (pre .0) (loop .inv) (remove-row .kept .1 .1 .1 .1 .1 .1 .1 .0)
+    (remove-row .kept .1 .1 .1 .1 .1 .1 .1 .1 .0)
     (remove-row .kept .1 .1 .1 .1 .1 .1 .1 .1 .1 .0) (remove-row .ensures)
 
 same-length : tie.Need-same-length Inv-loop μ-loop
@@ -76,4 +79,5 @@ pub remove-rows-from-the-end-spec : {M : Type 1} → statement M
 remove-rows-from-the-end-spec =
     tie.close
     (
-    tie.spec Inv-loop μ-loop loop-holds remove-row-requires sub-end loop-less loop-again same-length same-length-2 same-length-3 returns)
+    tie.spec Inv-loop μ-loop loop-holds remove-row-requires sub-end loop-less loop-again same-length same-length-2
+    same-length-3 returns)

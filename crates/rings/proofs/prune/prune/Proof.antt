@@ -63,7 +63,12 @@ prune-account-requires c κs =
     let loop-test = c .before .before .before .loop-test in
     let loop = c .before .before .before .before .loop in
     let pre = c .before .before .before .before .before .before .before .before .before .before .pre in
-    record { sound = pre .sound; pruned = loop .inv .pruning-all .pruned; times = pre .times; account = loop-test .taken }
+    record {
+      sound = pre .sound;
+      pruned = loop .inv .pruning-all .pruned;
+      times = pre .times;
+      account = loop-test .taken;
+    }
 
 add-u-2 : tie.Need-add-u-2 Inv-loop μ-loop
 add-u-2 c =

@@ -7,7 +7,8 @@ use lib.ListN.{getD}
 use Rattle.rings.specs.Table.{tableOf}
 use Rattle.rings.specs.Inner.Peeling.{estimate}
 use Rattle.rings.proofs.ChoiceLaws.{picked-most}
-use Rattle.rings.proofs.PruneLaws.{Pruning, pruning-start, pruning-stands, pruning-place, pruning-few, pruning-timed, pruning-next, pruning-end}
+use Rattle.rings.proofs.PruneLaws.{Pruning, pruning-start, pruning-stands, pruning-place, pruning-few}
+use Rattle.rings.proofs.PruneLaws.{pruning-timed, pruning-next, pruning-end}
 use Rattle.rings.proofs.prune.prune_account.Statement.{statement}
 use Rattle.rings.proofs.prune.prune_account.Tie as tie
 use Rattle.rings.proofs.prune.prune_account.Reads as reads
@@ -24,7 +25,8 @@ record Held (days first second scratch₀ times : List ℕ) (u last : ℕ) (scra
   pruning : Pruning (tableOf days first second) (estimate times) u scratch₀ p end scratch
 
 abbrev Inv-loop : tie.InvT-loop
-Inv-loop days first second scratch₀ times u last p₀ end₀ scratch p end = Held days first second scratch₀ times u last scratch p end
+Inv-loop days first second scratch₀ times u last p₀ end₀ scratch p end =
+    Held days first second scratch₀ times u last scratch p end
 
 abbrev μ-loop : tie.MeasureT-loop
 μ-loop days first second scratch₀ times u last p₀ end₀ scratch p end = last - p
@@ -69,7 +71,8 @@ row-at-requires c κs =
     let pre = loop-to-start (c .before .before) .pre in
     let loop = c .before .before .loop in
     let loop-test = c .before .loop-test in
-    pruning-stands (pre .sound) (pre .pruned) (pre .account) (loop .inv .pruning) (omega (arith, loop .inv .cursor, loop-test .taken))
+    pruning-stands (pre .sound) (pre .pruned) (pre .account) (loop .inv .pruning)
+    (omega (arith, loop .inv .cursor, loop-test .taken))
 
 mul-timed : tie.Need-mul-timed Inv-loop μ-loop
 mul-timed c =
@@ -108,17 +111,20 @@ wide-requires c κs = search needs
 
 add-end : tie.Need-add-end Inv-loop μ-loop
 add-end c =
-    let pre =
-    wide-to-start c .pre in
+    let pre = wide-to-start c .pre in
     let loop = wide-to-in-loop c .before .loop in
     let wide = c .wide in
     let one = c .before .one in
-    omega (arith, pruning-few (pre .pruned) (pre .account) (loop .inv .pruning) (pre .sound .most), wide .ensures, picked-most (one .ensures))
+    omega (
+      arith,
+      pruning-few (pre .pruned) (pre .account) (loop .inv .pruning) (pre .sound .most),
+      wide .ensures,
+      picked-most (one .ensures),
+    )
 
 add-p : tie.Need-add-p Inv-loop μ-loop
 add-p c =
-    let pre =
-    wide-to-start c .pre in
+    let pre = wide-to-start c .pre in
     let loop = wide-to-in-loop c .before .loop in
     omega (arith, pruning-few (pre .pruned) (pre .account) (loop .inv .pruning) (pre .sound .most))
 
@@ -130,21 +136,21 @@ loop-less c =
 loop-again : tie.Need-loop-again Inv-loop μ-loop
 loop-again c =
     let loop = wide-to-in-loop c .before .loop in
-    let pre =
-    wide-to-start c .pre in
+    let pre = wide-to-start c .pre in
     let loop-test = wide-to-in-loop c .loop-test in
     let row-at = c .before .before .before .before .before .before .before .row-at in
     let put = c .before .before .before .before .put in
     let wide = c .wide in
     let one = c .before .one in
-    let args =
-    wide-to-start c .args in
+    let args = wide-to-start c .args in
     record {
       cursor = loop .inv .cursor;
       pruning =
           pruning-next (pre .pruned) (pre .account) (loop .inv .pruning)
           (omega (arith, loop .inv .cursor, loop-test .taken)) (row-at .ensures .row) (put .ensures)
-          (λ n. wide .ensures ∙ one .ensures .yes (pruning-timed (args .times .now) (pre .times) (row-at .ensures .small) (row-at .ensures .other) n))
+          (λ n. wide .ensures
+          ∙ one .ensures .yes (pruning-timed (args .times .now) (pre .times) (row-at .ensures .small)
+          (row-at .ensures .other) n))
           (omega (arith, wide .ensures, picked-most (one .ensures)));
     }
 
@@ -163,7 +169,8 @@ same-length c =
     let loop = c .before .before .before .before .before .loop in
     let loop-test = c .before .before .before .before .loop-test in
     let put2 = c .before .before .put2 in
-    pruning-end (pre .pruned) (pre .account) (loop .inv .pruning) (omega (arith, loop .inv .cursor, loop-test .left)) (put2 .ensures) .long
+    pruning-end (pre .pruned) (pre .account) (loop .inv .pruning)
+    (omega (arith, loop .inv .cursor, loop-test .left)) (put2 .ensures) .long
 
 returns : tie.Need-returns Inv-loop μ-loop
 returns c =
@@ -171,7 +178,8 @@ returns c =
     let loop = c .before .before .before .before .before .loop in
     let loop-test = c .before .before .before .before .loop-test in
     let put2 = c .before .before .put2 in
-    pruning-end (pre .pruned) (pre .account) (loop .inv .pruning) (omega (arith, loop .inv .cursor, loop-test .left)) (put2 .ensures)
+    pruning-end (pre .pruned) (pre .account) (loop .inv .pruning)
+    (omega (arith, loop .inv .cursor, loop-test .left)) (put2 .ensures)
 
 pub prune-account-spec : {M : Type 1} → statement M
 prune-account-spec =

@@ -1,4 +1,5 @@
--- `recalling::check_entries` meets its contract. The loop's invariant: no entry below j is bad, and the last one passed is at hand (proofs/RecallLaws.antt).
+-- `recalling::check_entries` meets its contract. The loop's invariant: no entry below j is bad, and the last one
+-- passed is at hand (proofs/RecallLaws.antt).
 -- Assumes nothing.
 use Rattle.rings.proofs.RecallLaws.{Judged, judge-start, judge-next, judge-refused, judge-end}
 use mathlib.Core.Path.{sym, _∙_}
@@ -15,7 +16,8 @@ use Rattle.rings.proofs.recalling.check_entry.Reads as check-entry-read
 use Rattle.rings.proofs.recalling.day_at.Reads as day-at-reads
 
 abbrev Inv-loop : tie.InvT-loop
-Inv-loop days rows starts ends lastrow₀ laststart₀ lastend₀ j₀ lastrow laststart lastend j = Judged days rows starts ends lastrow laststart lastend j
+Inv-loop days rows starts ends lastrow₀ laststart₀ lastend₀ j₀ lastrow laststart lastend j =
+    Judged days rows starts ends lastrow laststart lastend j
 
 abbrev μ-loop : tie.MeasureT-loop
 μ-loop days rows starts ends lastrow₀ laststart₀ lastend₀ j₀ lastrow laststart lastend j = length rows - j

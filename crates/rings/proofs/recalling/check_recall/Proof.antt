@@ -48,7 +48,8 @@ enum-told-2 c = search needs
 check-entries-requires : tie.Need-check-entries-requires
 check-entries-requires c κs =
     let check-lengths = c .before .before .check-lengths in
-    let args = c .before .before .before .before .before .before .before .before .before .before .before .before .args in
+    let args =
+    c .before .before .before .before .before .before .before .before .before .before .before .before .args in
     let x = lengths-same (args .days .now) (args .rows .now) (args .starts .now) (args .ends .now) (args .places)
     (sym (c .enum-told2 .given .1) ∙ check-lengths .ensures) in record { starts = x .0; ends = x .1 }
 

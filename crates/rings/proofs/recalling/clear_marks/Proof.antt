@@ -1,8 +1,6 @@
 -- `recalling::clear_marks` meets its contract. The loop's invariant: each mark below i is 0.
 -- Assumes nothing.
-use Rattle.rings.proofs.AdjacencyLaws.{Zeros, zeros-next, zeros-end}
-use mathlib.Core.Path.{refl}
-use native.Mathlib.Nat.{not-suc-le-zero}
+use Rattle.rings.proofs.AdjacencyLaws.{Zeros, zeros-start, zeros-next, zeros-end}
 use lib.ListN.{length}
 use Prim.Native.Nat.{_-_}
 use native.Mathlib.Omega.{arith}
@@ -19,7 +17,7 @@ abbrev μ-loop : tie.MeasureT-loop
 μ-loop marks₀ i₀ marks i = length marks₀ - i
 
 loop-holds : tie.Need-loop-holds Inv-loop μ-loop
-loop-holds c = record { long = refl; within = omega arith; zero-at = λ k h. absurd (not-suc-le-zero h) }
+loop-holds c = zeros-start _
 
 slice-write-marks : tie.Need-slice-write-marks Inv-loop μ-loop
 slice-write-marks c = search needs

@@ -1,4 +1,5 @@
--- `recalling::mark_entries` meets its contract. The loop's invariant: a mark is 1 exactly if an entry passed hits its row (proofs/RecallLaws.antt).
+-- `recalling::mark_entries` meets its contract. The loop's invariant: a mark is 1 exactly if an entry passed hits its
+-- row (proofs/RecallLaws.antt).
 -- Assumes nothing.
 use Rattle.rings.proofs.RecallLaws.{Marking, mark-start, mark-early, mark-late, mark-hit, mark-end}
 use lib.ListN.{length}

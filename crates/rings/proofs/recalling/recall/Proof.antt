@@ -1,4 +1,5 @@
--- `recalling::recall` meets its contract: a refusal leaves the marks, an accepted list is marked (proofs/RecallLaws.antt).
+-- `recalling::recall` meets its contract: a refusal leaves the marks, an accepted list is marked
+-- (proofs/RecallLaws.antt).
 -- Assumes nothing.
 use Rattle.rings.proofs.RecallLaws.{marks-ready, marks-right}
 use Rattle.rings.specs.RecallCall.{recallMarks}
@@ -55,7 +56,8 @@ returns-2 c =
     let mark-entries = c .before .before .mark-entries in
     let clear-marks = c .before .before .before .before .before .before .clear-marks in
     let enum-told = c .before .before .before .before .before .before .before .before .enum-told in
-    let check-recall = c .before .before .before .before .before .before .before .before .before .before .check-recall in
+    let check-recall =
+    c .before .before .before .before .before .before .before .before .before .before .check-recall in
     let args =
     enum-told-to-start (c .before .before .before .before .before .before .before .before) .args in (
       sym (enum-told .given .1) ∙ check-recall .ensures,

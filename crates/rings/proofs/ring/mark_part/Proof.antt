@@ -35,11 +35,11 @@ slice-aggregate-core-3 c = search needs
 core-requires : tie.Need-core-requires
 core-requires c κs =
     let prepare-adjacency = c .before .before .before .before .before .before .prepare-adjacency in
-    let pre =
-    times-to-start (c .before .before) .pre in
+    let pre = times-to-start (c .before .before) .pre in
     let whole = pre .0 in
     let asked = whole .asked in (
-      ready-of (whole .sound) (adjacency-later (prepare-adjacency .ensures) (omega (arith, whole .from))) (asked .some-k)
+      ready-of (whole .sound) (adjacency-later (prepare-adjacency .ensures) (omega (arith, whole .from)))
+          (asked .some-k)
           (asked .last-day) (whole .from),
       (span-of (asked .ordered) (whole .from) (whole .to), record { times = refl; left = refl; queue = omega arith }),
     )
@@ -51,16 +51,17 @@ mark-rows-requires : tie.Need-mark-rows-requires
 mark-rows-requires c κs =
     let core = c .before .before .before .before .before .core in
     let prepare-adjacency =
-    c .before .before .before .before .before .before .before .before .before .before .before .before .prepare-adjacency in
-    let pre =
-    times-to-start (c .before .before .before .before .before .before .before .before) .pre in
+    c .before .before .before .before .before .before .before .before .before .before .before .before
+    .prepare-adjacency in
+    let pre = times-to-start (c .before .before .before .before .before .before .before .before) .pre in
     let whole = pre .0 in
     let asked = whole .asked in (
       whole,
       (
         remaining-of _ _ _ _ _
             (
-            ready-of (whole .sound) (adjacency-later (prepare-adjacency .ensures) (omega (arith, whole .from))) (asked .some-k)
+            ready-of (whole .sound) (adjacency-later (prepare-adjacency .ensures) (omega (arith, whole .from)))
+            (asked .some-k)
             (asked .last-day) (whole .from)
             ) (asked .ordered) (span-of (asked .ordered) (whole .from) (whole .to)) (core .ensures),
         pre .1 .marks,

@@ -4,7 +4,8 @@
 use mathlib.Core.Path.{refl, _∙_, ap}
 use Prim.Native.Nat.{ℕ}
 use lib.ListN.{replicate}
-use Rattle.rings.proofs.PartTableLaws.{part-sound, part-same, room-long, part-room, part-from, part-to, part-members, part-marks}
+use Rattle.rings.proofs.PartTableLaws.{part-sound, part-same, room-long, part-room, part-from, part-to}
+use Rattle.rings.proofs.PartTableLaws.{part-members, part-marks}
 use Rattle.rings.proofs.DayLaws.{span-of}
 use borrow.Author.Needs.{needs}
 use Rattle.rings.proofs.ring.mark_ring.Statement.{statement}
@@ -107,8 +108,7 @@ sub-mark-part-3 : tie.Need-sub-mark-part-3
 sub-mark-part-3 c =
     let rows-before2 = c .before .before .before .before .before .before .rows-before2 in
     let rows-before = c .before .before .before .before .before .before .before .rows-before in
-    let pre =
-    mark-part-arg2-to-start c .pre in
+    let pre = mark-part-arg2-to-start c .pre in
     let asked = pre .1 .0 in
     span-of (asked .ordered) (rows-before .ensures) (rows-before2 .ensures) .ordered
 
@@ -116,8 +116,7 @@ part-mark-part-start-3 : tie.Need-part-mark-part-start-3
 part-mark-part-start-3 c =
     let rows-before2 = c .before .before .before .before .before .before .rows-before2 in
     let rows-before = c .before .before .before .before .before .before .before .rows-before in
-    let pre =
-    mark-part-arg2-to-start c .pre in
+    let pre = mark-part-arg2-to-start c .pre in
     let asked = pre .1 .0 in
     span-of (asked .ordered) (rows-before .ensures) (rows-before2 .ensures) .ordered
 
@@ -128,8 +127,7 @@ sub-mark-part-4 : tie.Need-sub-mark-part-4
 sub-mark-part-4 c =
     let rows-before2 = c .before .before .before .before .before .before .before .rows-before2 in
     let rows-before = c .before .before .before .before .before .before .before .before .rows-before in
-    let pre =
-    mark-part-arg2-to-start (c .before) .pre in
+    let pre = mark-part-arg2-to-start (c .before) .pre in
     let asked = pre .1 .0 in
     span-of (asked .ordered) (rows-before .ensures) (rows-before2 .ensures) .ordered
 
@@ -137,8 +135,7 @@ part-mark-part-start-4 : tie.Need-part-mark-part-start-4
 part-mark-part-start-4 c =
     let rows-before2 = c .before .before .before .before .before .before .before .rows-before2 in
     let rows-before = c .before .before .before .before .before .before .before .before .rows-before in
-    let pre =
-    mark-part-arg2-to-start (c .before) .pre in
+    let pre = mark-part-arg2-to-start (c .before) .pre in
     let asked = pre .1 .0 in
     span-of (asked .ordered) (rows-before .ensures) (rows-before2 .ensures) .ordered
 
@@ -152,10 +149,8 @@ slice-aggregate-mark-part : tie.Need-slice-aggregate-mark-part
 slice-aggregate-mark-part c =
     let rows-before2 = c .before .before .before .before .before .before .before .before .before .rows-before2 in
     let rows-before = c .before .before .before .before .before .before .before .before .before .before .rows-before in
-    let args =
-    mark-part-arg2-to-start (c .before .before .before) .args in
-    let pre =
-    mark-part-arg2-to-start (c .before .before .before) .pre in
+    let args = mark-part-arg2-to-start (c .before .before .before) .args in
+    let pre = mark-part-arg2-to-start (c .before .before .before) .pre in
     let asked = pre .1 .0 in
     let buffers = pre .1 .1 in
     let a = args in
@@ -167,10 +162,8 @@ mark-part-requires c κs =
     let clear-marks = c .before .before .before .before .before .before .before .clear-marks in
     let rows-before2 = c .before .before .before .before .before .before .before .before .before .rows-before2 in
     let rows-before = c .before .before .before .before .before .before .before .before .before .before .rows-before in
-    let args =
-    mark-part-arg2-to-start (c .before .before .before) .args in
-    let pre =
-    mark-part-arg2-to-start (c .before .before .before) .pre in
+    let args = mark-part-arg2-to-start (c .before .before .before) .args in
+    let pre = mark-part-arg2-to-start (c .before .before .before) .pre in
     let sound = pre .0 in
     let asked = pre .1 .0 in
     let buffers = pre .1 .1 in
@@ -209,16 +202,13 @@ returns c =
     let clear = c .before .before .clear in
     let scratch = c .before .before .before .before .before .scratch in
     let mark-part = c .before .before .before .before .before .before .before .before .mark-part in
-    let clear-marks =
-    scratch-to-clear-marks (c .before .before .before .before .before) .clear-marks in
+    let clear-marks = scratch-to-clear-marks (c .before .before .before .before .before) .clear-marks in
     let rows-before2 =
     scratch-to-clear-marks (c .before .before .before .before .before) .before .before .rows-before2 in
     let rows-before =
     scratch-to-clear-marks (c .before .before .before .before .before) .before .before .before .rows-before in
-    let args =
-    clear-to-start (c .before .before) .args in
-    let pre =
-    clear-to-start (c .before .before) .pre in
+    let args = clear-to-start (c .before .before) .args in
+    let pre = clear-to-start (c .before .before) .pre in
     let asked = pre .1 .0 in
     let buffers = pre .1 .1 in
     let a = args in

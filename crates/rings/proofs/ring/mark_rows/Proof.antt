@@ -6,7 +6,8 @@ use lib.ListN.{length}
 use mathlib.Core.Path.{refl, sym, _∙_}
 use native.Mathlib.Nat.{le-antisymm}
 use Rattle.rings.specs.Inner.Answers.{bothRemain}
-use Rattle.rings.proofs.MarkLaws.{Marking, mark-start, mark-yes, mark-no, mark-few, mark-end, stays-place, stays-ring}
+use Rattle.rings.proofs.MarkLaws.{Marking, mark-start, mark-yes, mark-no, mark-few, mark-end, stays-place}
+use Rattle.rings.proofs.MarkLaws.{stays-ring}
 use Rattle.rings.proofs.ring.mark_rows.Statement.{statement}
 use Rattle.rings.proofs.ring.mark_rows.Tie as tie
 use Rattle.rings.proofs.ring.mark_rows.Reads as reads

@@ -81,7 +81,9 @@ returns-2 c =
     let loop = c .before .before .before .before .before .before .before .before .before .before .loop in
     let pre = else1-to-start (c .before .before .before .before .before .before .before) .pre in
     record {
-      day-found = find-day-found _ _ _ _ _ (pre .lent .opened .setting) _ (loop .inv .0 .fewer) (loop .inv .0 .from) (scan-on-day .ensures .scanned)
+      day-found =
+          find-day-found _ _ _ _ _ (pre .lent .opened .setting) _ (loop .inv .0 .fewer) (loop .inv .0 .from)
+          (scan-on-day .ensures .scanned)
           (if2 .taken) (⊎-elim (λ h. h) (λ h. absurd (omega (arith, h, loop-test .taken))) (loop .inv .0 .day)) refl;
       short-walk = omega (arith, scan-on-day .ensures .short-walk, if1 .left, pre .bounded);
     }
@@ -95,8 +97,10 @@ returns-3 c =
     let pre = else1-to-start (c .before .before .before .before .before .before) .pre in
     record {
       day-found = find-day-never _ _ _ _ _ (pre .lent .opened .setting) _
-          (short-next _ _ _ _ _ (pre .lent .opened .setting) _ (loop .inv .0) (scan-on-day .ensures .scanned) (if2 .left) .fewer)
-          (short-next _ _ _ _ _ (pre .lent .opened .setting) _ (loop .inv .0) (scan-on-day .ensures .scanned) (if2 .left) .from)
+          (short-next _ _ _ _ _ (pre .lent .opened .setting) _ (loop .inv .0) (scan-on-day .ensures .scanned)
+          (if2 .left) .fewer)
+          (short-next _ _ _ _ _ (pre .lent .opened .setting) _ (loop .inv .0) (scan-on-day .ensures .scanned)
+          (if2 .left) .from)
           (c .if3 .taken) refl;
       short-walk = omega (arith, scan-on-day .ensures .short-walk, if1 .left, pre .bounded);
     }
@@ -125,7 +129,9 @@ returns-4 c =
     let loop = else3-to-scan-on-day (c .before .before .before .before) .before .before .before .before .loop in
     let pre = else1-to-start (c .before .before .before .before .before .before .before .before .before .before) .pre in
     record {
-      day-found = find-day-then _ _ _ _ _ (pre .lent .opened .setting) _ (loop .inv .0 .fewer) (loop .inv .0 .from) (scan-on-day .ensures .scanned)
+      day-found =
+          find-day-then _ _ _ _ _ (pre .lent .opened .setting) _ (loop .inv .0 .fewer) (loop .inv .0 .from)
+          (scan-on-day .ensures .scanned)
           (if2 .left) (if3 .left) (c .before .if4 .taken) refl;
       short-walk = omega (arith, scan-on-day .ensures .short-walk, if1 .left, pre .bounded);
     }
@@ -139,7 +145,8 @@ loop-less c =
     let pre = else1-to-start (c .before .before .before .before .before .before .before .before .before) .pre in
     omega (
       arith,
-      find-day-next _ _ _ _ _ (pre .lent .opened .setting) _ (loop .inv .0 .fewer) (scan-on-day .ensures .scanned) (if2 .left) .1,
+      find-day-next _ _ _ _ _ (pre .lent .opened .setting) _ (loop .inv .0 .fewer) (scan-on-day .ensures .scanned)
+          (if2 .left) .1,
       loop-test .taken,
     )
 

@@ -1,6 +1,7 @@
 use mathlib.Core.List.{List}
 use borrow.Author.Needs.{needs}
-use Rattle.rings.proofs.RiseScanLaws.{RiseScanning, as-day-scan, rise-scan-start, rise-scan-out, rise-scan-few, rise-scan-over, rise-scan-next}
+use Rattle.rings.proofs.RiseScanLaws.{RiseScanning, as-day-scan, rise-scan-start, rise-scan-out, rise-scan-few}
+use Rattle.rings.proofs.RiseScanLaws.{rise-scan-over, rise-scan-next}
 use Rattle.rings.proofs.ChoiceLaws.{picked-most, picked-as}
 use Rattle.rings.proofs.DayScanLaws.{day-scan-out, day-scan-most, day-scan-few, day-scan-over}
 use Rattle.rings.proofs.PrunedLaws.{reading-few, reading-stands}
@@ -31,17 +32,21 @@ use Rattle.rings.proofs.choice.greater.Reads as greater-reads
 record Held (days first second scratch : List ℕ) (frame : Frame) (times : List ℕ) (scan : Scan) (tail : ℕ)
     (queue₀ : List ℕ) (last : ℕ) (queue : List ℕ) (p count above more moved end : ℕ) : Type 0 where
   cursor : last ≡ getD scratch (scan .account) 0
-  rise-scan : RiseScanning days first second scratch frame times (scan .account) (scan .day) tail queue₀ p count above more moved end queue
+  rise-scan : RiseScanning days first second scratch frame times (scan .account)
+      (scan .day) tail queue₀ p count above more moved end queue
   from : scan .from ≤ p
   few : p ≤ 32768
   room : end + scan .from ≤ tail + p
 
 abbrev Inv-loop : tie.InvT-loop
-Inv-loop days first second scratch frame times scan tail queue₀ last p₀ count₀ above₀ more₀ moved₀ end₀ queue p count above more moved end =
+Inv-loop days first second scratch frame times scan tail queue₀ last p₀ count₀ above₀ more₀ moved₀ end₀ queue p
+    count above more moved end =
     Held days first second scratch frame times scan tail queue₀ last queue p count above more moved end
 
 abbrev μ-loop : tie.MeasureT-loop
-μ-loop days first second scratch frame times scan tail queue₀ last p₀ count₀ above₀ more₀ moved₀ end₀ queue p count above more moved end = last - p
+μ-loop days first second scratch frame times scan tail queue₀ last p₀ count₀ above₀ more₀ moved₀ end₀ queue p
+    count above more moved end =
+    last - p
 
 -- ---- the ways back, from a place of the code to an earlier one
 
@@ -71,7 +76,9 @@ loop-holds c =
     let entry = c .entry in
     record {
       cursor = entry .ensures;
-      rise-scan = rise-scan-start _ _ _ _ _ (pre .0 .lent .opened) _ (pre .0 .lent .long) (pre .0 .lent .days) (pre .0 .lent .small)
+      rise-scan =
+          rise-scan-start _ _ _ _ _ (pre .0 .lent .opened) _ (pre .0 .lent .long) (pre .0 .lent .days)
+          (pre .0 .lent .small)
           (pre .0 .in-range) (pre .0 .every) _
           _ (pre .1 .long) (pre .0 .lent .reading);
       from = le-refl _;
@@ -124,16 +131,23 @@ returns c =
     record {
       found =
           record {
-            scanned = day-scan-over _ _ _ _ _ (pre .0 .lent .opened) _ (pre .0 .lent .long) (pre .0 .lent .days) (pre .0 .lent .small)
+            scanned =
+                day-scan-over _ _ _ _ _ (pre .0 .lent .opened) _ (pre .0 .lent .long) (pre .0 .lent .days)
+                (pre .0 .lent .small)
                 (pre .0 .in-range) (pre .0 .every)
-                (as-day-scan (loop .inv .rise-scan)) (loop .inv .cursor) (loop-test .taken) row (is-over .ensures .yes (if1 .taken));
+                (as-day-scan (loop .inv .rise-scan)) (loop .inv .cursor) (loop-test .taken) row
+                (is-over .ensures .yes (if1 .taken));
             short-walk = omega (arith, loop .inv .few);
-            few = day-scan-most _ _ _ _ _ (pre .0 .lent .opened) _ (pre .0 .lent .long) (pre .0 .lent .days) (pre .0 .lent .small)
+            few =
+                day-scan-most _ _ _ _ _ (pre .0 .lent .opened) _ (pre .0 .lent .long) (pre .0 .lent .days)
+                (pre .0 .lent .small)
                 (pre .0 .in-range) (pre .0 .every)
                 (as-day-scan (loop .inv .rise-scan)) (loop .inv .cursor);
           };
       within = omega (arith, pre .1 .room, loop .inv .cursor, loop .inv .room, loop-test .taken);
-      rise-scanned = λ few. rise-scan-over _ _ _ _ _ (pre .0 .lent .opened) _ (pre .0 .lent .long) (pre .0 .lent .days) (pre .0 .lent .small)
+      rise-scanned = λ few.
+          rise-scan-over _ _ _ _ _ (pre .0 .lent .opened) _ (pre .0 .lent .long) (pre .0 .lent .days)
+          (pre .0 .lent .small)
           (pre .0 .in-range) (pre .0 .every) _ _
           (loop .inv .rise-scan) (loop .inv .cursor) (loop-test .taken) row (is-over .ensures .yes (if1 .taken)) few;
       behind = loop .inv .rise-scan .behind;
@@ -154,7 +168,8 @@ add-p c =
     let pre = loop-to-start (c .before .before .before .before .before) .pre in
     omega (
       arith,
-      reading-few _ _ _ _ (pre .0 .lent .opened .sound) (pre .0 .lent .opened .pruned) (pre .0 .lent .small) (loop .inv .rise-scan .reading)
+      reading-few _ _ _ _ (pre .0 .lent .opened .sound) (pre .0 .lent .opened .pruned) (pre .0 .lent .small)
+          (loop .inv .rise-scan .reading)
           (loop .inv .cursor) (loop-test .taken),
     )
 
@@ -205,7 +220,15 @@ add-end c =
     let loop = wide-to-else1 c .before .before .before .before .loop in
     let pre = wide-to-start c
     .pre in
-    omega (arith, picked-most (one .ensures), wide .ensures, pre .1 .room, loop .inv .cursor, loop .inv .room, loop-test .taken)
+    omega (
+      arith,
+      picked-most (one .ensures),
+      wide .ensures,
+      pre .1 .room,
+      loop .inv .cursor,
+      loop .inv .room,
+      loop-test .taken,
+    )
 
 one-requires-2 : tie.Need-one-requires-2 Inv-loop μ-loop
 one-requires-2 c κs = search needs
@@ -231,7 +254,8 @@ note-row-requires c κs =
     let loop-test = wide-to-else1 (c .before) .before .before .before .loop-test in
     let loop = wide-to-else1 (c .before) .before .before .before .before .loop in
     let pre = wide-to-start (c .before) .pre in
-    day-scan-few _ _ _ _ _ (pre .0 .lent .opened) _ (pre .0 .lent .long) (pre .0 .lent .days) (pre .0 .lent .small) (pre .0 .in-range) (pre .0 .every)
+    day-scan-few _ _ _ _ _ (pre .0 .lent .opened) _ (pre .0 .lent .long) (pre .0 .lent .days)
+    (pre .0 .lent .small) (pre .0 .in-range) (pre .0 .every)
     (as-day-scan (loop .inv .rise-scan)) (loop .inv .cursor) (loop-test .taken) (row-at .ensures)
 
 loop-less : tie.Need-loop-less Inv-loop μ-loop
@@ -257,17 +281,30 @@ loop-again c =
     let day = same-day (row-at .ensures) (day-at .ensures) in
     record {
       cursor = loop .inv .cursor;
-      rise-scan = rise-scan-next _ _ _ _ _ (pre .0 .lent .opened) _ (pre .0 .lent .long) (pre .0 .lent .days) (pre .0 .lent .small)
+      rise-scan =
+          rise-scan-next _ _ _ _ _ (pre .0 .lent .opened) _ (pre .0 .lent .long) (pre .0 .lent .days)
+          (pre .0 .lent .small)
           (pre .0 .in-range) (pre .0 .every) _ _
           (loop .inv .rise-scan) (loop .inv .cursor) (loop-test .taken) (row-at .ensures)
-          (⊎-elim (λ h. omega (arith, h, pre .0 .in-range, day)) (λ h. omega (arith, h, day)) (is-over .ensures .not (if1 .left))) refl
+          (⊎-elim (λ h. omega (arith, h, pre .0 .in-range, day)) (λ h. omega (arith, h, day))
+          (is-over .ensures .not (if1 .left)))
+          refl
           (greater .ensures) (note-row .ensures) (one2 .ensures)
-          (omega (arith, pre .1 .long, pre .1 .room, loop .inv .cursor, loop .inv .rise-scan .behind .long, loop .inv .room, loop-test .taken))
+          (omega (
+            arith,
+            pre .1 .long,
+            pre .1 .room,
+            loop .inv .cursor,
+            loop .inv .rise-scan .behind .long,
+            loop .inv .room,
+            loop-test .taken,
+          ))
           (put .ensures) (picked-as (wide .ensures) (one .ensures));
       from = omega (arith, loop .inv .from);
       few = omega (
         arith,
-        reading-few _ _ _ _ (pre .0 .lent .opened .sound) (pre .0 .lent .opened .pruned) (pre .0 .lent .small) (loop .inv .rise-scan .reading)
+        reading-few _ _ _ _ (pre .0 .lent .opened .sound) (pre .0 .lent .opened .pruned) (pre .0 .lent .small)
+            (loop .inv .rise-scan .reading)
             (loop .inv .cursor) (loop-test .taken),
       );
       room = omega (arith, loop .inv .room, picked-most (one .ensures), wide .ensures);
@@ -292,16 +329,22 @@ returns-2 c =
     record {
       found =
           record {
-            scanned = day-scan-out _ _ _ _ _ (pre .0 .lent .opened) _ (pre .0 .lent .long) (pre .0 .lent .days) (pre .0 .lent .small)
+            scanned =
+                day-scan-out _ _ _ _ _ (pre .0 .lent .opened) _ (pre .0 .lent .long) (pre .0 .lent .days)
+                (pre .0 .lent .small)
                 (pre .0 .in-range) (pre .0 .every)
                 (as-day-scan (loop .inv .rise-scan)) (loop .inv .cursor) (loop-test .left);
             short-walk = omega (arith, loop .inv .few);
-            few = day-scan-most _ _ _ _ _ (pre .0 .lent .opened) _ (pre .0 .lent .long) (pre .0 .lent .days) (pre .0 .lent .small)
+            few =
+                day-scan-most _ _ _ _ _ (pre .0 .lent .opened) _ (pre .0 .lent .long) (pre .0 .lent .days)
+                (pre .0 .lent .small)
                 (pre .0 .in-range) (pre .0 .every)
                 (as-day-scan (loop .inv .rise-scan)) (loop .inv .cursor);
           };
       within = omega (arith, pre .1 .room, loop .inv .cursor, loop .inv .room, loop .inv .rise-scan .reading .to);
-      rise-scanned = λ few. rise-scan-out _ _ _ _ _ (pre .0 .lent .opened) _ (pre .0 .lent .long) (pre .0 .lent .days) (pre .0 .lent .small)
+      rise-scanned = λ few.
+          rise-scan-out _ _ _ _ _ (pre .0 .lent .opened) _ (pre .0 .lent .long) (pre .0 .lent .days)
+          (pre .0 .lent .small)
           (pre .0 .in-range) (pre .0 .every) _ _
           (loop .inv .rise-scan) (loop .inv .cursor) (loop-test .left);
       behind = loop .inv .rise-scan .behind;

@@ -1,6 +1,7 @@
 use mathlib.Core.List.{List}
 use borrow.Author.Needs.{needs}
-use Rattle.rings.proofs.DayScanLaws.{DayScanning, day-scan-start, day-scan-out, day-scan-most, day-scan-few, day-scan-over, day-scan-mark}
+use Rattle.rings.proofs.DayScanLaws.{DayScanning, day-scan-start, day-scan-out, day-scan-most, day-scan-few}
+use Rattle.rings.proofs.DayScanLaws.{day-scan-over, day-scan-mark}
 use Rattle.rings.proofs.PrunedLaws.{reading-few, reading-stands}
 use Rattle.rings.proofs.IncidentLaws.{stands-place, row-known, same-day}
 use Rattle.rings.specs.declared.frame.Frame.{Frame}
@@ -24,7 +25,8 @@ use Rattle.rings.proofs.scan.note_row.Reads as note-row-reads
 use Rattle.rings.proofs.choice.greater.Reads as greater-reads
 
 -- what holds at the test of the loop
-record Held (days first second scratch : List ℕ) (frame : Frame) (times : List ℕ) (scan : Scan) (last p count above more : ℕ) : Type 0 where
+record Held (days first second scratch : List ℕ) (frame : Frame) (times : List ℕ) (scan : Scan)
+    (last p count above more : ℕ) : Type 0 where
   cursor : last ≡ getD scratch (scan .account) 0
   day-scan : DayScanning days first second scratch frame times (scan .account) (scan .day) p count above more
   from : scan .from ≤ p
@@ -56,7 +58,13 @@ loop-holds c =
       day-scan = day-scan-start _ _ _ _ _ (pre .lent .opened) _ (pre .lent .long) (pre .lent .days) (pre .lent .small)
           (pre .in-range) (pre .every) (pre .lent .reading);
       from = le-refl _;
-      few = omega (arith, pre .lent .reading .to, pre .lent .opened .pruned .pruned-list _ (pre .lent .small) .to, pre .lent .opened .sound .most);
+      few =
+          omega (
+            arith,
+            pre .lent .reading .to,
+            pre .lent .opened .pruned .pruned-list _ (pre .lent .small) .to,
+            pre .lent .opened .sound .most,
+          );
     }
 
 day-at-requires : tie.Need-day-at-requires Inv-loop μ-loop
@@ -114,7 +122,8 @@ add-p c =
     let pre = is-over-to-start (c .before .before) .pre in
     omega (
       arith,
-      reading-few _ _ _ _ (pre .lent .opened .sound) (pre .lent .opened .pruned) (pre .lent .small) (loop .inv .day-scan .reading) (loop .inv .cursor)
+      reading-few _ _ _ _ (pre .lent .opened .sound) (pre .lent .opened .pruned) (pre .lent .small)
+          (loop .inv .day-scan .reading) (loop .inv .cursor)
           (loop-test .taken),
     )
 
@@ -141,7 +150,8 @@ note-row-requires c κs =
     let loop-test = c .before .before .before .before .before .before .before .loop-test in
     let loop = c .before .before .before .before .before .before .before .before .loop in
     let pre = is-over-to-start (c .before .before .before .before .before) .pre in
-    day-scan-few _ _ _ _ _ (pre .lent .opened) _ (pre .lent .long) (pre .lent .days) (pre .lent .small) (pre .in-range) (pre .every) (loop .inv .day-scan)
+    day-scan-few _ _ _ _ _ (pre .lent .opened) _ (pre .lent .long) (pre .lent .days) (pre .lent .small)
+    (pre .in-range) (pre .every) (loop .inv .day-scan)
     (loop .inv .cursor) (loop-test .taken) (row-at .ensures)
 
 loop-less : tie.Need-loop-less Inv-loop μ-loop
@@ -167,7 +177,9 @@ loop-again c =
       day-scan = day-scan-mark _ _ _ _ _ (pre .lent .opened) _ (pre .lent .long) (pre .lent .days) (pre .lent .small)
           (pre .in-range) (pre .every) (loop .inv .day-scan)
           (loop .inv .cursor) (loop-test .taken) (row-at .ensures)
-          (⊎-elim (λ h. omega (arith, h, pre .in-range, day)) (λ h. omega (arith, h, day)) (is-over .ensures .not (if1 .left))) (greater .ensures)
+          (⊎-elim (λ h. omega (arith, h, pre .in-range, day)) (λ h. omega (arith, h, day))
+          (is-over .ensures .not (if1 .left)))
+          (greater .ensures)
           (pick .ensures) (note-row .ensures);
       from = omega (arith, loop .inv .from);
       few = omega (

@@ -32,7 +32,9 @@ step-requires c κs =
     let pre = c .before .before .before .before .before .before .before .before .before .before .before .pre in
     let ready = pre .ready in
     record {
-      opened = ready-pruned-of (ready .sound) (adjacency-pruned (ready .adjacency)) (ready .setting .some-k) (pre .in-days) (pre .follows);
+      opened =
+          ready-pruned-of (ready .sound) (adjacency-pruned (ready .adjacency)) (ready .setting .some-k) (pre .in-days)
+          (pre .follows);
       ordered = pre .ordered;
       in-days = pre .in-days;
       starts = pre .starts;
@@ -72,8 +74,10 @@ peel-start-requires c κs =
 list-all-requires : tie.Need-list-all-requires
 list-all-requires c κs =
     let peel-start = c .before .before .before .before .before .before .before .peel-start in
-    let step = next-frame-to-step (c .before .before .before .before .before .before .before .before .before .before .before) .step in
-    let pre = next-frame-to-start (c .before .before .before .before .before .before .before .before .before .before .before) .pre in
+    let step = next-frame-to-step (c .before .before .before .before .before .before .before .before .before
+    .before .before) .step in
+    let pre = next-frame-to-start (c .before .before .before .before .before .before .before .before .before
+    .before .before) .pre in
     peel-start .kept .1 .1 .1 .1 .1 .1 .1 .1 .0 ∙ (step .kept .1 .1 .1 .1 .1 .1 .1 .1 .1 .0 ∙ pre .queue-long)
 
 same-length : tie.Need-same-length
@@ -105,7 +109,8 @@ returns-2 : tie.Need-returns-2
 returns-2 c =
     let list-all = c .before .before .list-all in
     let peel-start = c .before .before .before .before .before .before .before .before .before .before .peel-start in
-    let next = c .before .before .before .before .before .before .before .before .before .before .before .before .before .before .next-frame in
+    let next = c .before .before .before .before .before .before .before .before .before .before .before .before
+    .before .before .next-frame in
     let done = rw (next .ensures) at (peel-start .ensures) in
     record {
       times-are = done .times-are;

@@ -135,9 +135,11 @@ returns-2 c =
       queued = λ h. queued-dropped-supporter (second-small _ _ _ sound (pre .1) (entry2 .ensures))
           (omega (arith, if1 .left, dropped-supporter-on (drop-supporter .ensures)))
           (dropped-supporter-less small (pre .0 .slack-long) (drop-supporter .ensures) .long)
-          (queued-dropped-supporter small (omega (arith, if1 .left)) (pre .0 .slack-long) (queued-start _ _ _ (pre .0 .queue-long)) (drop-supporter .ensures))
+          (queued-dropped-supporter small (omega (arith, if1 .left)) (pre .0 .slack-long)
+          (queued-start _ _ _ (pre .0 .queue-long)) (drop-supporter .ensures))
           (drop-supporter2 .ensures);
-      leaving = λ h sp F. leaving-row _ _ _ _ _ (pre .0 .placed .setting) _ (pre .0 .times-long) (pre .0 .days) F (pre .1)
+      leaving = λ h sp F.
+          leaving-row _ _ _ _ _ (pre .0 .placed .setting) _ (pre .0 .times-long) (pre .0 .days) F (pre .1)
           (lead-reads _ _ _ sound (pre .1) _ (args .scratch .now) (pre .0 .placed .paired .pairs) (leads .ensures))
           (first-is _ _ _ sound (pre .1) (entry .ensures)) (second-is _ _ _ sound (pre .1) (entry2 .ensures))
           (day-of _ _ _ sound (pre .1) refl) refl refl (loses-supporter .ensures) (loses-supporter2 .ensures)
@@ -149,6 +151,7 @@ drop-leaving-row-spec =
     tie.close
     (
     tie.spec returns leads-requires entry-requires entry-requires-2 mul-x shared-slice-read-x mul-y
-    shared-slice-read-y mul-day shared-slice-read-day loses-supporter-requires loses-supporter-requires-2 drop-supporter-requires
+    shared-slice-read-y mul-day shared-slice-read-day loses-supporter-requires loses-supporter-requires-2
+    drop-supporter-requires
     drop-supporter-requires-2 same-length same-length-2 returns-2
     )

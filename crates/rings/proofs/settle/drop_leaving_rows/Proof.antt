@@ -74,8 +74,10 @@ loop-again c =
       omega (arith, loop-test .taken),
       drop-leaving-row .kept .1 .1 .1 .1 .1 .1 .1 .1 .0 ∙ loop .inv .1,
       drop-leaving-row .kept .1 .1 .1 .1 .1 .1 .1 .1 .1 .0 ∙ loop .inv .2,
-      λ h. let till = loop .inv .3 (omega (arith, drop-leaving-row .ensures .queued h .grows h, h)) in
-          (queued-then (till .0) (drop-leaving-row .ensures .queued h), drop-leaving-row .ensures .leaving h _ (till .1)),
+      λ h. let till = loop .inv .3 (omega (arith, drop-leaving-row .ensures .queued h .grows h, h)) in (
+        queued-then (till .0) (drop-leaving-row .ensures .queued h),
+        drop-leaving-row .ensures .leaving h _ (till .1),
+      ),
     )
 
 same-length : tie.Need-same-length Inv-loop μ-loop

@@ -15,8 +15,13 @@ peel-to-start c = c .before .before .before .before .before .before .before .bef
 
 peel-requires : tie.Need-peel-requires
 peel-requires c κs =
-    let pre = c .before .before .before .before .before .before .before .before .before .before .pre in
-    (pre .ready, (pre .span, record { times = pre .times-long; left = pre .slack-long; queue = omega (arith, pre .queue-long) }))
+    let pre = c .before .before .before .before .before .before .before .before .before .before .pre in (
+      pre .ready,
+      (
+        pre .span,
+        record { times = pre .times-long; left = pre .slack-long; queue = omega (arith, pre .queue-long) },
+      ),
+    )
 
 reset-slack-requires : tie.Need-reset-slack-requires
 reset-slack-requires c κs = search needs
@@ -37,7 +42,9 @@ returns c =
     let pre = peel-to-start (c .before .before .before .before .before .before .before .before .before .before) .pre in
     record {
       times-are = peel .ensures;
-      slacks = slack-ones _ _ _ _ _ _ _ (pre .ready .setting) (peel .ensures) (reset-slack .ensures .long) (reset-slack .ensures .each);
+      slacks =
+          slack-ones _ _ _ _ _ _ _ (pre .ready .setting) (peel .ensures) (reset-slack .ensures .long)
+          (reset-slack .ensures .each);
     }
 
 pub peel-start-spec : {M : Type 1} → statement M

@@ -15,11 +15,15 @@ use Rattle.rings.proofs.settle.settle.Lts as lts
 use Rattle.rings.proofs.settle.settle_account.Reads as settle-account-reads
 
 abbrev Inv-loop : tie.InvT-loop
-Inv-loop days first second scratch frame budget waiting times₀ slack₀ queue₀ counting counts₀ list₀ times slack queue counts list =
-    Settles days first second scratch frame counting budget (arrays times₀ slack₀ queue₀ counts₀) list (arrays times slack queue counts)
+Inv-loop days first second scratch frame budget waiting times₀ slack₀ queue₀ counting counts₀ list₀ times slack
+    queue counts list =
+    Settles days first second scratch frame counting budget (arrays times₀ slack₀ queue₀ counts₀) list
+    (arrays times slack queue counts)
 
 abbrev μ-loop : tie.MeasureT-loop
-μ-loop days first second scratch frame budget waiting times₀ slack₀ queue₀ counting counts₀ list₀ times slack queue counts list = 4353 - list .head
+μ-loop days first second scratch frame budget waiting times₀ slack₀ queue₀ counting counts₀ list₀ times slack
+    queue counts list =
+    4353 - list .head
 
 -- ---- the ways back, from a place of the code to an earlier one
 
@@ -102,35 +106,43 @@ enum-told c = search needs
 
 same-length-5 : tie.Need-same-length-5 Inv-loop μ-loop
 same-length-5 c =
-    let settle-account = c .before .before .before .before .before .before .before .before .before .before .settle-account in
+    let settle-account =
+    c .before .before .before .before .before .before .before .before .before .before .settle-account in
     let loop = counts-to-else2 (c .before .before .before) .before .before .before .before .loop in
     let pre = times-to-start (c .before .before .before .before .before .before .before .before .before) .pre in
-    settle-account .kept .1 .1 .1 .1 .1 .1 .1 .0 ∙ (loop .inv .rising .settling .long ∙ sym (pre .rising .settling .long))
+    settle-account .kept .1 .1 .1 .1 .1 .1 .1 .0
+    ∙ (loop .inv .rising .settling .long ∙ sym (pre .rising .settling .long))
 
 same-length-6 : tie.Need-same-length-6 Inv-loop μ-loop
 same-length-6 c =
-    let settle-account = c .before .before .before .before .before .before .before .before .before .before .settle-account in
+    let settle-account =
+    c .before .before .before .before .before .before .before .before .before .before .settle-account in
     let loop = counts-to-else2 (c .before .before .before) .before .before .before .before .loop in
     let pre = times-to-start (c .before .before .before .before .before .before .before .before .before) .pre in
-    settle-account .kept .1 .1 .1 .1 .1 .1 .1 .1 .0 ∙ (loop .inv .rising .settling .long-slack ∙ sym (pre .rising .settling .long-slack))
+    settle-account .kept .1 .1 .1 .1 .1 .1 .1 .1 .0
+    ∙ (loop .inv .rising .settling .long-slack ∙ sym (pre .rising .settling .long-slack))
 
 same-length-7 : tie.Need-same-length-7 Inv-loop μ-loop
 same-length-7 c =
-    let settle-account = c .before .before .before .before .before .before .before .before .before .before .settle-account in
+    let settle-account =
+    c .before .before .before .before .before .before .before .before .before .before .settle-account in
     let loop = counts-to-else2 (c .before .before .before) .before .before .before .before .loop in
     let pre = times-to-start (c .before .before .before .before .before .before .before .before .before) .pre in
-    settle-account .kept .1 .1 .1 .1 .1 .1 .1 .1 .1 .0 ∙ (loop .inv .rising .waiting .long ∙ sym (pre .rising .waiting .long))
+    settle-account .kept .1 .1 .1 .1 .1 .1 .1 .1 .1 .0
+    ∙ (loop .inv .rising .waiting .long ∙ sym (pre .rising .waiting .long))
 
 same-length-8 : tie.Need-same-length-8 Inv-loop μ-loop
 same-length-8 c =
-    let settle-account = c .before .before .before .before .before .before .before .before .before .before .settle-account in
+    let settle-account =
+    c .before .before .before .before .before .before .before .before .before .before .settle-account in
     let loop = counts-to-else2 (c .before .before .before) .before .before .before .before .loop in
     settle-account .kept .1 .1 .1 .1 .1 .1 .1 .1 .1 .1 .1 .0 ∙ loop .inv .long-counts
 
 returns-2 : tie.Need-returns-2 Inv-loop μ-loop
 returns-2 c =
     let enum-told = c .enum-told in
-    let settle-account = c .before .before .before .before .before .before .before .before .before .before .settle-account in
+    let settle-account =
+    c .before .before .before .before .before .before .before .before .before .before .settle-account in
     let loop = counts-to-else2 (c .before .before .before) .before .before .before .before .loop in
     let stay = rw (enum-told .given .1) at (settle-account .ensures) in
     record { same = λ y. stay .same y ∙ loop .inv .counted .same y }
@@ -141,7 +153,8 @@ enum-known-found c = search needs
 loop-less : tie.Need-loop-less Inv-loop μ-loop
 loop-less c =
     let found = c .before .found in
-    let settle-account = c .before .before .before .before .before .before .before .before .before .before .before .settle-account in
+    let settle-account =
+    c .before .before .before .before .before .before .before .before .before .before .before .settle-account in
     let moved = rw (found .given .1) at (settle-account .ensures) in
     let if1 = counts-to-else2 (c .before .before .before .before) .before .before .if1 in
     let loop = counts-to-else2 (c .before .before .before .before) .before .before .before .before .loop in
@@ -150,7 +163,8 @@ loop-less c =
 loop-again : tie.Need-loop-again Inv-loop μ-loop
 loop-again c =
     let found = c .before .found in
-    let settle-account = c .before .before .before .before .before .before .before .before .before .before .before .settle-account in
+    let settle-account =
+    c .before .before .before .before .before .before .before .before .before .before .before .settle-account in
     let moved = rw (found .given .1) at (settle-account .ensures) in
     let if2 = counts-to-else2 (c .before .before .before .before) .if2 in
     let loop = counts-to-else2 (c .before .before .before .before) .before .before .before .before .loop in
@@ -196,7 +210,9 @@ returns-3 c =
       times-are = end .0;
       slacks = end .1;
       listed = end .2;
-      counted = counted-so (hist-same (λ j l. sym (by-core _ _ _ _ _ _ _ (pre .opened .setting) (end .0) j l))) (loop .inv .counted);
+      counted =
+          counted-so (hist-same (λ j l. sym (by-core _ _ _ _ _ _ _ (pre .opened .setting) (end .0) j l)))
+          (loop .inv .counted);
     }
 
 pub settle-spec : {M : Type 1} → statement M

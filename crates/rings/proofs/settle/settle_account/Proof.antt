@@ -71,10 +71,13 @@ enum-known-near-2 c = search needs
 settle-far-requires : tie.Need-settle-far-requires
 settle-far-requires c κs =
     let near2 = c .before .before .before .before .before .near2 in
-    let settle-near = c .before .before .before .before .before .before .before .before .before .before .before .before .before .before .before .settle-near in
+    let settle-near = c .before .before .before .before .before .before .before .before .before .before .before
+    .before .before .before .before .settle-near in
     let unmoved = rw (near2 .given .1) at (settle-near .ensures) in
-    let first-from = counts-to-first-from (c .before .before .before .before .before .before .before .before) .first-from in
-    let entry = counts-to-first-from (c .before .before .before .before .before .before .before .before) .before .entry in
+    let first-from =
+    counts-to-first-from (c .before .before .before .before .before .before .before .before) .first-from in
+    let entry =
+    counts-to-first-from (c .before .before .before .before .before .before .before .before) .before .entry in
     let pre = settle-far-arg4-to-start c .pre in
     record {
       working = unmoved-working unmoved (pre .working);
@@ -102,7 +105,8 @@ same-length-4 c = search needs
 returns : tie.Need-returns
 returns c =
     let near = c .before .near in
-    let settle-near = c .before .before .before .before .before .before .before .before .before .before .before .settle-near in
+    let settle-near =
+    c .before .before .before .before .before .before .before .before .before .before .before .settle-near in
     moved-more (omega arith) (rw (near .given .1) at (settle-near .ensures))
 
 same-length-5 : tie.Need-same-length-5
@@ -120,12 +124,15 @@ same-length-8 c = search needs
 returns-2 : tie.Need-returns-2
 returns-2 c =
     let settle-far = c .before .before .before .before .before .before .before .before .settle-far in
-    let near2 = c .before .before .before .before .before .before .before .before .before .before .before .before .before .before .near2 in
+    let near2 = c .before .before .before .before .before .before .before .before .before .before .before .before
+    .before .before .near2 in
     let settle-near = c .before .before .before .before .before .before .before .before .before .before .before
     .before .before .before .before .before .before .before .before .before .before .before
     .before .before .settle-near in
-    let args = settle-far-arg4-to-start (c .before .before .before .before .before .before .before .before .before) .args in
-    unmoved-attempt (args .counting) _ (settle-far .result) (rw (near2 .given .1) at (settle-near .ensures)) (settle-far .ensures)
+    let args =
+    settle-far-arg4-to-start (c .before .before .before .before .before .before .before .before .before) .args in
+    unmoved-attempt (args .counting) _ (settle-far .result) (rw (near2 .given .1) at (settle-near .ensures))
+    (settle-far .ensures)
 
 pub settle-account-spec : {M : Type 1} → statement M
 settle-account-spec =

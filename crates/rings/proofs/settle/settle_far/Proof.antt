@@ -2,10 +2,13 @@ use Rattle.rings.proofs.CountingLaws.{counted-so}
 use Rattle.rings.proofs.PeelStateLaws.{estimate-at}
 use lib.ListN.{length-set}
 use Rattle.rings.proofs.SettleLaws.{account-same, account-rise}
-use Rattle.rings.proofs.SettleNearLaws.{account-days, account-now, account-never, account-every, account-counts-before-rise}
+use Rattle.rings.proofs.SettleNearLaws.{account-days, account-now, account-never, account-every}
+use Rattle.rings.proofs.SettleNearLaws.{account-counts-before-rise}
 use mathlib.Core.Path.{refl, sym, _∙_}
 use native.Mathlib.Omega.{arith}
 use borrow.Author.Needs.{needs}
+use Rattle.rings.specs.Table.{tableOf}
+use Rattle.rings.specs.Inner.Settling.{DayFoundBy}
 use Rattle.rings.proofs.settle.settle_far.Statement.{statement}
 use Rattle.rings.proofs.settle.settle_far.Tie as tie
 use Rattle.rings.proofs.settle.settle_far.Reads as reads
@@ -32,6 +35,15 @@ else2-to-put c =
     c .before .before .before .before .before .before .before .before .before .before .before .before .before
     .before
 
+-- what find_day ensures, where it found a day
+found-day-at : (c : tie.After-outcome)
+    → let a = outcome-to-start c .args in
+    let o = c .outcome .given .0 in
+    DayFoundBy (tableOf (a .days .now) (a .first .now) (a .second .now)) (a .frame) (a .times .now) (a .scan)
+    (o .0) (o .1 .0)
+    (o .1 .1 .0)
+found-day-at c = rw (c .outcome .given .1) at (c .before .before .find-day .ensures)
+
 mul-old : tie.Need-mul-old
 mul-old c =
     let pre = c .before .before .before .before .before .before .before .before .pre in
@@ -57,7 +69,9 @@ find-day-requires c κs =
         reading = h .reading;
       };
       bounded = pre .bounded;
-      every = λ n. w .covered .rows _ (h .small) (λ e. n (sym (estimate-at (args .times .now) _ (w .times-long) (h .small)) ∙ e));
+      every = λ n.
+          w .covered .rows _ (h .small)
+          (λ e. n (sym (estimate-at (args .times .now) _ (w .times-long) (h .small)) ∙ e));
       short = pre .short;
     }
 
@@ -85,22 +99,16 @@ slice-write-slack c =
 
 add-t28 : tie.Need-add-t28
 add-t28 c =
-    let outcome = c .before .before .before .outcome in
-    let find-day = c .before .before .before .before .before .find-day in
-    let found-day = rw (outcome .given .1) at (find-day .ensures) in
+    let found-day = found-day-at (c .before .before .before) in
     let pre = outcome-to-start (c .before .before .before) .pre in
     let w = pre .working in
-    let h = pre .at-head in
     omega (arith, w .waits, w .within, w .behind, w .few, found-day .short-walk)
 
 add-t29 : tie.Need-add-t29
 add-t29 c =
-    let outcome = c .before .before .before .before .outcome in
-    let find-day = c .before .before .before .before .before .before .find-day in
-    let found-day = rw (outcome .given .1) at (find-day .ensures) in
+    let found-day = found-day-at (c .before .before .before .before) in
     let pre = outcome-to-start (c .before .before .before .before) .pre in
     let w = pre .working in
-    let h = pre .at-head in
     omega (arith, w .waits, w .within, w .behind, w .few, found-day .short-walk)
 
 same-length-2 : tie.Need-same-length-2
@@ -111,9 +119,7 @@ same-length-3 c = search needs
 
 returns-2 : tie.Need-returns-2
 returns-2 c =
-    let outcome = c .before .before .before .before .outcome in
-    let find-day = c .before .before .before .before .before .before .find-day in
-    let found-day = rw (outcome .given .1) at (find-day .ensures) in
+    let found-day = found-day-at (c .before .before .before .before) in
     let pre = outcome-to-start (c .before .before .before .before) .pre in
     let w = pre .working in
     let h = pre .at-head in
@@ -121,7 +127,8 @@ returns-2 c =
       next = refl;
       within = w .within;
       walked = omega (arith, found-day .short-walk);
-      rising = λ xs Z. account-same _ _ _ _ _ (w .opened .setting) (Z .settling) (h .small) (found-day .day-found) (Z .waiting)
+      rising = λ xs Z.
+          account-same _ _ _ _ _ (w .opened .setting) (Z .settling) (h .small) (found-day .day-found) (Z .waiting)
           (h .is-head) (Z .behind) (Z .raised) (w .waits) (w .within) (c .before .before .if1 .taken);
       nevers = λ v e. e;
       counted = record { counted = λ y. w .counted y .counts-are; same = λ y. refl };
@@ -152,9 +159,7 @@ drop-supported-requires c κs =
     let put = c .before .before .before .before .before .before .put in
     let if1 = c .before .before .before .before .before .before .before .before .if1 in
     let args = drop-supported-arg4-to-start c .args in
-    let outcome = c .before .before .before .before .before .before .before .before .before .before .outcome in
-    let find-day = c .before .before .before .before .before .before .before .before .before .before .before .before .find-day in
-    let found-day = rw (outcome .given .1) at (find-day .ensures) in
+    let found-day = found-day-at (c .before .before .before .before .before .before .before .before .before .before) in
     let pre = drop-supported-arg4-to-start c .pre in
     let w = pre .working in
     let h = pre .at-head in
@@ -165,10 +170,16 @@ drop-supported-requires c κs =
       slack-long = search (needs, w .slack-long);
       queue-long = put .kept .0 ∙ w .queue-long;
       reading = h .reading;
-      every = account-every (args .times .now) (omega (arith, w .opened .setting .fits)) (w .times-long) (h .small) (w .days) (found-day .day-found)
+      every =
+          account-every (args .times .now) (omega (arith, w .opened .setting .fits)) (w .times-long) (h .small)
+          (w .days) (found-day .day-found)
           (if1 .left) (w .covered);
-      days = account-days (args .times .now) (omega (arith, w .opened .setting .fits)) (w .times-long) (h .small) (w .days) (found-day .day-found);
-      now-is = account-now (args .times .now) (omega (arith, w .opened .setting .fits)) (w .times-long) (h .small) (w .days) (found-day .day-found);
+      days =
+          account-days (args .times .now) (omega (arith, w .opened .setting .fits)) (w .times-long) (h .small)
+          (w .days) (found-day .day-found);
+      now-is =
+          account-now (args .times .now) (omega (arith, w .opened .setting .fits)) (w .times-long) (h .small)
+          (w .days) (found-day .day-found);
       counted = λ y.
           account-counts-before-rise (args .times .now) (omega (arith, w .opened .setting .fits)) (w .times-long)
           (h .small) (w .days) (found-day .day-found)
@@ -196,37 +207,23 @@ returns-3 c =
 
 add-t21 : tie.Need-add-t21
 add-t21 c =
-    let outcome = else2-to-put (c .before) .before .before .before .before .outcome in
-    let find-day = c .before .before .before .before .before .before .before .before .before .before .before
-    .before .before .before .before .before .before .before .before .before .before .find-day in
-    let found-day = rw (outcome .given .1) at (find-day .ensures) in
+    let found-day = found-day-at (else2-to-put (c .before) .before .before .before .before) in
     let pre = else2-to-start (c .before) .pre in
     let w = pre .working in
-    let h = pre .at-head in
     omega (arith, w .waits, w .within, w .behind, w .few, found-day .short-walk)
 
 add-t43 : tie.Need-add-t43
 add-t43 c =
-    let outcome = else2-to-put (c .before .before) .before .before .before .before .outcome in
-    let find-day = c .before .before .before .before .before .before .before .before .before .before .before
-    .before .before .before .before .before .before .before .before .before .before .before
-    .find-day in
-    let found-day = rw (outcome .given .1) at (find-day .ensures) in
+    let found-day = found-day-at (else2-to-put (c .before .before) .before .before .before .before) in
     let pre = else2-to-start (c .before .before) .pre in
     let w = pre .working in
-    let h = pre .at-head in
     omega (arith, w .waits, w .within, w .behind, w .few, found-day .short-walk)
 
 add-t44 : tie.Need-add-t44
 add-t44 c =
-    let outcome = else2-to-put (c .before .before .before) .before .before .before .before .outcome in
-    let find-day = c .before .before .before .before .before .before .before .before .before .before .before
-    .before .before .before .before .before .before .before .before .before .before .before .before
-    .find-day in
-    let found-day = rw (outcome .given .1) at (find-day .ensures) in
+    let found-day = found-day-at (else2-to-put (c .before .before .before) .before .before .before .before) in
     let pre = else2-to-start (c .before .before .before) .pre in
     let w = pre .working in
-    let h = pre .at-head in
     omega (arith, w .waits, w .within, w .behind, w .few, found-day .short-walk)
 
 same-length-8 : tie.Need-same-length-8
@@ -234,7 +231,8 @@ same-length-8 c = search needs
 
 same-length-9 : tie.Need-same-length-9
 same-length-9 c =
-    let drop-supported = c .before .before .before .before .before .before .before .before .before .before .drop-supported in
+    let drop-supported =
+    c .before .before .before .before .before .before .before .before .before .before .drop-supported in
     drop-supported .kept .1 .1 .1 .1 .1 .1 .1 .1 .0 ∙ simp length-set
 
 same-length-10 : tie.Need-same-length-10
@@ -246,14 +244,11 @@ same-length-11 c = search needs
 returns-4 : tie.Need-returns-4
 returns-4 c =
     let if2 = c .before .before .before .if2 in
-    let drop-supported = c .before .before .before .before .before .before .before .before .before .before .drop-supported in
+    let drop-supported =
+    c .before .before .before .before .before .before .before .before .before .before .drop-supported in
     let put = else2-to-put (c .before .before .before) .put in
     let args = else2-to-start (c .before .before .before) .args in
-    let outcome = else2-to-put (c .before .before .before) .before .before .before .before .outcome in
-    let find-day = c .before .before .before .before .before .before .before .before .before .before .before
-    .before .before .before .before .before .before .before .before .before .before .before .before
-    .find-day in
-    let found-day = rw (outcome .given .1) at (find-day .ensures) in
+    let found-day = found-day-at (else2-to-put (c .before .before .before) .before .before .before .before) in
     let pre = else2-to-start (c .before .before .before) .pre in
     let w = pre .working in
     let h = pre .at-head in
@@ -261,10 +256,14 @@ returns-4 c =
       next = refl;
       within = if2 .left;
       walked = omega (arith, found-day .short-walk);
-      rising = λ xs Z. account-rise _ _ _ _ _ (w .opened .setting) (Z .settling) (h .small) (found-day .day-found) (Z .waiting)
+      rising = λ xs Z.
+          account-rise _ _ _ _ _ (w .opened .setting) (Z .settling) (h .small) (found-day .day-found) (Z .waiting)
           (h .is-head) (Z .behind) (Z .raised) (w .waits) (w .within) (put .ensures)
-          (drop-supported .ensures .dropped-supported (if2 .left)) (drop-supported .ensures .queued (if2 .left)) (if2 .left);
-      nevers = account-never (args .times .now) (omega (arith, w .opened .setting .fits)) (w .times-long) (h .small) (w .days) (found-day .day-found);
+          (drop-supported .ensures .dropped-supported (if2 .left)) (drop-supported .ensures .queued (if2 .left))
+          (if2 .left);
+      nevers =
+          account-never (args .times .now) (omega (arith, w .opened .setting .fits)) (w .times-long) (h .small)
+          (w .days) (found-day .day-found);
       counted = counted-so (λ y. y (if2 .left)) (drop-supported .ensures .counted);
     }
 

@@ -1,8 +1,10 @@
 use mathlib.Core.Path.{sym, refl, _∙_}
-use Rattle.rings.proofs.FindDayLaws.{short-start}
+use Rattle.rings.proofs.WorklistLaws.{unmoved-none}
 use native.Mathlib.Omega.{arith}
 use lib.ListN.{length-set}
-use Rattle.rings.proofs.SettleNearLaws.{near-short, near-day, near-every, near-same, near-never, near-asks, near-counts, near-small, near-rise}
+use Rattle.rings.proofs.SettleNearLaws.{scanned-on, rise-scanned-on, moving-on}
+use Rattle.rings.proofs.SettleNearLaws.{near-short, near-day, near-every, near-same, near-never, near-asks}
+use Rattle.rings.proofs.SettleNearLaws.{near-counts, near-small, near-rise}
 use borrow.Author.Needs.{needs}
 use Rattle.rings.proofs.settle.settle_near.Statement.{statement}
 use Rattle.rings.proofs.settle.settle_near.Tie as tie
@@ -33,10 +35,10 @@ else4-to-start c = struct-known5-to-start (c .before .before .before .before)
 abbrev queue3-to-start : tie.After-queue3 → tie.Start
 queue3-to-start c = else4-to-start (c .before .before .before .before .before .before .before .before .before .before)
 
-abbrev queue3-to-else1 : tie.After-queue3 → tie.Else1
-queue3-to-else1 c =
-    else3-to-else1 (c .before .before .before .before .before .before .before .before .before .before .before
-    .before .before)
+abbrev queue3-to-entry : tie.After-queue3 → tie.After-entry
+queue3-to-entry c =
+    c .before .before .before .before .before .before .before .before .before .before .before .before .before
+    .before .before .before .before .before .before .before .before .before .before .before
 
 abbrev queue3-to-scan-for-rise : tie.After-queue3 → tie.After-scan-for-rise
 queue3-to-scan-for-rise c =
@@ -55,14 +57,7 @@ counts-to-put c = c .before .before .before .before .before .before .before .bef
 returns : tie.Need-returns
 returns c =
     let pre = c .before .before .before .before .before .before .before .before .before .before .pre in
-    record {
-      same-times = refl;
-      same-slack = refl;
-      same-counts = refl;
-      behind = record { long = pre .working .queue-long; front = λ i l. refl };
-      short = rw (pre .its-time) (short-start _ _ _ _ _ (pre .working .opened .setting) _ _ _ (pre .working .days _ (pre .at-head .small)));
-      few = omega arith;
-    }
+    unmoved-none pre
 
 entry-requires : tie.Need-entry-requires
 entry-requires c κs =
@@ -81,19 +76,18 @@ add-if2-2 c =
     let pre = else1-to-start (c .before .before .before) .pre in
     let w = pre .working in
     let h = pre .at-head in
-    omega (arith, c .before .before .entry .ensures, w .within, w .opened .pruned .pruned-list _ (h .small) .to, w .opened .sound .most)
+    omega (
+      arith,
+      c .before .before .entry .ensures,
+      w .within,
+      w .opened .pruned .pruned-list _ (h .small) .to,
+      w .opened .sound .most,
+    )
 
 returns-2 : tie.Need-returns-2
 returns-2 c =
     let pre = else1-to-start (c .before .before .before .before) .pre in
-    record {
-      same-times = refl;
-      same-slack = refl;
-      same-counts = refl;
-      behind = record { long = pre .working .queue-long; front = λ i l. refl };
-      short = rw (pre .its-time) (short-start _ _ _ _ _ (pre .working .opened .setting) _ _ _ (pre .working .days _ (pre .at-head .small)));
-      few = omega arith;
-    }
+    unmoved-none pre
 
 scan-for-rise-requires : tie.Need-scan-for-rise-requires
 scan-for-rise-requires c κs =
@@ -112,7 +106,9 @@ scan-for-rise-requires c κs =
           days = w .days;
           reading = h .reading;
         };
-        in-range = rw (pre .its-time) (near-day _ _ _ _ _ _ _ (w .opened .setting) (args .times .now) (w .times-long) (w .days) (h .small)
+        in-range =
+            rw (pre .its-time) (near-day _ _ _ _ _ _ _ (w .opened .setting) (args .times .now) (w .times-long)
+            (w .days) (h .small)
             (λ e. if1 .left (pre .its-time ∙ e)));
         every = near-every _ _ _ _ _ _ _ (w .opened .setting) (args .times .now) (w .times-long) (w .days) (h .small)
             (λ e. if1 .left (pre .its-time ∙ e)) (w .covered);
@@ -148,7 +144,8 @@ add-t28 c =
 add-t30 : tie.Need-add-t30
 add-t30 c =
     let pre = struct-known5-to-start (c .before .before .before .before .before .before) .pre in
-    let scan-for-rise = c .before .before .before .before .before .before .before .before .before .before .scan-for-rise in
+    let scan-for-rise =
+    c .before .before .before .before .before .before .before .before .before .before .scan-for-rise in
     omega (arith, pre .working .few, scan-for-rise .ensures .found .short-walk)
 
 same-length : tie.Need-same-length
@@ -163,8 +160,10 @@ same-length-3 c = search needs
 returns-3 : tie.Need-returns-3
 returns-3 c =
     let if3 = c .before .before .before .before .before .if3 in
-    let scan-for-rise = c .before .before .before .before .before .before .before .before .before .before .scan-for-rise in
-    let if1 = c .before .before .before .before .before .before .before .before .before .before .before .before .before .before .before .before .before .if1 in
+    let scan-for-rise =
+    c .before .before .before .before .before .before .before .before .before .before .scan-for-rise in
+    let if1 = c .before .before .before .before .before .before .before .before .before .before .before .before
+    .before .before .before .before .before .if1 in
     let args = struct-known5-to-start (c .before .before .before .before .before .before) .args in
     let pre = struct-known5-to-start (c .before .before .before .before .before .before) .pre in
     let w = pre .working in
@@ -173,8 +172,10 @@ returns-3 c =
       next = refl;
       within = w .within;
       walked = omega (arith, scan-for-rise .ensures .found .short-walk);
-      rising = λ xs Z. near-same _ _ _ _ _ _ _ (w .opened .setting) (args .times .now) (w .times-long) (w .days) (h .small)
-          (λ e. if1 .left (pre .its-time ∙ e)) (rw (pre .its-time) at (scan-for-rise .ensures .found .scanned)) (if3 .taken)
+      rising = λ xs Z.
+          near-same _ _ _ _ _ _ _ (w .opened .setting) (args .times .now) (w .times-long) (w .days) (h .small)
+          (λ e. if1 .left (pre .its-time ∙ e))
+          (scanned-on (pre .its-time) (scan-for-rise .ensures .found .scanned)) (if3 .taken)
           (scan-for-rise .ensures .behind) Z (h .is-head) (w .waits) (w .within);
       nevers = λ v e. e;
       counted = record { counted = λ y. w .counted y .counts-are; same = λ y. refl };
@@ -193,7 +194,8 @@ slack-above-requires c κs =
 add-t33 : tie.Need-add-t33
 add-t33 c =
     let pre = struct-known5-to-start (c .before .before .before .before .before .before) .pre in
-    let scan-for-rise = c .before .before .before .before .before .before .before .before .before .before .scan-for-rise in
+    let scan-for-rise =
+    c .before .before .before .before .before .before .before .before .before .before .scan-for-rise in
     omega (arith, pre .working .few, scan-for-rise .ensures .found .short-walk)
 
 same-length-4 : tie.Need-same-length-4
@@ -205,7 +207,8 @@ same-length-5 c = search needs
 returns-4 : tie.Need-returns-4
 returns-4 c =
     let if3 = c .before .before .before .before .before .if3 in
-    let scan-for-rise = c .before .before .before .before .before .before .before .before .before .before .scan-for-rise in
+    let scan-for-rise =
+    c .before .before .before .before .before .before .before .before .before .before .scan-for-rise in
     let if1 = else3-to-else1 (c .before .before .before .before .before) .if1 in
     let args = struct-known5-to-start (c .before .before .before .before .before .before) .args in
     let pre = struct-known5-to-start (c .before .before .before .before .before .before) .pre in
@@ -217,7 +220,8 @@ returns-4 c =
       same-counts = refl;
       behind = scan-for-rise .ensures .behind;
       short = near-short _ _ _ _ _ _ _ (w .opened .setting) (args .times .now) (w .times-long) (w .days) (h .small)
-          (λ e. if1 .left (pre .its-time ∙ e)) (rw (pre .its-time) at (scan-for-rise .ensures .found .scanned)) (if3 .left);
+          (λ e. if1 .left (pre .its-time ∙ e))
+          (scanned-on (pre .its-time) (scan-for-rise .ensures .found .scanned)) (if3 .left);
       few = omega (arith, scan-for-rise .ensures .found .short-walk);
     }
 
@@ -257,21 +261,23 @@ drop-listed-supporters-requires c κs =
     let if4 = c .before .before .before .before .before .before .if4 in
     let slack-above = c .before .before .before .before .before .before .before .slack-above in
     let if3 = c .before .before .before .before .before .before .before .before .before .if3 in
-    let scan-for-rise = c .before .before .before .before .before .before .before .before .before .before .before .before .before .before .scan-for-rise in
+    let scan-for-rise = c .before .before .before .before .before .before .before .before .before .before .before
+    .before .before .before .scan-for-rise in
     let if1 = else3-to-else1 (c .before .before .before .before .before .before .before .before .before) .if1 in
     let args = else4-to-start (c .before .before .before .before .before .before) .args in
     let pre = else4-to-start (c .before .before .before .before .before .before) .pre in
     let w = pre .working in
     let h = pre .at-head in
-    let outcome = rw (pre .its-time) at (scan-for-rise .ensures .found .scanned) in
-    let rise-scanned = rw (pre .its-time) at (scan-for-rise .ensures .rise-scanned (if3 .left)) in
+    let outcome = scanned-on (pre .its-time) (scan-for-rise .ensures .found .scanned) in
+    let rise-scanned = rise-scanned-on (pre .its-time) (scan-for-rise .ensures .rise-scanned (if3 .left)) in
     record {
       slack-long = length-set (args .slack .now) (args .scan .account) (slack-above .result) ∙ w .slack-long;
       queue-long = put .kept .0 ∙ (scan-for-rise .ensures .behind) .long;
       order = rise-scanned .grows;
       within = scan-for-rise .ensures .within;
       small = near-small _ _ _ _ _ _ _ (w .opened .setting) (args .times .now) (w .times-long) (w .days) (h .small)
-          (λ e. if1 .left (pre .its-time ∙ e)) outcome (if3 .left) refl (slack-above .ensures) (if4 .left) rise-scanned (put .ensures)
+          (λ e. if1 .left (pre .its-time ∙ e)) outcome (if3 .left) refl (slack-above .ensures)
+          (if4 .left) rise-scanned (put .ensures)
           (omega (arith, w .waits, w .behind));
     }
 
@@ -280,16 +286,16 @@ move-in-histogram-requires c κs =
     let if4 = queue3-to-else4 (c .before .before) .if4 in
     let slack-above = queue3-to-else4 (c .before .before) .before .slack-above in
     let if3 = queue3-to-else4 (c .before .before) .before .before .before .if3 in
-    let scan-for-rise = c .before .before .before .before .before .before .before .before .before .before .before
-    .before .before .before .before .before .before .before .before .before .scan-for-rise in
-    let if1 = queue3-to-else1 (c .before .before) .if1 in
+    let scan-for-rise = queue3-to-scan-for-rise (c .before .before) .scan-for-rise in
+    let if1 = queue3-to-entry (c .before .before) .before .if1 in
     let args = queue3-to-start (c .before .before) .args in
     let pre = queue3-to-start (c .before .before) .pre in
     let w = pre .working in
     let h = pre .at-head in
-    let outcome = rw (pre .its-time) at (scan-for-rise .ensures .found .scanned) in
-    let rise-scanned = rw (pre .its-time) at (scan-for-rise .ensures .rise-scanned (if3 .left)) in
-    rw (pre .its-time) (λ y. near-asks _ _ _ _ _ _ _ (w .opened .setting) (args .times .now) (w .times-long) (w .days) (h .small)
+    let outcome = scanned-on (pre .its-time) (scan-for-rise .ensures .found .scanned) in
+    let rise-scanned = rise-scanned-on (pre .its-time) (scan-for-rise .ensures .rise-scanned (if3 .left)) in
+    rw (pre .its-time) (λ y. near-asks _ _ _ _ _ _ _ (w .opened .setting) (args .times .now) (w .times-long)
+    (w .days) (h .small)
     (λ e. if1 .left (pre .its-time ∙ e)) outcome (if3 .left) refl (slack-above .ensures) (if4 .left) rise-scanned
     (w .opened .sound .most) (w .counted y .in-days) (w .counted y .counts-are))
 
@@ -306,7 +312,8 @@ add-t21 c =
 add-t45 : tie.Need-add-t45
 add-t45 c =
     let pre = counts-to-start (c .before .before .before .before .before) .pre in
-    let scan-for-rise = queue3-to-scan-for-rise (c .before .before .before .before .before .before .before .before .before) .scan-for-rise in
+    let scan-for-rise = queue3-to-scan-for-rise
+    (c .before .before .before .before .before .before .before .before .before) .scan-for-rise in
     omega (arith, pre .working .few, scan-for-rise .ensures .found .short-walk)
 
 same-length-6 : tie.Need-same-length-6
@@ -314,18 +321,22 @@ same-length-6 c = search needs
 
 same-length-7 : tie.Need-same-length-7
 same-length-7 c =
-    let drop-listed-supporters = c .before .before .before .before .before .before .before .before .before .before .before .before .drop-listed-supporters in
+    let drop-listed-supporters = c .before .before .before .before .before .before .before .before .before .before
+    .before .before .drop-listed-supporters in
     let slack-above = counts-to-put (c .before .before .before .before .before) .before .before .before .slack-above in
     let args = counts-to-start (c .before .before .before .before .before) .args in
     drop-listed-supporters .kept .0 ∙ length-set (args .slack .now) (args .scan .account) (slack-above .result)
 
 same-length-8 : tie.Need-same-length-8
 same-length-8 c =
-    let drop-listed-supporters = c .before .before .before .before .before .before .before .before .before .before .before .before .drop-listed-supporters in
+    let drop-listed-supporters = c .before .before .before .before .before .before .before .before .before .before
+    .before .before .drop-listed-supporters in
     let put = counts-to-put (c .before .before .before .before .before) .put in
-    let scan-for-rise = queue3-to-scan-for-rise (c .before .before .before .before .before .before .before .before .before) .scan-for-rise in
+    let scan-for-rise = queue3-to-scan-for-rise
+    (c .before .before .before .before .before .before .before .before .before) .scan-for-rise in
     let pre = counts-to-start (c .before .before .before .before .before) .pre in
-    drop-listed-supporters .kept .1 .0 ∙ (put .kept .0 ∙ (scan-for-rise .ensures .behind .long ∙ sym (pre .working .queue-long)))
+    drop-listed-supporters .kept .1 .0
+    ∙ (put .kept .0 ∙ (scan-for-rise .ensures .behind .long ∙ sym (pre .working .queue-long)))
 
 same-length-9 : tie.Need-same-length-9
 same-length-9 c = search needs
@@ -333,35 +344,41 @@ same-length-9 c = search needs
 returns-5 : tie.Need-returns-5
 returns-5 c =
     let move-in-histogram = c .before .before .before .before .before .before .move-in-histogram in
-    let drop-listed-supporters = c .before .before .before .before .before .before .before .before .before .before .before .before .drop-listed-supporters in
+    let drop-listed-supporters = c .before .before .before .before .before .before .before .before .before .before
+    .before .before .drop-listed-supporters in
     let put = counts-to-put (c .before .before .before .before .before) .put in
     let if4 = counts-to-put (c .before .before .before .before .before) .before .before .if4 in
     let slack-above = counts-to-put (c .before .before .before .before .before) .before .before .before .slack-above in
-    let if3 = queue3-to-else4 (c .before .before .before .before .before .before .before .before .before) .before .before .before .if3 in
-    let scan-for-rise = c .before .before .before .before .before .before .before .before .before .before .before
-    .before .before .before .before .before .before .before .before .before .before .before
-    .before .before .before .before .before .scan-for-rise in
-    let if1 = queue3-to-else1 (c .before .before .before .before .before .before .before .before .before) .if1 in
+    let if3 = queue3-to-else4 (c .before .before .before .before .before .before .before .before .before) .before
+    .before .before .if3 in
+    let scan-for-rise = queue3-to-scan-for-rise
+    (c .before .before .before .before .before .before .before .before .before) .scan-for-rise in
+    let if1 =
+    queue3-to-entry (c .before .before .before .before .before .before .before .before .before) .before .if1 in
     let args = counts-to-start (c .before .before .before .before .before) .args in
     let pre = counts-to-start (c .before .before .before .before .before) .pre in
     let w = pre .working in
     let h = pre .at-head in
-    let outcome = rw (pre .its-time) at (scan-for-rise .ensures .found .scanned) in
-    let rise-scanned = rw (pre .its-time) at (scan-for-rise .ensures .rise-scanned (if3 .left)) in
+    let outcome = scanned-on (pre .its-time) (scan-for-rise .ensures .found .scanned) in
+    let rise-scanned = rise-scanned-on (pre .its-time) (scan-for-rise .ensures .rise-scanned (if3 .left)) in
     record {
       next = refl;
       within = drop-listed-supporters .ensures .within;
       walked = omega (arith, scan-for-rise .ensures .found .short-walk);
-      rising = λ xs Z. near-rise _ _ _ _ _ _ _ (w .opened .setting) (args .times .now) (w .times-long) (w .days) (h .small)
+      rising = λ xs Z.
+          near-rise _ _ _ _ _ _ _ (w .opened .setting) (args .times .now) (w .times-long) (w .days) (h .small)
           (λ e. if1 .left (pre .its-time ∙ e)) outcome (if3 .left) refl (slack-above .ensures) (if4 .left) rise-scanned
-          (scan-for-rise .ensures .behind) Z (h .is-head) (w .waits) (w .within) (put .ensures) (drop-listed-supporters .ensures .queued)
+          (scan-for-rise .ensures .behind) Z (h .is-head) (w .waits) (w .within) (put .ensures)
+          (drop-listed-supporters .ensures .queued)
           (drop-listed-supporters .ensures .fewer) (drop-listed-supporters .ensures .within);
       nevers = near-never _ _ _ _ _ _ _ (w .opened .setting) (args .times .now) (w .times-long) (w .days) (h .small)
           (λ e. if1 .left (pre .its-time ∙ e)) outcome (if3 .left) refl (slack-above .ensures) (if4 .left) rise-scanned;
       counted = record {
-        counted = λ y. near-counts _ _ _ _ _ _ _ (w .opened .setting) (args .times .now) (w .times-long) (w .days) (h .small)
-            (λ e. if1 .left (pre .its-time ∙ e)) outcome (if3 .left) refl (slack-above .ensures) (if4 .left) rise-scanned (w .counted y .counts-are)
-            (rw (pre .its-time) at (move-in-histogram .ensures .counted y));
+        counted = λ y.
+            near-counts _ _ _ _ _ _ _ (w .opened .setting) (args .times .now) (w .times-long) (w .days) (h .small)
+            (λ e. if1 .left (pre .its-time ∙ e)) outcome (if3 .left) refl (slack-above .ensures)
+            (if4 .left) rise-scanned (w .counted y .counts-are)
+            (moving-on (pre .its-time) (move-in-histogram .ensures .counted y));
         same = move-in-histogram .ensures .same;
       };
     }

@@ -52,12 +52,15 @@ mul-budget : tie.Need-mul-budget
 mul-budget c = search needs
 
 add-t25 : tie.Need-add-t25
-add-t25 c = let pre = slack-to-start (c .before .before .before .before .before .before) .pre in omega (arith, pre .ordered, pre .in-days)
+add-t25 c =
+    let pre = slack-to-start (c .before .before .before .before .before .before) .pre in
+    omega (arith, pre .ordered, pre .in-days)
 
 settle-requires : tie.Need-settle-requires
 settle-requires c κs =
     let if1 = c .before .before .before .before .before .before .if1 in
-    let drop-leaving-rows = c .before .before .before .before .before .before .before .before .before .before .before .drop-leaving-rows in
+    let drop-leaving-rows = c .before .before .before .before .before .before .before .before .before .before
+    .before .drop-leaving-rows in
     let pre = slack-to-start (c .before .before .before .before .before .before .before .before .before .before) .pre in
     let placed = step-placed pre in
     record {
@@ -65,7 +68,9 @@ settle-requires c κs =
       covered = pre .covered;
       bounded = omega (arith, pre .ends .within, pre .opened .sound .most);
       within = if1 .left;
-      rising = settle-start _ _ _ _ _ _ _ (placed .setting) (pre .opened .setting) (split-rises (pre .starts) (pre .follows))
+      rising =
+          settle-start _ _ _ _ _ _ _ (placed .setting) (pre .opened .setting)
+          (split-rises (pre .starts) (pre .follows))
           (pre .follows .within) (pre .times-are) (pre .slacks) (drop-leaving-rows .ensures .leaving (if1 .left))
           (drop-leaving-rows .ensures .queued (if1 .left)) (if1 .left);
       counted = λ y. record { in-days = pre .in-days; counts-are = pre .counted y };

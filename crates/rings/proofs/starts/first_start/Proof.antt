@@ -45,7 +45,9 @@ peel-start-requires c κs =
     let move-heads = c .before .before .before .before .before .before .move-heads in
     let pre = scratch-to-start (c .before .before .before .before .before .before .before .before .before) .pre in
     record {
-      ready = ready-of (pre .0) (move-heads .ensures .adjacency) (pre .1 .1 .0 .some-k) (pre .1 .1 .0 .in-days) (pre .1 .1 .0 .starts);
+      ready =
+          ready-of (pre .0) (move-heads .ensures .adjacency) (pre .1 .1 .0 .some-k) (pre .1 .1 .0 .in-days)
+          (pre .1 .1 .0 .starts);
       span = span-after (pre .1 .1 .0 .ordered) (pre .1 .1 .0 .starts) (pre .1 .1 .0 .ends);
       times-long = pre .1 .1 .1 .times-long;
       slack-long = pre .1 .1 .1 .slack-long;
@@ -78,7 +80,8 @@ same-length : tie.Need-same-length
 same-length c =
     let prune = c .before .before .prune in
     let move-heads = counts-to-move-heads (c .before .before .before .before .before .before) .move-heads in
-    let build-adjacency = counts-to-move-heads (c .before .before .before .before .before .before) .before .before .before .before .build-adjacency in
+    let build-adjacency = counts-to-move-heads (c .before .before .before .before .before .before) .before .before
+    .before .before .build-adjacency in
     prune .kept .1 .1 .1 .0 ∙ (move-heads .kept .1 .1 .1 .0 ∙ build-adjacency .kept .1 .1 .1 .0)
 
 same-length-2 : tie.Need-same-length-2
@@ -99,12 +102,16 @@ returns c =
     let count-times = c .before .before .before .before .before .before .before .count-times in
     let peel-start = counts-to-peel-start (c .before .before .before .before .before .before) .peel-start in
     let move-heads = counts-to-move-heads (c .before .before .before .before .before .before) .move-heads in
-    let pre = queue-to-start (c .before .before .before .before .before .before .before .before .before .before .before) .pre in
+    let pre = queue-to-start (c .before .before .before .before .before .before .before .before .before .before
+    .before) .pre in
     record {
       inside = record {
-        opened = ready-pruned-of (pre .0) (prune .ensures .pruned) (pre .1 .1 .0 .some-k) (pre .1 .1 .0 .in-days) (pre .1 .1 .0 .starts);
+        opened =
+            ready-pruned-of (pre .0) (prune .ensures .pruned) (pre .1 .1 .0 .some-k) (pre .1 .1 .0 .in-days)
+            (pre .1 .1 .0 .starts);
         covered = prune .ensures .covered _
-            (adjacency-covered (move-heads .ensures .adjacency) _ (first-framed (pre .0) (pre .1 .1 .0) .setting .from-lo));
+            (adjacency-covered (move-heads .ensures .adjacency) _
+            (first-framed (pre .0) (pre .1 .1 .0) .setting .from-lo));
         times-are = peel-start .ensures .times-are;
         slacks = peel-start .ensures .slacks;
         timed = count-times .ensures;
@@ -115,6 +122,7 @@ pub first-start-spec : {M : Type 1} → statement M
 first-start-spec =
     tie.close
     (
-    tie.spec build-adjacency-requires move-heads-requires peel-start-requires count-times-requires prune-requires same-length
+    tie.spec build-adjacency-requires move-heads-requires peel-start-requires count-times-requires prune-requires
+    same-length
     same-length-2 same-length-3 same-length-4 same-length-5 returns
     )

@@ -71,11 +71,15 @@ pass-heads-requires c κs =
 step-requires : tie.Need-step-requires
 step-requires c κs =
     let pass-heads = c .before .before .before .before .before .before .before .pass-heads in
-    let drop-rows = c .before .before .before .before .before .before .before .before .before .before .before .drop-rows in
-    let pre = counts-to-start (c .before .before .before .before .before .before .before .before .before .before) .pre in
+    let drop-rows =
+    c .before .before .before .before .before .before .before .before .before .before .before .drop-rows in
+    let pre =
+    counts-to-start (c .before .before .before .before .before .before .before .before .before .before) .pre in
     let here = pre .0 .inside in
     record {
-      opened = ready-pruned-of (here .opened .sound) (pass-heads .ensures .pruned) (here .opened .setting .some-k) (pre .1 .0 .in-days) (pre .1 .0 .follows);
+      opened =
+          ready-pruned-of (here .opened .sound) (pass-heads .ensures .pruned) (here .opened .setting .some-k)
+          (pre .1 .0 .in-days) (pre .1 .0 .follows);
       ordered = pre .1 .0 .ordered;
       in-days = pre .1 .0 .in-days;
       starts = pre .1 .0 .starts;
@@ -102,7 +106,8 @@ next-frame-requires c κs =
 first-start-requires : tie.Need-first-start-requires
 first-start-requires c κs =
     let next = c .before .before .before .before .before .next-frame in
-    let step = c .before .before .before .before .before .before .before .before .before .before .before .before .before .before .before .before .step in
+    let step = c .before .before .before .before .before .before .before .before .before .before .before .before
+    .before .before .before .before .step in
     let pass-heads = first-start-arg5-to-pass-heads c .pass-heads in
     let drop-rows = first-start-arg5-to-pass-heads c .before .before .before .before .drop-rows in
     let pre = counts2-to-start (c .before .before .before .before .before .before .before .before .before) .pre in
@@ -123,7 +128,9 @@ first-start-requires c κs =
             times-long = step .kept .1 .1 .1 .1 .1 .1 .1 .0 ∙ here .times-are .long;
             slack-long = step .kept .1 .1 .1 .1 .1 .1 .1 .1 .0 ∙ here .slacks .long;
             queue-long = step .kept .1 .1 .1 .1 .1 .1 .1 .1 .1 .0 ∙ pre .1 .1;
-            counts-long = step .kept .1 .1 .1 .1 .1 .1 .1 .1 .1 .1 .1 .0 ∙ (drop-rows .kept .1 .1 .1 .1 .1 .1 .1 .0 ∙ here .timed .long);
+            counts-long =
+                step .kept .1 .1 .1 .1 .1 .1 .1 .1 .1 .1 .1 .0
+                ∙ (drop-rows .kept .1 .1 .1 .1 .1 .1 .1 .0 ∙ here .timed .long);
           },
         ),
       ),
@@ -154,8 +161,11 @@ returns c =
     let done = rw (enum-told .given .1) at (step .ensures) in
     record {
       inside = record {
-        opened = ready-pruned-of (here .opened .sound) (pass-heads .ensures .pruned) (here .opened .setting .some-k) (pre .1 .0 .in-days) (pre .1 .0 .follows);
-        covered = covered-rise (core-never (here .opened .setting .fits) (here .times-are) (done .times-are)) (le-refl _)
+        opened =
+            ready-pruned-of (here .opened .sound) (pass-heads .ensures .pruned) (here .opened .setting .some-k)
+            (pre .1 .0 .in-days) (pre .1 .0 .follows);
+        covered =
+            covered-rise (core-never (here .opened .setting .fits) (here .times-are) (done .times-are)) (le-refl _)
             (pass-heads .ensures .covered _ (here .covered));
         times-are = done .times-are;
         slacks = done .slacks;
@@ -183,12 +193,14 @@ same-length-10 c =
     let first-start = c .before .before .before .before .before .before .before .before .before .before .first-start in
     let step = scratch2-to-step (c .before .before .before .before .before .before .before .before .before) .step in
     let drop-rows = queue2-to-pass-heads (c .before .before .before) .before .before .before .before .drop-rows in
-    first-start .kept .1 .1 .1 .1 .1 .1 .1 .1 .1 .0 ∙ (step .kept .1 .1 .1 .1 .1 .1 .1 .1 .1 .1 .1 .0 ∙ drop-rows .kept .1 .1 .1 .1 .1 .1 .1 .0)
+    first-start .kept .1 .1 .1 .1 .1 .1 .1 .1 .1 .0
+    ∙ (step .kept .1 .1 .1 .1 .1 .1 .1 .1 .1 .1 .1 .0 ∙ drop-rows .kept .1 .1 .1 .1 .1 .1 .1 .0)
 
 returns-2 : tie.Need-returns-2
 returns-2 c =
     let first-start = c .before .before .before .before .before .before .before .before .before .before .first-start in
-    let next = c .before .before .before .before .before .before .before .before .before .before .before .before .before .before .before .before .next-frame in
+    let next = c .before .before .before .before .before .before .before .before .before .before .before .before
+    .before .before .before .before .next-frame in
     rw (next .ensures) at (first-start .ensures)
 
 pub next-start-spec : {M : Type 1} → statement M

@@ -12,7 +12,8 @@ use Rattle.rings.proofs.slices.entry.Reads as entry-reads
 use Rattle.rings.proofs.supporters.drop_supporter.Reads as drop-supporter-reads
 
 abbrev Inv-loop : tie.InvT-loop
-Inv-loop slack₀ queue₀ tail upto end₀ p₀ slack queue end p = (tail ≤ p) × (p ≤ upto) × DroppingListed tail slack₀ queue₀ p end slack queue
+Inv-loop slack₀ queue₀ tail upto end₀ p₀ slack queue end p =
+    (tail ≤ p) × (p ≤ upto) × DroppingListed tail slack₀ queue₀ p end slack queue
 
 abbrev μ-loop : tie.MeasureT-loop
 μ-loop slack₀ queue₀ tail upto end₀ p₀ slack queue end p = upto - p
@@ -43,7 +44,13 @@ drop-supporter-requires c κs =
     record {
       slack-long = loop .inv .2 .fewer .long;
       queue-long = loop .inv .2 .queued .long;
-      small = omega (arith, entry .ensures, loop .inv .2 .rest _ (le-refl _), pre .small _ (loop .inv .0) (loop-test .taken));
+      small =
+          omega (
+            arith,
+            entry .ensures,
+            loop .inv .2 .rest _ (le-refl _),
+            pre .small _ (loop .inv .0) (loop-test .taken),
+          );
       room = omega (arith, loop .inv .2 .behind, loop-test .taken, pre .within);
     }
 
@@ -68,7 +75,12 @@ loop-again c =
       omega (arith, loop .inv .0),
       omega (arith, loop-test .taken),
       dropping-listed-next (loop .inv .2) (omega (arith, loop-test .taken, pre .within)) (entry .ensures)
-          (omega (arith, entry .ensures, loop .inv .2 .rest _ (le-refl _), pre .small _ (loop .inv .0) (loop-test .taken)))
+          (omega (
+            arith,
+            entry .ensures,
+            loop .inv .2 .rest _ (le-refl _),
+            pre .small _ (loop .inv .0) (loop-test .taken),
+          ))
           (drop-supporter .ensures),
     )
 

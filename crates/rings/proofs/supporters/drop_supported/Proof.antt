@@ -25,7 +25,8 @@ use Rattle.rings.proofs.supporters.drop_supporter.Reads as drop-support
 use Rattle.rings.proofs.choice.greater.Reads as greater-reads
 
 -- what holds at the test of the loop
-record Held (days first second scratch : List ℕ) (frame : Frame) (times : List ℕ) (rise : Rise) (tail : ℕ) (slack₀ queue₀ : List ℕ)
+record Held (days first second scratch : List ℕ) (frame : Frame) (times : List ℕ) (rise : Rise) (tail : ℕ)
+    (slack₀ queue₀ : List ℕ)
     (counting : Bool) (counts₀ : List ℕ) (last : ℕ) (slack queue counts : List ℕ) (p end moved : ℕ) : Type 0 where
   cursor : last ≡ getD scratch (rise .account) 0
   counts-long : length counts ≡ length counts₀
@@ -33,11 +34,15 @@ record Held (days first second scratch : List ℕ) (frame : Frame) (times : List
       (rise .new) tail slack₀ queue₀ counting counts₀ p end moved slack queue counts
 
 abbrev Inv-loop : tie.InvT-loop
-Inv-loop days first second scratch frame times rise tail slack₀ queue₀ counting counts₀ last until p₀ end₀ moved₀ slack queue counts p end moved =
-    Held days first second scratch frame times rise tail slack₀ queue₀ counting counts₀ last slack queue counts p end moved
+Inv-loop days first second scratch frame times rise tail slack₀ queue₀ counting counts₀ last until p₀ end₀ moved₀
+    slack queue counts p end moved =
+    Held days first second scratch frame times rise tail slack₀ queue₀ counting counts₀ last slack queue counts p
+    end moved
 
 abbrev μ-loop : tie.MeasureT-loop
-μ-loop days first second scratch frame times rise tail slack₀ queue₀ counting counts₀ last until p₀ end₀ moved₀ slack queue counts p end moved = last - p
+μ-loop days first second scratch frame times rise tail slack₀ queue₀ counting counts₀ last until p₀ end₀ moved₀
+    slack queue counts p end moved =
+    last - p
 
 -- ---- the ways back, from a place of the code to an earlier one
 
@@ -77,7 +82,9 @@ loop-holds c =
     record {
       cursor = entry .ensures;
       counts-long = refl;
-      counted-dropping = counted-dropping-start _ _ _ _ _ (pre .opened) _ (pre .times-long) (pre .small) (pre .every) (pre .days) _ _ (pre .now-is) _
+      counted-dropping =
+          counted-dropping-start _ _ _ _ _ (pre .opened) _ (pre .times-long) (pre .small) (pre .every) (pre .days) _ _
+          (pre .now-is) _
           _ _ _ (pre .slack-long) (pre .queue-long) (pre .reading) (pre .counted);
     }
 
@@ -86,7 +93,8 @@ row-at-requires c κs =
     let pre = loop-to-start (c .before) .pre in
     let loop = c .before .loop in
     let loop-test = c .loop-test in
-    reading-stands _ _ _ _ (pre .opened .sound) (pre .opened .pruned) (pre .small) (loop .inv .counted-dropping .dropping .reading) (loop .inv .cursor)
+    reading-stands _ _ _ _ (pre .opened .sound) (pre .opened .pruned) (pre .small)
+    (loop .inv .counted-dropping .dropping .reading) (loop .inv .cursor)
     (loop-test .taken)
 
 add-to-histogram-requires : tie.Need-add-to-histogram-requires Inv-loop μ-loop
@@ -98,9 +106,12 @@ add-to-histogram-requires c κs =
     let lesser = c .before .before .before .before .before .before .lesser in
     let args = loop-to-start (c .before .before .before .before .before) .args in
     let pre = loop-to-start (c .before .before .before .before .before) .pre in
-    λ h. counted-dropping-adds (args .times .now) (pre .opened) (pre .small) (pre .days) (pre .now-is) (pre .counted h .top)
+    λ h.
+    counted-dropping-adds (args .times .now) (pre .opened) (pre .small) (pre .days) (pre .now-is)
+    (pre .counted h .top)
     (
-    counted-dropping-stop _ _ _ _ _ (pre .opened) _ (pre .times-long) (pre .small) (pre .every) (pre .days) _ _ (pre .now-is) _
+    counted-dropping-stop _ _ _ _ _ (pre .opened) _ (pre .times-long) (pre .small) (pre .every) (pre .days) _ _
+    (pre .now-is) _
     _ _ _ (loop .inv .counted-dropping) (loop .inv .cursor) (loop-test .taken) (row-at .ensures) (lesser .ensures)
     (if1 .taken) .1 .counted h
     )
@@ -131,8 +142,10 @@ returns c =
     let loop = c .before .before .before .before .before .before .before .before .loop in
     let lesser = c .before .before .before .before .before .before .before .before .before .lesser in
     let pre = loop-to-start (c .before .before .before .before .before .before .before .before) .pre in
-    let done = counted-dropping-stop _ _ _ _ _ (pre .opened) _ (pre .times-long) (pre .small) (pre .every) (pre .days) _ _ (pre .now-is)
-    _ _ _ _ (loop .inv .counted-dropping) (loop .inv .cursor) (loop-test .taken) (row-at .ensures) (lesser .ensures) (if1 .taken) in
+    let done = counted-dropping-stop _ _ _ _ _ (pre .opened) _ (pre .times-long) (pre .small) (pre .every)
+    (pre .days) _ _ (pre .now-is)
+    _ _ _ _ (loop .inv .counted-dropping) (loop .inv .cursor) (loop-test .taken) (row-at .ensures)
+    (lesser .ensures) (if1 .taken) in
     record {
       dropped-supported = λ h. done .0 .0;
       queued = λ h. done .0 .1;
@@ -172,7 +185,8 @@ add-p c =
     let pre = loop-to-start (c .before .before .before .before .before) .pre in
     omega (
       arith,
-      reading-few _ _ _ _ (pre .opened .sound) (pre .opened .pruned) (pre .small) (loop .inv .counted-dropping .dropping .reading)
+      reading-few _ _ _ _ (pre .opened .sound) (pre .opened .pruned) (pre .small)
+          (loop .inv .counted-dropping .dropping .reading)
           (loop .inv .cursor) (loop-test .taken),
     )
 
@@ -215,8 +229,11 @@ take-from-histogram-requires c κs =
     let loop = greater2-to-row-at (c .before) .before .before .loop in
     let lesser = greater2-to-row-at (c .before) .before .before .before .lesser in
     let pre = slack-to-start (c .before .before .before .before .before) .pre in
-    λ h. counted-dropping-asks _ _ _ _ _ (pre .opened) _ (pre .times-long) (pre .small) (pre .every) (pre .days) _ _ (pre .now-is)
-    _ _ _ _ (loop .inv .counted-dropping) (loop .inv .cursor) (loop-test .taken) (row-at .ensures) (lesser .ensures) (if1 .left) refl
+    λ h.
+    counted-dropping-asks _ _ _ _ _ (pre .opened) _ (pre .times-long) (pre .small) (pre .every) (pre .days) _ _
+    (pre .now-is)
+    _ _ _ _ (loop .inv .counted-dropping) (loop .inv .cursor) (loop-test .taken) (row-at .ensures)
+    (lesser .ensures) (if1 .left) refl
     (greater .ensures) (greater2 .ensures) refl h
 
 loop-less : tie.Need-loop-less Inv-loop μ-loop
@@ -240,9 +257,13 @@ loop-again c =
     record {
       cursor = loop .inv .cursor;
       counts-long = search (needs, loop .inv .counts-long);
-      counted-dropping = counted-dropping-next _ _ _ _ _ (pre .opened) _ (pre .times-long) (pre .small) (pre .every) (pre .days) _ _ (pre .now-is) _ _
-          _ _ (loop .inv .counted-dropping) (loop .inv .cursor) (loop-test .taken) (row-at .ensures) (lesser .ensures) (if1 .left)
-          refl (greater .ensures) (greater2 .ensures) refl (if2 .left) refl (drop-supporter .ensures) (take-from-histogram .ensures .0);
+      counted-dropping =
+          counted-dropping-next _ _ _ _ _ (pre .opened) _ (pre .times-long) (pre .small) (pre .every) (pre .days) _ _
+          (pre .now-is) _ _
+          _ _ (loop .inv .counted-dropping) (loop .inv .cursor) (loop-test .taken) (row-at .ensures)
+          (lesser .ensures) (if1 .left)
+          refl (greater .ensures) (greater2 .ensures) refl (if2 .left) refl (drop-supporter .ensures)
+          (take-from-histogram .ensures .0);
     }
 
 add-to-histogram-requires-2 : tie.Need-add-to-histogram-requires-2 Inv-loop μ-loop
@@ -251,9 +272,12 @@ add-to-histogram-requires-2 c κs =
     let loop = c .before .before .loop in
     let args = loop-to-start (c .before .before) .args in
     let pre = loop-to-start (c .before .before) .pre in
-    λ h. counted-dropping-adds (args .times .now) (pre .opened) (pre .small) (pre .days) (pre .now-is) (pre .counted h .top)
+    λ h.
+    counted-dropping-adds (args .times .now) (pre .opened) (pre .small) (pre .days) (pre .now-is)
+    (pre .counted h .top)
     (
-    counted-dropping-out _ _ _ _ _ (pre .opened) _ (pre .times-long) (pre .small) (pre .every) (pre .days) _ _ (pre .now-is) _
+    counted-dropping-out _ _ _ _ _ (pre .opened) _ (pre .times-long) (pre .small) (pre .every) (pre .days) _ _
+    (pre .now-is) _
     _ _ _ (loop .inv .counted-dropping) (loop .inv .cursor) (loop-test .left) .1 .counted h
     )
 
@@ -280,7 +304,8 @@ returns-3 c =
     let loop-test = c .before .before .before .before .loop-test in
     let loop = c .before .before .before .before .before .loop in
     let pre = loop-to-start (c .before .before .before .before .before) .pre in
-    let done = counted-dropping-out _ _ _ _ _ (pre .opened) _ (pre .times-long) (pre .small) (pre .every) (pre .days) _ _ (pre .now-is)
+    let done = counted-dropping-out _ _ _ _ _ (pre .opened) _ (pre .times-long) (pre .small) (pre .every)
+    (pre .days) _ _ (pre .now-is)
     _ _ _ _ (loop .inv .counted-dropping) (loop .inv .cursor) (loop-test .left) in
     record {
       dropped-supported = λ h. done .0 .0;
@@ -292,7 +317,9 @@ pub drop-supported-spec : {M : Type 1} → statement M
 drop-supported-spec =
     tie.close
     (
-    tie.spec Inv-loop μ-loop entry-requires add-lesser lesser-requires loop-holds row-at-requires add-to-histogram-requires
+    tie.spec Inv-loop μ-loop entry-requires add-lesser lesser-requires loop-holds row-at-requires
+    add-to-histogram-requires
     same-length same-length-2 same-length-3 returns same-length-4 same-length-5 same-length-6 returns-2 add-p mul-z
-    shared-slice-read-z greater-requires drop-supporter-requires greater-requires-2 take-from-histogram-requires loop-less loop-again
+    shared-slice-read-z greater-requires drop-supporter-requires greater-requires-2 take-from-histogram-requires
+    loop-less loop-again
     add-to-histogram-requires-2 same-length-7 same-length-8 same-length-9 returns-3)

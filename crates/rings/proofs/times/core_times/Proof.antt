@@ -1,6 +1,7 @@
 use lib.ListN.{length}
 use Rattle.rings.proofs.CallLaws.{times-refused, times-done}
-use Rattle.rings.proofs.AcceptedLaws.{call-sound, call-k, call-window, call-lengths, call-scratch, start-e, lengths-e}
+use Rattle.rings.proofs.AcceptedLaws.{call-sound, call-k, call-window, call-lengths, call-scratch, start-e}
+use Rattle.rings.proofs.AcceptedLaws.{lengths-e}
 use mathlib.Core.Path.{_∙_, sym}
 use borrow.Author.Needs.{needs}
 use Rattle.rings.proofs.times.core_times.Statement.{statement}

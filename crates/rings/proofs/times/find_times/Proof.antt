@@ -67,8 +67,7 @@ peel-requires c κs =
     let rows-before =
     c .before .before .before .before .before .before .before .before .before .before .before .before
     .before .rows-before in
-    let pre =
-    left-to-start (c .before) .pre in
+    let pre = left-to-start (c .before) .pre in
     let sound = pre .0 in
     let asked = pre .1 .0 in
     let buffers = pre .1 .1 in (
@@ -82,12 +81,9 @@ peel-requires c κs =
 time-rows-requires : tie.Need-time-rows-requires
 time-rows-requires c κs =
     let peel = c .before .before .before .before .before .before .peel in
-    let rows-before2 =
-    queue2-to-prepare-adjacency (c .before .before) .before .before .rows-before2 in
-    let rows-before =
-    queue2-to-prepare-adjacency (c .before .before) .before .before .before .rows-before in
-    let pre =
-    left-to-start (c .before .before .before .before .before .before .before .before) .pre in
+    let rows-before2 = queue2-to-prepare-adjacency (c .before .before) .before .before .rows-before2 in
+    let rows-before = queue2-to-prepare-adjacency (c .before .before) .before .before .before .rows-before in
+    let pre = left-to-start (c .before .before .before .before .before .before .before .before) .pre in
     let sound = pre .0 in
     let asked = pre .1 .0 in
     let buffers = pre .1 .1 in (
@@ -121,7 +117,8 @@ returns c =
     let move-heads =
     queue2-to-move-heads (c .before .before .before .before .before .before .before .before .before) .move-heads in
     let prepare-adjacency =
-    queue2-to-prepare-adjacency (c .before .before .before .before .before .before .before .before .before) .prepare-adjacency in
+    queue2-to-prepare-adjacency
+    (c .before .before .before .before .before .before .before .before .before) .prepare-adjacency in
     record {
       accounts = accounts-are (peel .ensures);
       rows = time-rows .ensures;

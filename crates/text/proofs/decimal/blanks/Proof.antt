@@ -1,4 +1,5 @@
--- `text::decimal::blanks` meets its contract: every byte passed is a blank, so the field from there on has the same number.
+-- `text::decimal::blanks` meets its contract: every byte passed is a blank, so the field from there on has the same
+-- number.
 -- Assumes nothing.
 use Prim.Native.Nat.{_-_}
 use mathlib.Core.Path.{refl, sym, _∙_}
@@ -44,7 +45,10 @@ returns-2 : tie.Need-returns-2 Inv-loop μ-loop
 returns-2 c =
     let at-loop = c .before in
     let l = at-loop .loop in
-    record { within = omega arith; rest = unblank-end (at-loop .before .args .f .now) (l .i) (omega arith) ∙ l .inv .rest }
+    record {
+      within = omega arith;
+      rest = unblank-end (at-loop .before .args .f .now) (l .i) (omega arith) ∙ l .inv .rest;
+    }
 
 pub blanks-spec : {M : Type 1} → statement M
 blanks-spec =

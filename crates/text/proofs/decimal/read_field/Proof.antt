@@ -1,4 +1,5 @@
--- `text::decimal::read_field` meets its contract: the part of the slice behind the blanks is the field without its blanks; one law for each way out.
+-- `text::decimal::read_field` meets its contract: the part of the slice behind the blanks is the field without its
+-- blanks; one law for each way out.
 -- Assumes nothing.
 use native.Mathlib.Omega.{arith}
 use lib.Dec.{lit<}

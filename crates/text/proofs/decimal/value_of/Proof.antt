@@ -1,4 +1,5 @@
--- `text::decimal::value_of` meets its contract: the sum so far and the value of the rest are the whole value, which is below 10 ^ 5.
+-- `text::decimal::value_of` meets its contract: the sum so far and the value of the rest are the whole value, which
+-- is below 10 ^ 5.
 -- Assumes nothing.
 use Prim.Native.Nat.{_-_}
 use native.Mathlib.Omega.{arith}

@@ -1,4 +1,5 @@
--- `text::lines::first_as` meets its contract: a whole first line is the slice's first bytes, so its fields are the parts that the code takes.
+-- `text::lines::first_as` meets its contract: a whole first line is the slice's first bytes, so its fields are the
+-- parts that the code takes.
 -- Assumes nothing.
 use Prim.Native.Nat.{_≤_}
 use mathlib.Core.Path.{_≡_, sym}
@@ -21,7 +22,9 @@ use Rattle.text.proofs.lines.first_as.Tie as tie
 -- where the first line has passed its test
 abbrev Whole : Type 0
 Whole =
-    lts.Else2 (is-whole.Asked, is-whole.Learnt, field-at.Asked, field-at.Learnt, judge.Asked, judge.Learnt) reads.Pre reads.Post
+    lts.Else2
+    (is-whole.Asked, is-whole.Learnt, field-at.Asked, field-at.Learnt, judge.Asked, judge.Learnt)
+    reads.Pre reads.Post
 
 -- it is whole
 whole : (m : Whole)

@@ -1,4 +1,5 @@
--- `text::lines::step_at` meets its contract: past the text there is no line; else the lines start at the part that the code takes.
+-- `text::lines::step_at` meets its contract: past the text there is no line; else the lines start at the part that
+-- the code takes.
 -- Assumes nothing.
 use mathlib.Core.Path.{sym}
 use native.Mathlib.Omega.{arith}

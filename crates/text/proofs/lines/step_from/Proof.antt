@@ -1,4 +1,5 @@
--- `text::lines::step_from` meets its contract: the line is judged once, and a row of 18 bytes leaves room for the next line's number.
+-- `text::lines::step_from` meets its contract: the line is judged once, and a row of 18 bytes leaves room for the
+-- next line's number.
 -- Assumes nothing.
 use Prim.Native.Nat.{ℕ, _+_, _^_}
 use mathlib.Core.Path.{ap}

@@ -51,7 +51,8 @@ returns-3 c =
     let bytes = printed (a .width) (a .n) in
     let long = printed-length (a .width) (a .n) in
     field-fits (a .out .now) (a .at) (a .width) (a .n) (sized .fits-in .ensures) (fitting .if1 .left)
-    (puts-all (a .out .now) (a .at) bytes long (roomy .has-room .ensures) (room .if2 .left) (wrote .write-field .ensures))
+    (puts-all (a .out .now) (a .at) bytes long (roomy .has-room .ensures) (room .if2 .left)
+    (wrote .write-field .ensures))
 
 pub put-field-spec : {M : Type 1} → statement M
 put-field-spec =

@@ -42,4 +42,5 @@ returns-2 c =
 
 pub put-header-spec : {M : Type 1} → statement M
 put-header-spec =
-    tie.close (tie.spec has-room-requires returns slice-aggregate-write-bytes write-bytes-requires same-length returns-2)
+    tie.close (tie.spec has-room-requires returns slice-aggregate-write-bytes write-bytes-requires same-length
+    returns-2)

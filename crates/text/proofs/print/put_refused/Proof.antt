@@ -15,7 +15,8 @@ returns : tie.Need-returns
 returns c =
     let tested = c .before in
     let a = tested .before .before .args in
-    puts-none (a .out .now) 0 (refusedLine (a .number) (a .line)) (refused-length _ _) (tested .has-room .ensures) (c .if1 .taken)
+    puts-none (a .out .now) 0 (refusedLine (a .number) (a .line)) (refused-length _ _) (tested .has-room .ensures)
+    (c .if1 .taken)
 
 write-refused-requires : tie.Need-write-refused-requires
 write-refused-requires c κs =
@@ -33,7 +34,8 @@ returns-2 c =
     let room = wrote .before .before in
     let tested = room .before in
     let a = tested .before .before .args in
-    puts-all (a .out .now) 0 (refusedLine (a .number) (a .line)) (refused-length _ _) (tested .has-room .ensures) (room .if1 .left)
+    puts-all (a .out .now) 0 (refusedLine (a .number) (a .line)) (refused-length _ _) (tested .has-room .ensures)
+    (room .if1 .left)
     (wrote .write-refused .ensures)
 
 pub put-refused-spec : {M : Type 1} → statement M

@@ -37,7 +37,8 @@ returns c =
     let entry = start .before .before .before in
     let a = entry .args in
     line-pieces (a .out .now) (a .at) (a .start) (a .end) (a .span) (a .rows) (entry .pre) (start .write-field .ensures)
-    (end .write-field2 .ensures) (span .write-field3 .ensures) (rows .write-field4 .ensures) (ended .write-bytes .ensures)
+    (end .write-field2 .ensures) (span .write-field3 .ensures) (rows .write-field4 .ensures)
+    (ended .write-bytes .ensures)
 
 pub write-line-spec : {M : Type 1} → statement M
 write-line-spec =

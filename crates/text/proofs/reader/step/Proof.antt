@@ -1,6 +1,8 @@
--- `text::reader::step` meets its contract: a walk of its MIR, by hand. The borrow is opened, `step_from` is called on the slice and the
+-- `text::reader::step` meets its contract: a walk of its MIR, by hand. The borrow is opened, `step_from` is called on
+-- the slice and the
 -- number, the line reached is stored beside the slice, and the borrow is closed.
--- The struct is Copy: what it owns is had twice, one copy is kept for the borrow's end, and of the other what the text owns goes to the
+-- The struct is Copy: what it owns is had twice, one copy is kept for the borrow's end, and of the other what the
+-- text owns goes to the
 -- callee, beside the lifetime's token, which comes back.
 -- Assumes nothing.
 use mathlib.Core.Path.{_≡_, refl, ap, subst}
@@ -20,10 +22,12 @@ use ghost.Atoms.{Atoms, sem}
 use contract.Lifetimes.{AllOutlive}
 use contract.Monad.{Fun, fact}
 use contract.Running.{givenOf, tables, tablesOf}
-use types.Kit.{Given, ‵, raw, _⊛_, given, ⋆, some, later, _$_, _∵_, !, qed, by, move, keep, drop, use1, use2, split, join, learn, pick}
+use types.Kit.{Given, ‵, raw, _⊛_, given, ⋆, some, later, _$_, _∵_, !, qed, by, move, keep, drop, use1, use2, split}
+use types.Kit.{join, learn, pick}
 use types.Kit.{rewrite, fsplit, fsplit3, fjoin, fjoin3, feqI, suffices, frame, await, done}
 use types.Part.{whole, sub, look-in, store-in}
-use types.Run.{look, init, forget, stop, hop, fld, from, load, of-opd, and-then, no-more, assigns, land, returns, enter, alloc1, alloc0}
+use types.Run.{look, init, forget, stop, hop, fld, from, load, of-opd, and-then, no-more, assigns, land, returns}
+use types.Run.{enter, alloc1, alloc0}
 use types.Run.{params1, pass1, pass0, free1, free0}
 use types.SemTy.{Body}
 use sound.WpLaws.{FmC, fmOf, WpFn-mono}
@@ -80,8 +84,10 @@ module _ {M : Type 1} (𝓤 : URA M) (H : Heap 𝓤) (A : Atoms 𝓤) (at-mem : 
   abbrev StepFrom : Contract 𝓤
   StepFrom = tripleOf 𝓤 H A from-def.signature (from-def.spec 𝓤 H A at-mem run)
 
-module _ {M : Type 1} (𝓤 : URA M) (H : Heap 𝓤) (A : Atoms 𝓤) (W : Given 𝓤 H A) (at-mem : Memory → SProp 𝓤) (run : Routine → Fun 𝓤)
-    (κ κ′ : Lft) (q q′ : Share) (bounds : AllOutlive 2 (step.signature .outlives) (κ, (κ′, tt))) (b o : ℕ) (γ : GName) (h : LineReader)
+module _ {M : Type 1} (𝓤 : URA M) (H : Heap 𝓤) (A : Atoms 𝓤) (W : Given 𝓤 H A) (at-mem : Memory → SProp 𝓤)
+    (run : Routine → Fun 𝓤)
+    (κ κ′ : Lft) (q q′ : Share) (bounds : AllOutlive 2 (step.signature .outlives) (κ, (κ′, tt))) (b o : ℕ)
+    (γ : GName) (h : LineReader)
   where
     -- 'a, the struct's type at it, its laws, and h's fields' values
     abbrev α : NamedLft
@@ -113,7 +119,9 @@ module _ {M : Type 1} (𝓤 : URA M) (H : Heap 𝓤) (A : Atoms 𝓤) (W : Given
     vals = (vptr b o ∷ [], tt)
 
     abbrev Post : Val → SProp 𝓤
-    Post = walkOf 𝓤 H A step.ended stayed (step.clauses 𝓤 H A at-mem run) .post (((κ, (κ′, tt)), (q, (q′, tt)), bounds, x, vals), tt)
+    Post =
+        walkOf 𝓤 H A step.ended stayed (step.clauses 𝓤 H A at-mem run) .post
+        (((κ, (κ′, tt)), (q, (q′, tt)), bounds, x, vals), tt)
 
     abbrev Own : Fml
     Own = R .own h (mach ∷ [])
@@ -132,28 +140,40 @@ module _ {M : Type 1} (𝓤 : URA M) (H : Heap 𝓤) (A : Atoms 𝓤) (W : Given
     abbrev to : StepFrom 𝓤 H A at-mem run .Ghost
     to = (((κ′, tt), (q′, tt), tt, (h .text, (h .line, tt)), passed), tt)
 
-    asked : ent 𝓤 (onEntry 𝓤 H A from-def.signature (κ′, tt) (q′, tt) (h .text, (h .line, tt)) passed) (StepFrom 𝓤 H A at-mem run .pre to)
+    asked : ent 𝓤 (onEntry 𝓤 H A from-def.signature (κ′, tt) (q′, tt) (h .text, (h .line, tt)) passed)
+        (StepFrom 𝓤 H A at-mem run .pre to)
     asked =
-        qed W ((‵ (flft κ′ q′) ⊛ ‵ ftrue) ∷ ‵ (owns (ShrSlice (named 0) κ′ u8 ∷ usize ∷ []) (h .text, (h .line, tt)) passed) ∷ []) ∵
+        qed W
+        ((‵ (flft κ′ q′) ⊛ ‵ ftrue) ∷ ‵
+        (owns (ShrSlice (named 0) κ′ u8 ∷ usize ∷ []) (h .text, (h .line, tt)) passed) ∷ [])
+        ∵
         join ! $ frame ! $ done !
 
     -- what the struct owns gives what the callee asks, and is kept
     apart : h .line < 2 ^ 64 → ent 𝓤 (⋆ 𝓤 H A (‵ Own ∷ (‵ (flft κ′ q′) ⊛ ‵ ftrue) ∷ []))
         (sep 𝓤 (StepFrom 𝓤 H A at-mem run .pre to) (sem 𝓤 H A Own))
     apart fits =
-        qed W (‵ Own ∷ (‵ (flft κ′ q′) ⊛ ‵ ftrue) ∷ []) ∵ use1 W (‵ Own ⊛ ‵ Own) (LL.copy D (T′.the-copy α) 𝓤 H A W .twice h (mach ∷ [])) $
+        qed W (‵ Own ∷ (‵ (flft κ′ q′) ⊛ ‵ ftrue) ∷ []) ∵ use1 W (‵ Own ⊛ ‵ Own)
+        (LL.copy D (T′.the-copy α) 𝓤 H A W .twice h (mach ∷ [])) $
         split ! $
         use1 W (given (mach ∷ [] ≡ mach ∷ []) (‵ (all-own (D .parts) L vd))) (own-open 𝓤 H A W D L vd mach) $
-        learn ! (λ _. use1 W (‵ (ownAt (D .parts) L 0 (h .text)) ⊛ ‵ (rest (D .parts) L 0 vd)) (own-out 𝓤 H A W (D .parts) L 0 vd) $ split ! $
+        learn !
+        (λ _. use1 W (‵ (ownAt (D .parts) L 0 (h .text)) ⊛ ‵ (rest (D .parts) L 0 vd))
+        (own-out 𝓤 H A W (D .parts) L 0 vd) $ split ! $
         -- [what the text owns; what the line owns; what the struct owns; the token]
-        move ! (1 ∷ []) $ drop ! $ nothing ! $ owned ! usize (Is usize) (uint-makes 𝓤 H A W w64) (h .line) _ (refl, fits) $ fjoin ! $
+        move ! (1 ∷ []) $ drop ! $ nothing ! $ owned ! usize (Is usize) (uint-makes 𝓤 H A W w64) (h .line) _
+        (refl, fits) $ fjoin ! $
         move ! (1 ∷ 0 ∷ []) $ fjoin ! $
         move ! (2 ∷ 0 ∷ []) $ use2 W (raw (StepFrom 𝓤 H A at-mem run .pre to)) asked $ frame ! $ done !)
 
     -- of the callee's `ensured`, the clause alone: it has no `&mut`, so what is said of last values is dropped
-    said : (r : Step) → ent 𝓤 (ensured 𝓤 H A from-def.ended (from-def.clauses 𝓤 H A at-mem run) (κ′, tt) (h .text, (h .line, tt)) tt r)
+    said : (r : Step)
+        → ent 𝓤
+        (ensured 𝓤 H A from-def.ended (from-def.clauses 𝓤 H A at-mem run) (κ′, tt) (h .text, (h .line, tt)) tt r)
         (fact 𝓤 (r ≡ found))
-    said r = exE 𝓤 _ (λ ws. snd∗ 𝓤 (sem 𝓤 H A (lasts from-def.ended (κ′, tt) (h .text, (h .line, tt)) ws)) (fact 𝓤 (r ≡ found)))
+    said r =
+        exE 𝓤 _
+        (λ ws. snd∗ 𝓤 (sem 𝓤 H A (lasts from-def.ended (κ′, tt) (h .text, (h .line, tt)) ws)) (fact 𝓤 (r ≡ found)))
 
     -- what the text owns is kept, and the line's facts are made anew
     again : (n : ℕ) → n < 2 ^ 64 → ent 𝓤 (sem 𝓤 H A Own) (sem 𝓤 H A (R .own (h′ n) (T′.lowered (h′ n) ∷ [])))
@@ -171,15 +191,28 @@ module _ {M : Type 1} (𝓤 : URA M) (H : Heap 𝓤) (A : Atoms 𝓤) (W : Given
         → ent 𝓤 (⋆ 𝓤 H A (‵ (fobs γ (R .coded .code (h′ (r .line)))) ∷ ‵ (fbor κ (Body (mem R) b o γ)) ∷ ‵ (flft κ q) ∷
         (‵ (flft κ′ q′) ⊛ ‵ ftrue) ∷ [])) (Post (S′.lowered (r .found)))
     exits r e is =
-        qed W (‵ (fobs γ (R .coded .code (h′ (r .line)))) ∷ ‵ (fbor κ (Body (mem R) b o γ)) ∷ ‵ (flft κ q) ∷ (‵ (flft κ′ q′) ⊛ ‵ ftrue) ∷ []) ∵
-        suffices ! _ (ends-at 𝓤 H A step.ended stayed (step.clauses 𝓤 H A at-mem run) W (((κ, (κ′, tt)), (q, (q′, tt)), bounds, x, vals), tt)
+        qed W
+        (‵ (fobs γ (R .coded .code (h′ (r .line)))) ∷ ‵ (fbor κ (Body (mem R) b o γ)) ∷ ‵ (flft κ q) ∷
+        (‵ (flft κ′ q′) ⊛ ‵ ftrue) ∷ [])
+        ∵
+        suffices ! _
+        (ends-at 𝓤 H A step.ended stayed (step.clauses 𝓤 H A at-mem run) W
+        (((κ, (κ′, tt)), (q, (q′, tt)), bounds, x, vals), tt)
         (S′.lowered (r .found)) (r .found) (h′ (r .line), tt) (tt, tt)) $
-        says ! (record { finds = step-found (now (h .text)) (h .line) e; keeps = refl; reached = step-line (now (h .text)) (h .line) e }) $
+        says !
+        (record {
+          finds = step-found (now (h .text)) (h .line) e;
+          keeps = refl;
+          reached = step-line (now (h .text)) (h .line) e;
+        })
+        $
         move ! (2 ∷ 3 ∷ []) $ join ! $ frame ! $
         feqI ! (List Val) (vptr b o ∷ []) (vptr b o ∷ []) refl $ fjoin3 ! $ nothing ! $ move ! (1 ∷ 0 ∷ []) $ fjoin ! $
-        owned ! S.the-row (Is S.the-row) (EL.makes S.the-type S′.the-plain 𝓤 H A) (r .found) _ is $ move ! (1 ∷ 0 ∷ []) $ done !
+        owned ! S.the-row (Is S.the-row) (EL.makes S.the-type S′.the-plain 𝓤 H A) (r .found) _ is $ move !
+        (1 ∷ 0 ∷ []) $ done !
 
-    module _ (C : Calls 𝓤 H) (Λ : Loops 𝓤 H) (fm : FmC 𝓤 H (W .laws) C) (known : Triple 𝓤 (C #step-from) (StepFrom 𝓤 H A at-mem run)) where
+    module _ (C : Calls 𝓤 H) (Λ : Loops 𝓤 H) (fm : FmC 𝓤 H (W .laws) C)
+        (known : Triple 𝓤 (C #step-from) (StepFrom 𝓤 H A at-mem run)) where
       -- what whoever holds the struct knows of its fields
       text-typed : Is R h (mach ∷ []) → WT v
       text-typed g = shr-slice-lawful 𝓤 H A W (named 1) κ′ u8 .typed (h .text) (v ∷ []) (LL.owed D L h _ g .0) .0 .1
@@ -187,40 +220,58 @@ module _ {M : Type 1} (𝓤 : URA M) (H : Heap 𝓤) (A : Atoms 𝓤) (W : Given
       line-fits : Is R h (mach ∷ []) → h .line < 2 ^ 64
       line-fits g = LL.owed D L h _ g .1 .0 .1
 
-      walk : ent 𝓤 (onEntry 𝓤 H A step.signature (κ, (κ′, tt)) (q, (q′, tt)) x vals) (WpFn 𝓤 H C Λ code.function (vptr b o ∷ []) Post)
+      walk : ent 𝓤 (onEntry 𝓤 H A step.signature (κ, (κ′, tt)) (q, (q′, tt)) x vals)
+          (WpFn 𝓤 H C Λ code.function (vptr b o ∷ []) Post)
       walk =
-          qed W ((‵ (flft κ q) ⊛ ‵ (flft κ′ q′) ⊛ ‵ ftrue) ∷ ‵ (owns (MutRef (named 0) κ R ∷ []) x vals) ∷ []) ∵ enter ! C Λ code.function
+          qed W
+          ((‵ (flft κ q) ⊛ ‵ (flft κ′ q′) ⊛ ‵ ftrue) ∷ ‵ (owns (MutRef (named 0) κ R ∷ []) x vals) ∷ [])
+          ∵ enter ! C Λ code.function
           (vptr b o ∷ []) _ $
           alloc1 ! (λ l₀. alloc1 ! (λ l₁. alloc1 ! (λ l₂. alloc1 ! (λ l₃. alloc1 ! (λ l₄. alloc0 ! $ params1 ! $
           pass1 ! (init ! 6 refl (tt, tt)) $ pass0 ! $
           -- the borrow is opened
           move ! (11 ∷ []) $ fsplit ! $ fsplit3 ! $ drop ! $ move ! (13 ∷ []) $ split ! $ move ! (2 ∷ 3 ∷ 0 ∷ []) $
-          opens ! tt R {h = h} b o (λ vs. spelt ! R (Is R) (shows 𝓤 H A R) (LL.vals D L) (LL.tells D L) fullShare h vs b o $
+          opens ! tt R {h = h} b o
+          (λ vs. spelt ! R (Is R) (shows 𝓤 H A R) (LL.vals D L) (LL.tells D L) fullShare h vs b o $
           use1 W (‵ (fat fullShare (T′.mir erased) b o mach)) (W .laws .raw-at fullShare (T′.mir erased) b o mach) $
           move ! (1 ∷ []) $ peeks ! R (Is R) (shows 𝓤 H A R) h (mach ∷ []) (λ g. move ! (1 ∷ 0 ∷ []) $
-          -- [the struct's cell; what a LineReader owns; the open borrow; obs; auth; 'a's token; true; _4; …; _3; …; _2; …; _1; …; room for
+          -- [the struct's cell; what a LineReader owns; the open borrow; obs; auth; 'a's token; true; _4; …; _3; …;
+          -- _2; …; _1; …; room for
           -- _0; …]
-          assigns ! (of-opd ! (load ! (from ! (hop ! (look ! 13 refl) (fld ! refl (stop !)))) (look-in ! 0 (sub ! 0 refl (whole !)))))
+          assigns !
+          (of-opd !
+          (load ! (from ! (hop ! (look ! 13 refl) (fld ! refl (stop !)))) (look-in ! 0 (sub ! 0 refl (whole !)))))
           (from ! (stop !)) (init ! 9 refl (tt, text-typed g)) $
-          assigns ! (of-opd ! (load ! (from ! (hop ! (look ! 13 refl) (fld ! refl (stop !)))) (look-in ! 0 (sub ! 1 refl (whole !)))))
+          assigns !
+          (of-opd !
+          (load ! (from ! (hop ! (look ! 13 refl) (fld ! refl (stop !)))) (look-in ! 0 (sub ! 1 refl (whole !)))))
           (from ! (stop !)) (init ! 7 refl (tt, record { fits = line-fits g })) $
-          move ! (1 ∷ 5 ∷ []) $ use2 W (raw (StepFrom 𝓤 H A at-mem run .pre to) ⊛ ‵ Own) (apart (line-fits g)) $ split ! $
+          move ! (1 ∷ 5 ∷ []) $ use2 W (raw (StepFrom 𝓤 H A at-mem run .pre to) ⊛ ‵ Own)
+          (apart (line-fits g)) $ split ! $
           calls-at ! fm (StepFrom 𝓤 H A at-mem run) known to
-          (and-then ! (load ! (from ! (stop !)) (look ! 9 refl)) (and-then ! (load ! (from ! (stop !)) (look ! 7 refl)) (no-more !)))
+          (and-then ! (load ! (from ! (stop !)) (look ! 9 refl))
+          (and-then ! (load ! (from ! (stop !)) (look ! 7 refl)) (no-more !)))
           (λ u.
           use1 W (later (some (λ (r : Step). ((‵ (flft κ′ q′) ⊛ ‵ ftrue) ⊛ ‵ (P.the-row .own r (u ∷ []))) ⊛ raw
-          (ensured 𝓤 H A from-def.ended (from-def.clauses 𝓤 H A at-mem run) (κ′, tt) (h .text, (h .line, tt)) tt r)))) (id⊢ 𝓤 _) $
+          (ensured 𝓤 H A from-def.ended (from-def.clauses 𝓤 H A at-mem run) (κ′, tt) (h .text, (h .line, tt)) tt r))))
+          (id⊢ 𝓤 _) $
           await ! tt $ pick ! (λ r.
-          split ! $ move ! (1 ∷ []) $ use1 W (raw (fact 𝓤 (r ≡ found))) (said r) $ heard ! (r ≡ found) (λ e. split ! $ move ! (1 ∷ []) $
-          -- [the step; 'a's token; what the struct owns; the struct's cell; the open borrow; obs; auth; true; _4; …; _3; …; room for _2; …;
+          split ! $ move ! (1 ∷ []) $ use1 W (raw (fact 𝓤 (r ≡ found))) (said r) $ heard ! (r ≡ found)
+          (λ e. split ! $ move ! (1 ∷ []) $
+          -- [the step; 'a's token; what the struct owns; the struct's cell; the open borrow; obs; auth; true; _4; …;
+          -- _3; …; room for _2; …;
           -- _1; …; room for _0; …]
           peeks ! P.the-row (Is P.the-row) (shows 𝓤 H A P.the-row) r (u ∷ []) (λ is.
           land ! (from ! (stop !)) (init ! 12 refl (LL.lawful P.the-type P′.the-laws 𝓤 H A W .typed r _ is .0)) $
           rewrite ! 12 (λ (w : Val). ‵ (fat fullShare P′.mir l₂ 0 w)) (ap only (P′.lowers .val-is r _ is)) refl $
           assigns ! (of-opd ! (load ! (from ! (fld ! refl (stop !))) (look-in ! 12 (sub ! 1 refl (whole !)))))
           (from ! (hop ! (look ! 14 refl) (fld ! refl (stop !))))
-          (store-in ! 3 (sub ! 1 refl (whole !)) (tt, record { fits = LL.owed P.the-type P′.the-laws r _ is .1 .0 .1 })) $
-          assigns ! (of-opd ! (load ! (from ! (fld ! refl (stop !))) (look-in ! 12 (sub ! 0 refl (whole !))))) (from ! (stop !))
+          (store-in ! 3 (sub ! 1 refl (whole !))
+          (tt, record { fits = LL.owed P.the-type P′.the-laws r _ is .1 .0 .1 }))
+          $
+          assigns !
+          (of-opd ! (load ! (from ! (fld ! refl (stop !))) (look-in ! 12 (sub ! 0 refl (whole !)))))
+          (from ! (stop !))
           (init ! 16 refl (EL.lawful S.the-type S′.the-laws 𝓤 H A W tt .typed (r .found) _ (line-is r u is) .0)) $
           -- the struct is put together again, at the line reached, and the borrow is closed
           move ! (2 ∷ []) $
@@ -231,17 +282,24 @@ module _ {M : Type 1} (𝓤 : URA M) (H : Heap 𝓤) (A : Atoms 𝓤) (W : Given
           (W .laws .at-raw fullShare (T′.mir erased) b o (T′.lowered (h′ (r .line)))) $
           move ! (0 ∷ 1 ∷ 4 ∷ 5 ∷ 6 ∷ []) $ closes ! tt R (h′ (r .line)) (T′.lowered (h′ (r .line)) ∷ []) b o $
           -- [obs; the borrow; 's's token; the step; 'a's token; true; _4; …; _3; …; _2; …; _1; …; _0; …]
-          returns ! (look ! 14 refl) $ forget ! 6 refl $ forget ! 8 refl $ forget ! 10 refl $ forget ! 12 refl $ forget ! 14 refl $
-          move ! (14 ∷ 15 ∷ []) $ free1 ! $ move ! (12 ∷ 13 ∷ []) $ free1 ! $ move ! (10 ∷ 11 ∷ []) $ free1 ! $ move ! (8 ∷ 9 ∷ []) $
-          free1 ! $ move ! (6 ∷ 7 ∷ []) $ free1 ! $ free0 ! $ keep ! (0 ∷ 1 ∷ 2 ∷ 4 ∷ []) $ by ! (exits r e (line-is r u is)))))))))))))
+          returns !
+          (look ! 14 refl) $ forget ! 6 refl $ forget ! 8 refl $ forget ! 10 refl $ forget ! 12 refl $ forget ! 14
+          refl $
+          move ! (14 ∷ 15 ∷ []) $ free1 ! $ move ! (12 ∷ 13 ∷ []) $ free1 ! $ move !
+          (10 ∷ 11 ∷ []) $ free1 ! $ move ! (8 ∷ 9 ∷ []) $
+          free1 ! $ move ! (6 ∷ 7 ∷ []) $ free1 ! $ free0 ! $ keep ! (0 ∷ 1 ∷ 2 ∷ 4 ∷ []) $ by !
+          (exits r e (line-is r u is)))))))))))))
 
-module _ {M : Type 1} (𝓤 : URA M) (H : Heap 𝓤) (A : Atoms 𝓤) (W : Given 𝓤 H A) (mem : Memory → SProp 𝓤) (run : Routine → Fun 𝓤) where
+module _ {M : Type 1} (𝓤 : URA M) (H : Heap 𝓤) (A : Atoms 𝓤) (W : Given 𝓤 H A) (mem : Memory → SProp 𝓤)
+    (run : Routine → Fun 𝓤) where
   step-walks : (C : Calls 𝓤 H) (Λ : Loops 𝓤 H) → FmC 𝓤 H (W .laws) C → Triple 𝓤 (C #step-from) (StepFrom 𝓤 H A mem run)
       → Walks 𝓤 H A step.ended stayed (WpFn 𝓤 H C Λ code.function) (step.clauses 𝓤 H A mem run)
-  step-walks C Λ fm known = walked 𝓤 H A step.ended stayed (step.clauses 𝓤 H A mem run) (WpFn 𝓤 H C Λ code.function) (λ κs. (ptr-vals, tt))
+  step-walks C Λ fm known =
+      walked 𝓤 H A step.ended stayed (step.clauses 𝓤 H A mem run) (WpFn 𝓤 H C Λ code.function) (λ κs. (ptr-vals, tt))
       (λ κs. (mut-tells (named 0) (κs .0) (T.the-row (namedLft 2 1 tt κs)), tt))
       (λ κs qs bounds a g are. via 𝓤 _ (fst∗ 𝓤 _ (emp 𝓤))
-      (walk 𝓤 H A W mem run (κs .0) (κs .1 .0) (qs .0) (qs .1 .0) bounds (a .0 .ptr .0) (a .0 .ptr .1) (a .0 .name) (a .0 .now) C Λ fm
+      (walk 𝓤 H A W mem run (κs .0) (κs .1 .0) (qs .0) (qs .1 .0) bounds (a .0 .ptr .0) (a .0 .ptr .1)
+      (a .0 .name) (a .0 .now) C Λ fm
       known))
 
 step-meets : {M : Type 1} (𝓤 : URA M) (H : Heap 𝓤) (A : Atoms 𝓤) (W : Given 𝓤 H A) (mem : Memory → SProp 𝓤)

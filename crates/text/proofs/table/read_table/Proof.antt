@@ -1,4 +1,5 @@
--- `text::table::read_table` meets its contract: one law for each way out; the columns are written only where all is judged.
+-- `text::table::read_table` meets its contract: one law for each way out; the columns are written only where all is
+-- judged.
 -- Assumes nothing.
 use mathlib.Core.Path.{refl}
 use borrow.Author.Needs.{needs}
@@ -19,7 +20,8 @@ returns c =
     let checked = told .before .before in
     let a = checked .before .before .before .before .before .args in
     let old = columns (a .days .now) (a .first .now) (a .second .now) in
-    reads-none (a .text .now) old (checked .check-lines .ensures) (told .judged .given .1) (λ k. refl) (λ values column. refl)
+    reads-none (a .text .now) old (checked .check-lines .ensures) (told .judged .given .1) (λ k. refl)
+    (λ values column. refl)
 
 enum-known-judged-2 : tie.Need-enum-known-judged-2
 enum-known-judged-2 c = search needs
@@ -30,7 +32,8 @@ returns-2 c =
     let checked = told .before .before in
     let a = checked .before .before .before .before .before .args in
     let old = columns (a .days .now) (a .first .now) (a .second .now) in
-    reads-none (a .text .now) old (checked .check-lines .ensures) (told .judged2 .given .1) (λ k. refl) (λ values column. refl)
+    reads-none (a .text .now) old (checked .check-lines .ensures) (told .judged2 .given .1) (λ k. refl)
+    (λ values column. refl)
 
 enum-known-judged-3 : tie.Need-enum-known-judged-3
 enum-known-judged-3 c = search needs
@@ -41,7 +44,8 @@ returns-3 c =
     let checked = told .before .before in
     let a = checked .before .before .before .before .before .args in
     let old = columns (a .days .now) (a .first .now) (a .second .now) in
-    reads-none (a .text .now) old (checked .check-lines .ensures) (told .judged3 .given .1) (λ k. refl) (λ values column. refl)
+    reads-none (a .text .now) old (checked .check-lines .ensures) (told .judged3 .given .1) (λ k. refl)
+    (λ values column. refl)
 
 enum-told : tie.Need-enum-told
 enum-told c = search needs
@@ -51,7 +55,8 @@ returns-4 c =
     let checked = c .before .before in
     let a = checked .before .before .before .before .before .args in
     let old = columns (a .days .now) (a .first .now) (a .second .now) in
-    reads-none (a .text .now) old (checked .check-lines .ensures) (c .enum-told .given .1) (λ k. refl) (λ values column. refl)
+    reads-none (a .text .now) old (checked .check-lines .ensures) (c .enum-told .given .1) (λ k. refl)
+    (λ values column. refl)
 
 enum-known-judged-4 : tie.Need-enum-known-judged-4
 enum-known-judged-4 c = search needs

@@ -1,4 +1,5 @@
--- `text::table::write_rows` meets its contract: the first i rows stand in the columns; every line is a row, so the reader finds it in its place, and
+-- `text::table::write_rows` meets its contract: the first i rows stand in the columns; every line is a row, so the
+-- reader finds it in its place, and
 -- stays behind the last.
 -- Assumes nothing.
 use Prim.Native.Nat.{_-_, _<_}
@@ -102,7 +103,8 @@ loop-less c =
     let found = moved .before .before in
     let at-loop = found .before in
     let start = at-loop .before .before .before .before .before in
-    let on = line-on (start .args .text .now) _ (start .pre .rows) (at-loop .loop .i) (row moved) (found .read-line .ensures) in
+    let on = line-on (start .args .text .now) _ (start .pre .rows) (at-loop .loop .i) (row moved)
+    (found .read-line .ensures) in
     omega (arith, row moved, on)
 
 loop-again : tie.Need-loop-again Inv-loop μ-loop
