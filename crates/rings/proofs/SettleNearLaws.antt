@@ -20,7 +20,6 @@ use Rattle.rings.specs.Inner.Settling.{moving, Days, DayScanned, Behind,
 use Rattle.rings.specs.Inner.Counting.{timeBy, Histogram, Moving, CountsBeforeRise, MoveAsks}
 use Rattle.rings.specs.declared.Query.{Query}
 use Rattle.rings.proofs.WordLaws.{same-or}
-use Rattle.rings.proofs.FixpointLaws.{enough}
 use Rattle.rings.proofs.CoreTimeLaws as core-time
 use Rattle.rings.proofs.PeelStateLaws.{estimate-at}
 use Rattle.rings.proofs.FindDayLaws.{few-start, find-day-next, find-day-found, find-day-near, short-start, short-next}
