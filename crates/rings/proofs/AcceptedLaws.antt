@@ -3,7 +3,8 @@
 --     scratch-kept             their refusals keep the scratch
 --     then-room                a check behind them
 --     call-sound, call-k, call-window, call-lengths, call-scratch     an accepted call: each check has passed
---     window-e, range-e, start-e, lengths-e     a window or a range, a start in its range, two pairs of lengths that passed
+--     window-e, range-e, start-e, lengths-e     a window or a range, a start in its range, two pairs of lengths that
+--                                               passed
 -- Assumes nothing.
 use Prim.Native.Nat.{ℕ, _+_, _*_, _≤_}
 use mathlib.Core.Path.{_≡_, refl, sym, _∙_, ap}
@@ -41,7 +42,8 @@ scratch-on r sc h = rw h
 pub scratch-kept : (t : Table) (q : Query) (window lengths : Bool) (n : ℕ) {r : Refusal} (sc : List ℕ)
     → shared t q window lengths n ≡ Refused r
     → sc ≡ scratchOn r sc
-scratch-kept t q window lengths n {r} sc e = scratch-on r sc (front-call t q window lengths (length (t .days)) n .keeps r e)
+scratch-kept t q window lengths n {r} sc e =
+    scratch-on r sc (front-call t q window lengths (length (t .days)) n .keeps r e)
 
 -- ---- a check behind the shared ones
 
@@ -84,7 +86,8 @@ module _ (d f s : List ℕ) (q : Query) (window lengths : Bool) (scratch : ℕ)
     rest₂ = BadLength when no lengths then scratchCheck (length d) scratch
 
     abbrev after₁ : Verdict
-    after₁ = queryCheck q then BadRange when no window then BadLength when no lengths then scratchCheck (length d) scratch
+    after₁ =
+        queryCheck q then BadRange when no window then BadLength when no lengths then scratchCheck (length d) scratch
 
     pub call-sound : Sound d f s
     call-sound = table-sound d f s (accepted-left (tableCheck (tableOf d f s)) after₁ e)
@@ -95,8 +98,10 @@ module _ (d f s : List ℕ) (q : Query) (window lengths : Bool) (scratch : ℕ)
     pub call-k : (1 ≤ q .k) × (q .k ≤ 4095)
     unfolding queryCheck rest₁
     call-k =
-        let h = passed BadK (leb 1 (q .k) and leb (q .k) 4095) (accepted-left (queryCheck q) rest₁ e₁) in
-        (leb-true 1 (q .k) (and-l (leb 1 (q .k)) (leb (q .k) 4095) h), leb-true (q .k) 4095 (and-r (leb 1 (q .k)) (leb (q .k) 4095) h))
+        let h = passed BadK (leb 1 (q .k) and leb (q .k) 4095) (accepted-left (queryCheck q) rest₁ e₁) in (
+          leb-true 1 (q .k) (and-l (leb 1 (q .k)) (leb (q .k) 4095) h),
+          leb-true (q .k) 4095 (and-r (leb 1 (q .k)) (leb (q .k) 4095) h),
+        )
 
     e₂ : BadRange when no window then BadLength when no lengths then scratchCheck (length d) scratch ≡ Accepted
     unfolding rest₁
@@ -111,7 +116,8 @@ module _ (d f s : List ℕ) (q : Query) (window lengths : Bool) (scratch : ℕ)
     e₃ = accepted-right (BadRange when no window) rest₂ e₂
 
     pub call-lengths : lengths ≡ true
-    call-lengths = passed BadLength lengths (accepted-left (BadLength when no lengths) (scratchCheck (length d) scratch) e₃)
+    call-lengths =
+        passed BadLength lengths (accepted-left (BadLength when no lengths) (scratchCheck (length d) scratch) e₃)
 
     pub call-scratch : 8192 + 4 * length d ≤ scratch
     unfolding scratchCheck
@@ -121,7 +127,8 @@ module _ (d f s : List ℕ) (q : Query) (window lengths : Bool) (scratch : ℕ)
         (accepted-right (BadLength when no lengths) (scratchCheck (length d) scratch) e₃))
 
 -- a window that passed
-pub window-e : (s e : ℕ) {b : Bool} → b ≡ (leb 1 s and leb s e and leb e 1024) → b ≡ true → (1 ≤ s) × (s ≤ e) × (e ≤ 1024)
+pub window-e : (s e : ℕ) {b : Bool} → b ≡ (leb 1 s and leb s e and leb e 1024) → b ≡ true
+    → (1 ≤ s) × (s ≤ e) × (e ≤ 1024)
 window-e s e h y =
     let g = sym h ∙ y in
     let g₂ = and-r (leb 1 s) (leb s e and leb e 1024) g in (
@@ -135,7 +142,8 @@ unfolding rangeCheck
 range-e s e h = window-e s e refl (passed BadRange (leb 1 s and leb s e and leb e 1024) h)
 
 -- a start in its range
-pub start-e : (lo s hi : ℕ) {b : Bool} → b ≡ (leb 1 lo and leb lo s and leb s hi and leb hi 1024) → b ≡ true → (s ≤ hi) × (hi ≤ 1024)
+pub start-e : (lo s hi : ℕ) {b : Bool} → b ≡ (leb 1 lo and leb lo s and leb s hi and leb hi 1024) → b ≡ true
+    → (s ≤ hi) × (hi ≤ 1024)
 start-e lo s hi h y =
     let g = sym h ∙ y in
     let g₂ = and-r (leb 1 lo) (leb lo s and leb s hi and leb hi 1024) g in
@@ -144,4 +152,5 @@ start-e lo s hi h y =
 
 -- two pairs of equal lengths
 pub lengths-e : (a b c d : ℕ) {y : Bool} → y ≡ (eqb a b and eqb c d) → y ≡ true → (a ≡ b) × (c ≡ d)
-lengths-e a b c d h y = let g = sym h ∙ y in (eqb-true a b (and-l (eqb a b) (eqb c d) g), eqb-true c d (and-r (eqb a b) (eqb c d) g))
+lengths-e a b c d h y =
+    let g = sym h ∙ y in (eqb-true a b (and-l (eqb a b) (eqb c d) g), eqb-true c d (and-r (eqb a b) (eqb c d) g))

@@ -24,14 +24,17 @@ use Rattle.rings.specs.Windows.{Entry, Listed, minimalWindows, Before, I
 use Rattle.rings.specs.Checks.{_when_, _then_, inOrder, rangeCheck}
 use Rattle.rings.specs.Buffers.{marks, over}
 use Rattle.rings.specs.TableCheck.{tableCheck}
-use Rattle.rings.specs.MinimalWindowsCall.{minimalChecks, minimalAnswer, entryColumn, minimalRows, minimalStarts, minimalEnds}
-use Rattle.rings.specs.RecallCall.{Columns, columnsOf, entryAt, comesAfter, inPlace, fits, entryCheck, recallAnswer, recallMarks}
+use Rattle.rings.specs.MinimalWindowsCall.{minimalChecks, minimalAnswer, entryColumn, minimalRows}
+use Rattle.rings.specs.MinimalWindowsCall.{minimalStarts, minimalEnds}
+use Rattle.rings.specs.RecallCall.{Columns, columnsOf, entryAt, comesAfter, inPlace, fits, entryCheck}
+use Rattle.rings.specs.RecallCall.{recallAnswer, recallMarks}
 use Rattle.rings.specs.declared.Query.{Query}
 use Rattle.rings.specs.declared.refusal.Refusal.the-variants.{BadRange, BadLength, BadEntry}
 use Rattle.rings.specs.declared.refusal.Verdict.{Verdict}
 use Rattle.rings.specs.declared.refusal.Verdict.the-variants.{Accepted}
 use Rattle.rings.specs.declared.refusal.Counted.{Counted}
-use Rattle.rings.proofs.WordLaws.{and-i, or-l, or-r, length-tabulate, marked-tabulate-e, marked-tabulate-i, same-marks}
+use Rattle.rings.proofs.WordLaws.{and-i, or-l, or-r, length-tabulate, marked-tabulate-e, marked-tabulate-i}
+use Rattle.rings.proofs.WordLaws.{same-marks}
 use Rattle.rings.proofs.ListLaws.{mem-tabulate}
 use Rattle.rings.proofs.CheckLaws.{then-accepted, passes, order-accepted, counted-e}
 use Rattle.rings.proofs.RingLaws.{ring-is, in-window}
@@ -46,12 +49,14 @@ pub front-of : {A : Type 0} (xs ys : List A) → take (length xs) (xs ++ ys) ≡
 front-of [] ys = refl
 front-of (x ∷ xs) ys = λ i. x ∷ front-of xs ys i
 
-pub mapped : {A : Type 0} (g : A → ℕ) (z : A) (xs : List A) (p : ℕ) → p < length xs → getD (map g xs) p 0 ≡ g (getD xs p z)
+pub mapped : {A : Type 0} (g : A → ℕ) (z : A) (xs : List A) (p : ℕ) → p < length xs
+    → getD (map g xs) p 0 ≡ g (getD xs p z)
 mapped g z [] p h = absurd (not-suc-le-zero h)
 mapped g z (x ∷ xs) zero h = refl
 mapped g z (x ∷ xs) (suc p) h = mapped g z xs p (omega arith)
 
-tabulate-of : {A : Type 0} (f : ℕ → A) (z : A) (xs : List A) (i : ℕ) → ((j : ℕ) → j < length xs → f (i + j) ≡ getD xs j z) → tabulate f i (length xs) ≡ xs
+tabulate-of : {A : Type 0} (f : ℕ → A) (z : A) (xs : List A) (i : ℕ)
+    → ((j : ℕ) → j < length xs → f (i + j) ≡ getD xs j z) → tabulate f i (length xs) ≡ xs
 unfolding tabulate
 tabulate-of f z [] i h = refl
 tabulate-of f z (x ∷ xs) i h =
@@ -59,7 +64,8 @@ tabulate-of f z (x ∷ xs) i h =
     (ap f (sym (plus-none i)) ∙ h 0 (omega arith)) n ∷ tabulate-of f z xs (suc i)
     (λ j l. let e : suc i + j ≡ i + suc j = omega arith in ap f e ∙ h (suc j) (omega arith)) n
 
-tabulate-pair : {A : Type 0} (R : A → A → Type 0) (f : ℕ → A) (i n a b : ℕ) → Pairwise R (tabulate f i n) → i ≤ a → a < b → b < i + n → R (f a) (f b)
+tabulate-pair : {A : Type 0} (R : A → A → Type 0) (f : ℕ → A) (i n a b : ℕ) → Pairwise R (tabulate f i n) → i ≤ a
+    → a < b → b < i + n → R (f a) (f b)
 unfolding tabulate
 tabulate-pair R f i zero a b P h k l = absurd (omega arith)
 tabulate-pair R f i (suc n) a b (Pairwise.more x P) h k l =
@@ -67,9 +73,13 @@ tabulate-pair R f i (suc n) a b (Pairwise.more x P) h k l =
     (λ e. subst (λ (c : ℕ). R (f c) (f b)) e (x (f b) (mem-tabulate f (suc i) n b (omega arith) (omega arith))))
     (λ o. tabulate-pair R f (suc i) n a b P o k (omega arith)) (eq-or-lt-of-le h)
 
-pub entries-of : (es : List Entry) → entries (map (λ (x : Entry). x .row) es) (map (λ (x : Entry). x .start) es) (map (λ (x : Entry). x .end) es) ≡ es
+pub entries-of : (es : List Entry)
+    → entries (map (λ (x : Entry). x .row) es) (map (λ (x : Entry). x .start) es) (map (λ (x : Entry). x .end) es)
+    ≡ es
 unfolding entries at
-entries-of es = ap (tabulate f 0) (length-map es (λ (x : Entry). x .row)) ∙ tabulate-of f z es 0 (λ j l. ap f (zero-plus j) ∙ same j l)
+entries-of es =
+    ap (tabulate f 0) (length-map es (λ (x : Entry). x .row))
+    ∙ tabulate-of f z es 0 (λ j l. ap f (zero-plus j) ∙ same j l)
   where
     z : Entry
     z = record { row = 0; start = 0; end = 0 }
@@ -100,9 +110,13 @@ module _ (t : Table) (q : Query) (lo hi : ℕ) (rows starts ends : List ℕ)
     (accepted : minimalAnswer t q lo hi rowPlaces startPlaces endPlaces scratch ≡ Counted.Count n) where
   counts : length (minimalWindows t q lo hi) ≡ n
   unfolding minimalAnswer
-  counts = counted-e (minimalChecks t q lo hi rowPlaces startPlaces endPlaces scratch) (length (minimalWindows t q lo hi)) n accepted .1
+  counts =
+      counted-e (minimalChecks t q lo hi rowPlaces startPlaces endPlaces scratch)
+      (length (minimalWindows t q lo hi)) n accepted .1
 
-  cut : (part : Entry → ℕ) (old : List ℕ) → take n (entryColumn (Counted.Count n) part (minimalWindows t q lo hi) old) ≡ map part (minimalWindows t q lo hi)
+  cut : (part : Entry → ℕ) (old : List ℕ)
+      → take n (entryColumn (Counted.Count n) part (minimalWindows t q lo hi) old)
+      ≡ map part (minimalWindows t q lo hi)
   unfolding entryColumn over
   cut part old =
       let es = minimalWindows t q lo hi in
@@ -124,13 +138,15 @@ module _ (t : Table) (q : Query) (lo hi : ℕ) (rows starts ends : List ℕ)
 
 -- ---- read by Recall
 
-module _ (t : Table) (q : Query) (lo hi : ℕ) (one : 1 ≤ lo) (top : hi ≤ 1024) (rows starts ends : List ℕ) (A : Archive t q lo hi rows starts ends) where
+module _ (t : Table) (q : Query) (lo hi : ℕ) (one : 1 ≤ lo) (top : hi ≤ 1024) (rows starts ends : List ℕ)
+    (A : Archive t q lo hi rows starts ends) where
   abbrev c : Columns
   c = columnsOf rows starts ends
 
   entry : (i : ℕ) → i < length rows → Listed t q lo hi (entryAt c i)
   unfolding entryAt entries
-  entry i l = A .holds .each (entryAt c i) (mem-tabulate (λ j. entryAt c j) 0 (length rows) i (omega arith) (omega arith))
+  entry i l =
+      A .holds .each (entryAt c i) (mem-tabulate (λ j. entryAt c j) 0 (length rows) i (omega arith) (omega arith))
 
   fits-here : (i : ℕ) → i < length rows → fits t (entryAt c i) ≡ true
   unfolding fits
@@ -150,18 +166,23 @@ module _ (t : Table) (q : Query) (lo hi : ℕ) (one : 1 ≤ lo) (top : hi ≤ 10
   after x y a b (_⊎_.inl l) = or-l _ _ (lt-ltb (x .row) (y .row) l)
   after x y a b (_⊎_.inr w) =
       let ends : x .end < y .end = ends-rise t q lo hi x y a b (w .0) (w .1) in
-      or-r _ _ (and-i (eq-eqb (x .row) (y .row) (w .0)) (and-i (lt-ltb (x .start) (y .start) (w .1)) (lt-ltb (x .end) (y .end) ends)))
+      or-r _ _
+      (and-i (eq-eqb (x .row) (y .row) (w .0))
+      (and-i (lt-ltb (x .start) (y .start) (w .1)) (lt-ltb (x .end) (y .end) ends)))
 
   in-place : (i : ℕ) → i < length rows → inPlace c i ≡ true
   unfolding inPlace entries entryAt
   in-place zero l = refl
   in-place (suc i) l =
       after (entryAt c i) (entryAt c (suc i)) (entry i (omega arith)) (entry (suc i) l)
-      (tabulate-pair Before (λ j. entryAt c j) 0 (length rows) i (suc i) (A .holds .in-order) (omega arith) (omega arith) (omega arith))
+      (tabulate-pair Before (λ j. entryAt c j) 0 (length rows) i (suc i) (A .holds .in-order) (omega arith)
+      (omega arith) (omega arith))
 
   entries-pass : inOrder (tabulate (entryCheck t c) 0 (length rows)) ≡ Accepted
   unfolding entryCheck
-  entries-pass = order-accepted (entryCheck t c) 0 (length rows) (λ i h l. passes (BadEntry i) (and-i (fits-here i (omega arith)) (in-place i (omega arith))))
+  entries-pass =
+      order-accepted (entryCheck t c) 0 (length rows)
+      (λ i h l. passes (BadEntry i) (and-i (fits-here i (omega arith)) (in-place i (omega arith))))
 
   module _ (s e : ℕ) (from : lo ≤ s) (order : s ≤ e) (to : e ≤ hi) where
     pub archive-accepted : tableCheck t ≡ Accepted → recallAnswer t c s e (size t) ≡ Accepted
@@ -172,10 +193,14 @@ module _ (t : Table) (q : Query) (lo hi : ℕ) (one : 1 ≤ lo) (top : hi ≤ 10
         (passes BadLength
         (and-i (eq-eqb (length starts) (length rows) (A .as-many-starts))
         (and-i (eq-eqb (length ends) (length rows) (A .as-many-ends)) (eq-eqb (size t) (size t) refl))))
-        ∙ (then-accepted range entries-pass ∙ passes BadRange (and-i (le-leb 1 s (omega arith)) (and-i (le-leb s e order) (le-leb e 1024 (omega arith))))))
+        ∙ (then-accepted range entries-pass
+        ∙ passes BadRange
+        (and-i (le-leb 1 s (omega arith)) (and-i (le-leb s e order) (le-leb e 1024 (omega arith))))))
       where
         lengths : Verdict
-        lengths = BadLength when no (eqb (length starts) (length rows) and eqb (length ends) (length rows) and eqb (size t) (size t))
+        lengths =
+            BadLength
+            when no (eqb (length starts) (length rows) and eqb (length ends) (length rows) and eqb (size t) (size t))
 
         listed : Verdict
         listed = inOrder (tabulate (entryCheck t c) 0 (length rows))
@@ -183,13 +208,18 @@ module _ (t : Table) (q : Query) (lo hi : ℕ) (one : 1 ≤ lo) (top : hi ≤ 10
         range : Verdict
         range = rangeCheck s e
 
-module _ (t : Table) (q : Query) (lo hi : ℕ) (rows starts ends : List ℕ) (A : Archive t q lo hi rows starts ends) (s e : ℕ) (short : e < never) (from : lo ≤ s)
+module _ (t : Table) (q : Query) (lo hi : ℕ) (rows starts ends : List ℕ) (A : Archive t q lo hi rows starts ends)
+    (s e : ℕ) (short : e < never) (from : lo ≤ s)
     (to : e ≤ hi) where
-  pub archive-marks : (old : List ℕ) → recallMarks Accepted t (columnsOf rows starts ends) s e old ≡ marks (ring t q s e)
+  pub archive-marks : (old : List ℕ)
+      → recallMarks Accepted t (columnsOf rows starts ends) s e old ≡ marks (ring t q s e)
   unfolding recallMarks inRing
   archive-marks old =
-      ap marks (same-marks (tabulate f 0 (size t)) (ring t q s e) (length-tabulate f 0 (size t) ∙ sym (ring-is t q s e .sized))
-      (λ j h. sym (is j) ∙ marked-tabulate-e f (size t) j h .1) (λ j h. marked-tabulate-i f (size t) j (in-window t q s e j h .row) (is j ∙ h)))
+      ap marks
+      (same-marks (tabulate f 0 (size t)) (ring t q s e)
+      (length-tabulate f 0 (size t) ∙ sym (ring-is t q s e .sized))
+      (λ j h. sym (is j) ∙ marked-tabulate-e f (size t) j h .1)
+      (λ j h. marked-tabulate-i f (size t) j (in-window t q s e j h .row) (is j ∙ h)))
     where
       f : ℕ → Bool
       f = recalled (entries rows starts ends) s e

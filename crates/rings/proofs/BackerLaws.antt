@@ -1,4 +1,5 @@
--- The rows that back an account on a day (specs/Inner/Settling.antt): each is the first of its pair, and they are as many as its supporters.
+-- The rows that back an account on a day (specs/Inner/Settling.antt): each is the first of its pair, and they are as
+-- many as its supporters.
 --     Backed, backing-e, backing-i     what the test `backing` says of a row
 --     backers-are                      how many there are
 -- Assumes nothing.
@@ -47,14 +48,16 @@ module _ (t : Table) (q : Query) (s hi lo : ℕ) (S : Setting t q s hi lo) (x : 
   value-le : (c u v j : ℕ) → j < size t → joins t j u v ≡ true → x v ≤ c → dayOf t j ≤ c → value t x j u ≤ c
   unfolding value
   value-le c u v j l h a b =
-      let e : otherOf t j u ≡ v = joins-same t j u (otherOf t j u) v (joins-other t j u (S .accounts j l) (joins-touch t j u v h .0)) h in
+      let e : otherOf t j u ≡ v =
+      joins-same t j u (otherOf t j u) v (joins-other t j u (S .accounts j l) (joins-touch t j u v h .0)) h in
       let f : x (otherOf t j u) ≡ x v = ap x e in omega arith
 
   pub backers-are : (c u : ℕ) → backers t x lo c u (size t) ≡ supporters t x s c u
   unfolding backers supporters value
   backers-are c u =
       le-antisymm
-      (count-inject (backing t x lo c u) (size t) (supports t x s c u) (names t) (λ j v. (leads t lo j ≡ true) × (joins t j u v ≡ true))
+      (count-inject (backing t x lo c u) (size t) (supports t x s c u) (names t)
+      (λ j v. (leads t lo j ≡ true) × (joins t j u v ≡ true))
       (λ j l h.
       let b = backing-e c u j h in
       let jn = joins-other t j u (S .accounts j l) (b .touch) in

@@ -4,7 +4,8 @@
 --     passes                        a check that is met
 --     order-accepted, order-refused     a run of checks that all pass; one that refuses at i
 --     all-accepted                  and what an accepted run says of each
---     Front, front-when, front-then, front-order, front-table, front-call     checks that stand before 9 or are it: their refusals keep the scratch
+--     Front, front-when, front-then, front-order, front-table, front-call     checks that stand before 9 or are it:
+--     their refusals keep the scratch
 --     counted-yes, counted-no       the answer of a call that counts
 --     counted-e                     what it says where it is a count
 -- Assumes nothing.
@@ -23,7 +24,8 @@ use Rattle.rings.specs.Refusals.{behindScratch}
 use Rattle.rings.specs.TableCheck.{dayBefore, rowFaults, rowCheck, tableCheck}
 use Rattle.rings.specs.declared.Query.{Query}
 use Rattle.rings.specs.declared.refusal.Refusal.{Refusal}
-use Rattle.rings.specs.declared.refusal.Refusal.the-variants.{ColumnsDiffer, TooLarge, BadDay, BadAccounts, DayFalls, BadK, BadRange, BadLength, Scratch}
+use Rattle.rings.specs.declared.refusal.Refusal.the-variants.{ColumnsDiffer, TooLarge, BadDay, BadAccounts}
+use Rattle.rings.specs.declared.refusal.Refusal.the-variants.{DayFalls, BadK, BadRange, BadLength, Scratch}
 use Rattle.rings.specs.declared.refusal.Counted.{Counted}
 use Rattle.rings.specs.declared.refusal.Verdict.{Verdict}
 use Rattle.rings.specs.declared.refusal.Verdict.the-variants.{Accepted, Refused}
@@ -59,7 +61,8 @@ pub passes : (r : Refusal) {b : Bool} → b ≡ true → r when no b ≡ Accepte
 unfolding _when_ no
 passes r h = rw h refl
 
-pub order-accepted : (f : ℕ → Verdict) (i n : ℕ) → ((j : ℕ) → i ≤ j → j < i + n → f j ≡ Accepted) → inOrder (tabulate f i n) ≡ Accepted
+pub order-accepted : (f : ℕ → Verdict) (i n : ℕ) → ((j : ℕ) → i ≤ j → j < i + n → f j ≡ Accepted)
+    → inOrder (tabulate f i n) ≡ Accepted
 unfolding inOrder tabulate
 order-accepted f i zero h = refl
 order-accepted f i (suc n) h =
@@ -80,7 +83,8 @@ order-refused f i (suc n) j {r} a b h e =
     ∙ order-refused f (suc i) n j q (omega arith) (λ l c d. h l (omega arith) d) e)
     (eq-or-lt-of-le a)
 
-pub all-accepted : (f : ℕ → Verdict) (i n : ℕ) → inOrder (tabulate f i n) ≡ Accepted → (j : ℕ) → i ≤ j → j < i + n → f j ≡ Accepted
+pub all-accepted : (f : ℕ → Verdict) (i n : ℕ) → inOrder (tabulate f i n) ≡ Accepted → (j : ℕ) → i ≤ j → j < i + n
+    → f j ≡ Accepted
 unfolding inOrder tabulate
 all-accepted f i zero h j a b = absurd (omega arith)
 all-accepted f i (suc n) h j a b =
@@ -99,7 +103,8 @@ front-accepted = record { keeps = λ r e. cc }
 
 pub front-when : (r : Refusal) (b : Bool) → behindScratch r ≡ false → Front (r when b)
 unfolding _when_
-front-when r true h = record { keeps = λ r′ e. let g : r ≡ r′ = cc in subst (λ (x : Refusal). behindScratch x ≡ false) g h }
+front-when r true h =
+    record { keeps = λ r′ e. let g : r ≡ r′ = cc in subst (λ (x : Refusal). behindScratch x ≡ false) g h }
 front-when r false h = front-accepted
 
 pub front-then : (v w : Verdict) → Front v → Front w → Front (v then w)
@@ -144,11 +149,14 @@ pub front-call : (t : Table) (q : Query) (window lengths : Bool) (rows scratch :
     then scratchCheck rows scratch)
 unfolding queryCheck scratchCheck behindScratch
 front-call t q window lengths rows scratch =
-    front-then (tableCheck t) (queryCheck q then BadRange when no window then BadLength when no lengths then scratchCheck rows scratch) (front-table t)
+    front-then (tableCheck t)
+    (queryCheck q then BadRange when no window then BadLength when no lengths then scratchCheck rows scratch)
+    (front-table t)
     (front-then (queryCheck q)
     (BadRange when no window then BadLength when no lengths then scratchCheck rows scratch)
     (front-when BadK (no (leb 1 (q .k) and leb (q .k) 4095)) refl)
-    (front-then (BadRange when no window) (BadLength when no lengths then scratchCheck rows scratch) (front-when BadRange (no window) refl)
+    (front-then (BadRange when no window) (BadLength when no lengths then scratchCheck rows scratch)
+    (front-when BadRange (no window) refl)
     (front-then (BadLength when no lengths) (scratchCheck rows scratch) (front-when BadLength (no lengths) refl)
     (front-when Scratch (ltb scratch (8192 + 4 * rows)) refl))))
 

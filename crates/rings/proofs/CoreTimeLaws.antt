@@ -1,15 +1,18 @@
--- Core times by the days that reach them. A time is a day of [s, hi] or never; a day e of [s, hi] reaches it if the time is at most e.
+-- Core times by the days that reach them. A time is a day of [s, hi] or never; a day e of [s, hi] reaches it if the
+-- time is at most e.
 --     Time s hi x              x is such a time
 --     same-time                two times that the same days reach are equal
 --     account-reach-i, -e      e reaches an account's core time exactly if the account is met in the ring of [s, e]
 --     row-reach-i, -e          e reaches a row's core time exactly if the row is in the ring of [s, e]
---     row-max                  a row's core time is the greatest of its accounts' and its own day (001, Lemma 1 and Algorithm 2)
+--     row-max                  a row's core time is the greatest of its accounts' and its own day (001, Lemma 1 and
+--                              Algorithm 2)
 --     row-before, row-after, row-past     a row before s, after hi or outside the table has never
 --     ring-size                a ring has as many rows as have a core time of at most its end
 --     account-later, row-later            core times rise with the start
 --     account-never, row-never            so what has none has none later
 --     rows-untimed               where no account has a core time no row has one
---     account-absent, times-absent        an account that no row has has never; so has each of a column, from one more than the greatest account on
+--     account-absent, times-absent        an account that no row has has never; so has each of a column, from one
+--                                         more than the greatest account on
 --     time-le, time-day     a time is at most never, and below never a day of the range
 --     account-time, row-time     core times are such times
 --     row-outside, row-day     a row outside the range has never, any other its own day or a later one
@@ -54,7 +57,9 @@ least-cases : (p : ℕ → Bool) (s n : ℕ) → (least p s n ≡ never) ⊎ Lea
 unfolding least
 least-cases p s zero = _⊎_.inl refl
 least-cases p s (suc n) =
-    ⊎-elim (λ h. _⊎_.inr (subst (Least p s (suc n)) (sym (least-yes p s n h)) (record { from = le-refl s; below = omega arith; has = h })))
+    ⊎-elim (λ h. _⊎_.inr
+    (subst (Least p s (suc n)) (sym (least-yes p s n h))
+    (record { from = le-refl s; below = omega arith; has = h })))
     (λ h. subst (λ (x : ℕ). (x ≡ never) ⊎ Least p s (suc n) x) (sym (least-no p s n h))
     (⊎-elim _⊎_.inl
     (λ l. _⊎_.inr (record { from = omega (arith, l .from); below = omega (arith, l .below); has = l .has }))
@@ -65,7 +70,8 @@ least-le : (p : ℕ → Bool) (s n e : ℕ) → s ≤ e → e < s + n → p e �
 least-le p s zero e h l k = absurd (omega arith)
 least-le p s (suc n) e h l k =
     ⊎-elim (λ a. subst (λ (x : ℕ). x ≤ e) (sym (least-yes p s n a)) h)
-    (λ a. subst (λ (x : ℕ). x ≤ e) (sym (least-no p s n a)) (least-le p (suc s) n e (later a) (omega arith) k)) (true-or-false (p s))
+    (λ a. subst (λ (x : ℕ). x ≤ e) (sym (least-no p s n a)) (least-le p (suc s) n e (later a) (omega arith) k))
+    (true-or-false (p s))
   where
     later : p s ≡ false → suc s ≤ e
     later a = ⊎-elim (λ q. clash k (subst (λ (x : ℕ). p x ≡ false) q a)) (λ q. q) (eq-or-lt-of-le h)
@@ -85,11 +91,15 @@ module _ {s hi : ℕ} (fits : hi < never) where
   time-day (_⊎_.inl e) l = absurd (omega arith)
   time-day (_⊎_.inr r) l = r
 
-  pub same-time : {x y : ℕ} → Time s hi x → Time s hi y → ((e : ℕ) → s ≤ e → e ≤ hi → x ≤ e → y ≤ e) → ((e : ℕ) → s ≤ e → e ≤ hi → y ≤ e → x ≤ e) → x ≡ y
+  pub same-time : {x y : ℕ} → Time s hi x → Time s hi y → ((e : ℕ) → s ≤ e → e ≤ hi → x ≤ e → y ≤ e)
+      → ((e : ℕ) → s ≤ e → e ≤ hi → y ≤ e → x ≤ e) → x ≡ y
   same-time (_⊎_.inl a) (_⊎_.inl b) f g = a ∙ sym b
-  same-time {x} {y} (_⊎_.inl a) (_⊎_.inr b) f g = let h : x ≤ y = g y (b .0) (b .1) (le-refl y) in absurd (omega (arith, b .1))
-  same-time {x} {y} (_⊎_.inr a) (_⊎_.inl b) f g = let h : y ≤ x = f x (a .0) (a .1) (le-refl x) in absurd (omega (arith, a .1))
-  same-time {x} {y} (_⊎_.inr a) (_⊎_.inr b) f g = le-antisymm (g y (b .0) (b .1) (le-refl y)) (f x (a .0) (a .1) (le-refl x))
+  same-time {x} {y} (_⊎_.inl a) (_⊎_.inr b) f g =
+      let h : x ≤ y = g y (b .0) (b .1) (le-refl y) in absurd (omega (arith, b .1))
+  same-time {x} {y} (_⊎_.inr a) (_⊎_.inl b) f g =
+      let h : y ≤ x = f x (a .0) (a .1) (le-refl x) in absurd (omega (arith, a .1))
+  same-time {x} {y} (_⊎_.inr a) (_⊎_.inr b) f g =
+      le-antisymm (g y (b .0) (b .1) (le-refl y)) (f x (a .0) (a .1) (le-refl x))
 
   -- the greatest of two times and a day of the range is a time
   time-max : {x y d : ℕ} → Time s hi x → Time s hi y → s ≤ d → d ≤ hi → Time s hi (max (max x y) d)
@@ -107,12 +117,14 @@ in-range s hi e h l = omega arith
 module _ (p : ℕ → Bool) (s hi : ℕ) where
   least-time : Time s hi (least p s (suc hi - s))
   least-time =
-      ⊎-elim _⊎_.inl (λ l. _⊎_.inr (l .from, range-end s hi (least p s (suc hi - s)) (l .below) (l .from))) (least-cases p s (suc hi - s))
+      ⊎-elim _⊎_.inl (λ l. _⊎_.inr (l .from, range-end s hi (least p s (suc hi - s)) (l .below) (l .from)))
+      (least-cases p s (suc hi - s))
 
   reach-i : (e : ℕ) → s ≤ e → e ≤ hi → p e ≡ true → least p s (suc hi - s) ≤ e
   reach-i e l h k = least-le p s (suc hi - s) e l (in-range s hi e l h) k
 
-  reach-e : hi < never → ((a b : ℕ) → a ≤ b → p a ≡ true → p b ≡ true) → (e : ℕ) → e ≤ hi → least p s (suc hi - s) ≤ e → p e ≡ true
+  reach-e : hi < never → ((a b : ℕ) → a ≤ b → p a ≡ true → p b ≡ true) → (e : ℕ) → e ≤ hi
+      → least p s (suc hi - s) ≤ e → p e ≡ true
   reach-e fits up e h l =
       ⊎-elim (λ n. absurd (omega arith)) (λ x. up (least p s (suc hi - s)) e l (x .has)) (least-cases p s (suc hi - s))
 
@@ -136,7 +148,8 @@ module _ (t : Table) (q : Query) (hi : ℕ) where
 
     pub account-reach-e : hi < never → (u e : ℕ) → e ≤ hi → accountTime t q hi s u ≤ e → met t (ring t q s e) u ≡ true
     unfolding accountTime
-    account-reach-e fits u = reach-e (λ e. met t (ring t q s e) u) s hi fits (λ a b l. met-mono t u (ring-grows t q (le-refl s) l))
+    account-reach-e fits u =
+        reach-e (λ e. met t (ring t q s e) u) s hi fits (λ a b l. met-mono t u (ring-grows t q (le-refl s) l))
 
     pub row-time : (j : ℕ) → Time s hi (rowTime t q hi s j)
     unfolding rowTime
@@ -161,7 +174,8 @@ module _ (t : Table) (q : Query) (hi : ℕ) where
         (i .to))
         (λ e l h r. let k = row-reach-e fits j e h r in
         let a : accountTime t q hi s (firstOf t j) ≤ e = account-reach-i (firstOf t j) e l h (met-first t q s e j k) in
-        let b : accountTime t q hi s (secondOf t j) ≤ e = account-reach-i (secondOf t j) e l h (met-second t q s e j k) in
+        let b : accountTime t q hi s (secondOf t j) ≤ e =
+        account-reach-i (secondOf t j) e l h (met-second t q s e j k) in
         let d : dayOf t j ≤ e = in-window t q s e j k .to in omega arith)
         (λ e l h r. row-reach-i j e l h
         (two-met t q s e j (record { row = i .row; from = i .from; to = omega arith })
@@ -189,10 +203,13 @@ module _ (t : Table) (q : Query) (hi : ℕ) where
 
     -- a time that is a day of the range is the row's day or later
     pub row-day : hi < never → (j : ℕ) → rowTime t q hi s j ≤ hi → dayOf t j ≤ rowTime t q hi s j
-    row-day fits j h = in-window t q s (rowTime t q hi s j) j (row-reach-e fits j (rowTime t q hi s j) h (le-refl (rowTime t q hi s j))) .to
+    row-day fits j h =
+        in-window t q s (rowTime t q hi s j) j
+        (row-reach-e fits j (rowTime t q hi s j) h (le-refl (rowTime t q hi s j))) .to
 
     -- the rows of the ring of [s, e] are those that e reaches
-    pub ring-size : hi < never → (e : ℕ) → s ≤ e → e ≤ hi → members (ring t q s e) ≡ count (λ j. leb (rowTime t q hi s j) e) (size t)
+    pub ring-size : hi < never → (e : ℕ) → s ≤ e → e ≤ hi
+        → members (ring t q s e) ≡ count (λ j. leb (rowTime t q hi s j) e) (size t)
     unfolding members
     ring-size fits e l h =
         ap (count (marked (ring t q s e))) (ring-sized t q s e)
@@ -211,7 +228,8 @@ module _ (t : Table) (q : Query) (hi : ℕ) where
     account-later u = go (account-time s′ u)
       where
         go : Time s′ hi (accountTime t q hi s′ u) → accountTime t q hi s u ≤ accountTime t q hi s′ u
-        go (_⊎_.inl n) = subst (λ (x : ℕ). accountTime t q hi s u ≤ x) (sym n) (time-le {s = s} {hi = hi} fits (account-time s u))
+        go (_⊎_.inl n) =
+            subst (λ (x : ℕ). accountTime t q hi s u ≤ x) (sym n) (time-le {s = s} {hi = hi} fits (account-time s u))
         go (_⊎_.inr r) =
             account-reach-i s u (accountTime t q hi s′ u) (le-trans later (r .0)) (r .1)
             (met-mono t u (ring-grows t q later (le-refl (accountTime t q hi s′ u)))
@@ -221,18 +239,22 @@ module _ (t : Table) (q : Query) (hi : ℕ) where
     row-later j = go (row-time s′ j)
       where
         go : Time s′ hi (rowTime t q hi s′ j) → rowTime t q hi s j ≤ rowTime t q hi s′ j
-        go (_⊎_.inl n) = subst (λ (x : ℕ). rowTime t q hi s j ≤ x) (sym n) (time-le {s = s} {hi = hi} fits (row-time s j))
+        go (_⊎_.inl n) =
+            subst (λ (x : ℕ). rowTime t q hi s j ≤ x) (sym n) (time-le {s = s} {hi = hi} fits (row-time s j))
         go (_⊎_.inr r) =
             row-reach-i s j (rowTime t q hi s′ j) (le-trans later (r .0)) (r .1)
-            (in-grows t q j later (le-refl (rowTime t q hi s′ j)) (row-reach-e s′ fits j (rowTime t q hi s′ j) (r .1) (le-refl (rowTime t q hi s′ j))))
+            (in-grows t q j later (le-refl (rowTime t q hi s′ j))
+            (row-reach-e s′ fits j (rowTime t q hi s′ j) (r .1) (le-refl (rowTime t q hi s′ j))))
 
     pub account-never : (u : ℕ) → accountTime t q hi s u ≡ never → accountTime t q hi s′ u ≡ never
-    account-never u e = let a = account-later u in let b = time-le {s = s′} {hi = hi} fits (account-time s′ u) in omega arith
+    account-never u e =
+        let a = account-later u in let b = time-le {s = s′} {hi = hi} fits (account-time s′ u) in omega arith
 
     pub row-never : (j : ℕ) → rowTime t q hi s j ≡ never → rowTime t q hi s′ j ≡ never
     row-never j e = let a = row-later j in let b = time-le {s = s′} {hi = hi} fits (row-time s′ j) in omega arith
 
-  pub rows-untimed : hi < never → (s : ℕ) → ((u : ℕ) → u < 4096 → accountTime t q hi s u ≡ never) → (j : ℕ) → firstOf t j < 4096 → rowTime t q hi s j ≡ never
+  pub rows-untimed : hi < never → (s : ℕ) → ((u : ℕ) → u < 4096 → accountTime t q hi s u ≡ never) → (j : ℕ)
+      → firstOf t j < 4096 → rowTime t q hi s j ≡ never
   rows-untimed fits s untimed j l =
       ⊎-elim (λ n. n)
       (λ r.

@@ -23,12 +23,14 @@ use Rattle.rings.specs.Inner.Peeling.{ReadyPruned, estimate}
 use Rattle.rings.specs.declared.frame.Frame.{Frame}
 use Rattle.rings.specs.declared.incident.Incident.{Incident}
 use Rattle.rings.specs.Inner.Settling.{Days, DroppedSupporter, DroppedSupported, Queued}
-use Rattle.rings.specs.Inner.Counting.{timeBy, WhereCounted, PendingHistogram, Taking, CountsBeforeRise, AddAsks, TakeAsks}
+use Rattle.rings.specs.Inner.Counting.{timeBy, WhereCounted, PendingHistogram, Taking, CountsBeforeRise}
+use Rattle.rings.specs.Inner.Counting.{AddAsks, TakeAsks}
 use Rattle.rings.specs.declared.Query.{Query}
 use Rattle.rings.proofs.PeelStateLaws.{estimate-at}
 use Rattle.rings.proofs.PrunedLaws.{reading-out, reading-from, reading-gap}
 use Rattle.rings.proofs.CountingLaws.{counted-so, counted-then, pending-room}
-use Rattle.rings.proofs.SupporterLaws.{DroppingSupported, new-most, dropping-start, dropping-out, dropping-stop, dropping-late, dropping-next}
+use Rattle.rings.proofs.SupporterLaws.{DroppingSupported, new-most, dropping-start, dropping-out}
+use Rattle.rings.proofs.SupporterLaws.{dropping-stop, dropping-late, dropping-next}
 use Rattle.rings.proofs.ShiftLaws.{Shift, rise-start, rise-all, rise-asks, rise-row}
 
 pub record CountedDropping (d f g scratch : List ℕ) (r : Frame) (xs : List ℕ) (u old new tail : ℕ)
@@ -40,7 +42,8 @@ pub record CountedDropping (d f g scratch : List ℕ) (r : Frame) (xs : List ℕ
 
 -- the rows of u are all seen: the counts but for those that moved
 abbrev pub StillPending : List ℕ → List ℕ → List ℕ → Frame → List ℕ → ℕ → ℕ → List ℕ → Type 0
-StillPending d f g r xs new m counts = PendingHistogram (timeBy (tableOf d f g) (estimate xs) (r .start) (r .stop)) (length d) new m counts
+StillPending d f g r xs new m counts =
+    PendingHistogram (timeBy (tableOf d f g) (estimate xs) (r .start) (r .stop)) (length d) new m counts
 
 module _ (d f g scratch : List ℕ) (r : Frame) (R : ReadyPruned d f g scratch r) (xs : List ℕ)
     (len : length xs ≡ 4096) {u : ℕ} (small : u < 4096)
@@ -56,10 +59,12 @@ module _ (d f g scratch : List ℕ) (r : Frame) (R : ReadyPruned d f g scratch r
   new-day = new-most d f g scratch r R xs len small E D old new en tail sp₀ ws₀
 
   -- a row of u that the walk passed over keeps its time
-  over : {i : ℕ} → (i < r .lo) ⊎ (estimate xs (otherOf tt i u) ≡ never) → (i < r .lo) ⊎ (new ≤ estimate xs (otherOf tt i u))
+  over : {i : ℕ} → (i < r .lo) ⊎ (estimate xs (otherOf tt i u) ≡ never)
+      → (i < r .lo) ⊎ (new ≤ estimate xs (otherOf tt i u))
   over o = let m = new-day in ⊎-elim _⊎_.inl (λ z. _⊎_.inr (omega arith)) o
 
-  keeps : {A : Type 0} {i : ℕ} → (i < r .lo) ⊎ (estimate xs (otherOf tt i u) ≡ never) → (i < r .lo) ⊎ ((new ≤ estimate xs (otherOf tt i u)) ⊎ A)
+  keeps : {A : Type 0} {i : ℕ} → (i < r .lo) ⊎ (estimate xs (otherOf tt i u) ≡ never)
+      → (i < r .lo) ⊎ ((new ≤ estimate xs (otherOf tt i u)) ⊎ A)
   keeps o = ⊎-elim _⊎_.inl (λ z. _⊎_.inr (_⊎_.inl z)) (over o)
 
   pub counted-dropping-start : {p : ℕ} {counts₀ : List ℕ}
@@ -94,7 +99,8 @@ module _ (d f g scratch : List ℕ) (r : Frame) (R : ReadyPruned d f g scratch r
           (Z .shift),
     )
 
-    module _ (more : p < last) {it : Incident} (I : RowRead tt scratch (r .lo) u p it) {until : ℕ} (eu : until ≡ min new (r .stop + 1)) where
+    module _ (more : p < last) {it : Incident} (I : RowRead tt scratch (r .lo) u p it) {until : ℕ}
+        (eu : until ≡ min new (r .stop + 1)) where
       pub counted-dropping-stop : until ≤ it .day
           → (DroppedSupported tt (estimate xs) (r .lo) u (length d) old new sp₀ sp × Queued tail sp₀ ws₀ end sp ws)
           × WhereCounted counting (StillPending d f g r xs new m counts) counts₀ counts
@@ -108,7 +114,8 @@ module _ (d f g scratch : List ℕ) (r : Frame) (R : ReadyPruned d f g scratch r
             (Z .shift),
       )
 
-      module _ (before : it .day < until) {z : ℕ} (ez : z ≡ getD xs (it .other) 0) {own time : ℕ} (eo : own ≡ max old (it .day)) (et : time ≡ max own z) where
+      module _ (before : it .day < until) {z : ℕ} (ez : z ≡ getD xs (it .other) 0) {own time : ℕ}
+          (eo : own ≡ max old (it .day)) (et : time ≡ max own z) where
         z-is : z ≡ estimate xs (otherOf tt (it .row) u)
         z-is = ez ∙ (sym (estimate-at xs (it .other) len (I .small)) ∙ ap (estimate xs) (I .other))
 
@@ -118,8 +125,11 @@ module _ (d f g scratch : List ℕ) (r : Frame) (R : ReadyPruned d f g scratch r
         from : Z .b ≤ it .row
         from = reading-from d f g scratch (R .sound) (R .pruned) small (Z .dropping .reading) ee more (I .row)
 
-        gap : (i : ℕ) → Z .b ≤ i → i < it .row → touches tt i u ≡ true → (i < r .lo) ⊎ (new ≤ estimate xs (otherOf tt i u))
-        gap i a k o = over (reading-gap d f g scratch (R .sound) (R .pruned) small (Z .dropping .reading) ee more (I .row) E i a k o)
+        gap : (i : ℕ) → Z .b ≤ i → i < it .row → touches tt i u ≡ true
+            → (i < r .lo) ⊎ (new ≤ estimate xs (otherOf tt i u))
+        gap i a k o =
+            over (reading-gap d f g scratch (R .sound) (R .pruned) small (Z .dropping .reading) ee more
+            (I .row) E i a k o)
 
         module _ {test : Bool} (y : test ≡ ltb z new) where
           yes : test ≡ true → (r .lo ≤ it .row) × (z < new)
@@ -131,7 +141,8 @@ module _ (d f g scratch : List ℕ) (r : Frame) (R : ReadyPruned d f g scratch r
           pub counted-dropping-asks : counting ≡ true → TakeAsks test time m counts
           counted-dropping-asks h =
               let dd = I .day in
-              rise-asks tt q (r .start) (r .stop) (r .lo) (R .setting) u old new xs small (Z .shift .counted h) from (I .below)
+              rise-asks tt q (r .start) (r .stop) (r .lo) (R .setting) u old new xs small
+              (Z .shift .counted h) from (I .below)
               (I .touch) gap (omega arith) (omega arith) z-is (omega arith) yes not z-day new-day (R .sound .most)
 
           pub counted-dropping-next : {dropped : Bool} {end′ m′ : ℕ} {sp′ ws′ counts′ : List ℕ}
@@ -139,16 +150,22 @@ module _ (d f g scratch : List ℕ) (r : Frame) (R : ReadyPruned d f g scratch r
               → dropped ≡ (leb own z && ltb z new)
               → DroppedSupporter (it .leads && dropped) (it .other) end sp ws sp′ ws′ end′
               → WhereCounted counting (Taking test time m counts counts′ m′) counts counts′
-              → CountedDropping d f g scratch r xs u old new tail sp₀ ws₀ counting counts₀ (p + 1) end′ m′ sp′ ws′ counts′
+              → CountedDropping d f g scratch r xs u old new tail sp₀ ws₀ counting counts₀
+              (p + 1) end′ m′ sp′ ws′ counts′
           counted-dropping-next room el L T =
               let dd = I .day in
               record {
                 b = it .row + 1;
                 late = let a = Z .late in let c = from in omega arith;
-                dropping = dropping-next d f g scratch r R xs len small E D old new en tail sp₀ ws₀ (Z .dropping) ee more I room ez eo el L;
+                dropping =
+                    dropping-next d f g scratch r R xs len small E D old new en tail sp₀ ws₀
+                    (Z .dropping) ee more I room ez eo el L;
                 shift = counted-then (Z .shift) (record {
-                  counted = λ h. rise-row tt q (r .start) (r .stop) (r .lo) (R .setting) u old new xs small (Z .shift .counted h) from (I .below)
-                      (I .touch) gap (omega arith) (omega arith) z-is (omega arith) yes not z-day new-day (T .counted h);
+                  counted = λ h.
+                      rise-row tt q (r .start) (r .stop) (r .lo) (R .setting) u old new xs small
+                      (Z .shift .counted h) from (I .below)
+                      (I .touch) gap (omega arith) (omega arith) z-is (omega arith) yes not z-day new-day
+                      (T .counted h);
                   same = T .same;
                 });
               }
@@ -162,4 +179,5 @@ pub counted-dropping-adds : {d f g scratch : List ℕ} (xs : List ℕ) {r : Fram
     → r .stop ≤ 1024
     → StillPending d f g r xs new m counts
     → AddAsks m new counts
-counted-dropping-adds xs {u = u} R small D en top O = pending-room O (R .sound .most) (⊎-elim (λ y. _⊎_.inl (omega arith)) (λ y. _⊎_.inr (en ∙ y)) (D u small))
+counted-dropping-adds xs {u = u} R small D en top O =
+    pending-room O (R .sound .most) (⊎-elim (λ y. _⊎_.inl (omega arith)) (λ y. _⊎_.inr (en ∙ y)) (D u small))

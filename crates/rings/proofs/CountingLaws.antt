@@ -44,7 +44,10 @@ use Rattle.rings.proofs.PeelStateLaws.{estimate-at}
 module _ (t : Table) (x : ℕ → ℕ) (s hi j : ℕ) where
   pub by-in : Opens t s hi j → timeBy t x s hi j ≡ max (max (x (firstOf t j)) (x (secondOf t j))) (openDay t s j)
   unfolding timeBy
-  by-in o = ap (λ (c : Bool). elim c [ true ↦ max (max (x (firstOf t j)) (x (secondOf t j))) (openDay t s j) | false ↦ never ]) (opens-i t s hi j o)
+  by-in o =
+      ap
+      (λ (c : Bool). elim c [ true ↦ max (max (x (firstOf t j)) (x (secondOf t j))) (openDay t s j) | false ↦ never ])
+      (opens-i t s hi j o)
 
   by-shut : opensBy t s hi j ≡ false → timeBy t x s hi j ≡ never
   unfolding timeBy
@@ -111,7 +114,9 @@ unfolding count
 count-past p m zero l h = ap (count p) (let e : 0 ≡ m = omega arith in e)
 count-past p m (suc n) l h =
     ⊎-elim (λ e. ap (count p) (sym e))
-    (λ k. sucIf-no (count p n) (h n (omega arith) (le-refl (suc n))) ∙ count-past p m n (omega arith) (λ i a b. h i a (omega arith))) (eq-or-lt-of-le l)
+    (λ k. sucIf-no (count p n) (h n (omega arith) (le-refl (suc n)))
+    ∙ count-past p m n (omega arith) (λ i a b. h i a (omega arith)))
+    (eq-or-lt-of-le l)
 
 module _ (g : ℕ → ℕ) where
   abbrev has : ℕ → ℕ → Bool
@@ -151,7 +156,9 @@ module _ (g : ℕ → ℕ) where
     hist-next {v} {xs′} e A =
         record {
           long = added-long A ∙ T .long;
-          each = λ a h. subst (λ (i : ℕ). getD xs′ a 0 ≡ count (has a) i) (sym (add-one n)) (⊎-elim (λ y. here a h y) (λ y. else a h y) (same-or a v));
+          each = λ a h.
+              subst (λ (i : ℕ). getD xs′ a 0 ≡ count (has a) i) (sym (add-one n))
+              (⊎-elim (λ y. here a h y) (λ y. else a h y) (same-or a v));
         }
       where
         added-long : {m v : ℕ} {xs xs′ : List ℕ} → Adding m v xs xs′ → length xs′ ≡ length xs
@@ -160,7 +167,9 @@ module _ (g : ℕ → ℕ) where
 
         put-here : Adding 1 v xs xs′ → v < 1025 → getD xs′ v 0 ≡ getD xs v 0 + 1
         put-here (Adding.pass h e) l = absurd (omega arith)
-        put-here (Adding.some h e) l = ap (λ (ys : List ℕ). getD ys v 0) e ∙ getD-set-same xs v (getD xs v 0 + 1) 0 (let o = T .long in omega arith)
+        put-here (Adding.some h e) l =
+            ap (λ (ys : List ℕ). getD ys v 0) e
+            ∙ getD-set-same xs v (getD xs v 0 + 1) 0 (let o = T .long in omega arith)
 
         put-else : Adding 1 v xs xs′ → (e : ℕ) → (e ≡ v → ⊥) → getD xs′ e 0 ≡ getD xs e 0
         put-else (Adding.pass h i) e o = ap (λ (ys : List ℕ). getD ys e 0) i
@@ -177,7 +186,11 @@ module _ (g : ℕ → ℕ) where
 
     -- the rows from n on have no time
     pub hist-past : {m : ℕ} → n ≤ m → ((j : ℕ) → n ≤ j → j < m → g j ≡ never) → Histogram g m xs
-    hist-past {m} l none = record { long = T .long; each = λ e h. T .each e h ∙ sym (count-past (has e) n m l (λ i a b. never-not e i h (none i a b))) }
+    hist-past {m} l none =
+        record {
+          long = T .long;
+          each = λ e h. T .each e h ∙ sym (count-past (has e) n m l (λ i a b. never-not e i h (none i a b)));
+        }
 
 pub hist-same : {g g′ : ℕ → ℕ} {n : ℕ} {xs : List ℕ} → ((j : ℕ) → j < n → g′ j ≡ g j) → Histogram g n xs → Histogram g′ n xs
 hist-same {g} {g′} {n} same T =
@@ -337,9 +350,12 @@ module _ {g : ℕ → ℕ} {n : ℕ} {xs : List ℕ} (T : Histogram g n xs) {j v
 
 -- ---- what `take_from_histogram` does
 
-module _ (xs : List ℕ) {test : Bool} {time e more : ℕ} (w : Picked test time 0 e) (o : Picked test 1 0 more) (ask : test ≡ true → HasOne time xs) where
+module _ (xs : List ℕ) {test : Bool} {time e more : ℕ} (w : Picked test time 0 e) (o : Picked test 1 0 more)
+    (ask : test ≡ true → HasOne time xs) where
   pub take-place : length xs ≡ 1025 → e < length xs
-  take-place l = ⊎-elim (λ y. let a = w .yes y in let b = ask y .in-days in omega arith) (λ y. let a = w .no y in omega arith) (true-or-false test)
+  take-place l =
+      ⊎-elim (λ y. let a = w .yes y in let b = ask y .in-days in omega arith) (λ y. let a = w .no y in omega arith)
+      (true-or-false test)
 
   pub take-less : more ≤ getD xs e 0
   take-less =

@@ -4,7 +4,8 @@
 --     span-after, span-of      the rows of a window
 --     heads-on       the heads can go on to a day, from the first rows
 --     setting-of     what peeling works on
---     ready-of, framed-of, ready-pairs-of, ready-pruned-of, ready-framed, ready-pruned-framed, pruned-paired    with an adjacency, with a part of it, with none
+--     ready-of, framed-of, ready-pairs-of, ready-pruned-of, ready-framed, ready-pruned-framed, pruned-paired    with
+--     an adjacency, with a part of it, with none
 --     rising-all     days never fall, over any distance
 -- Assumes nothing.
 use Prim.Native.Nat.{ℕ, zero, suc, _+_, _≤_, _<_}
@@ -32,7 +33,8 @@ pub record LinearSearch (d : List ℕ) (day r : ℕ) : Type 0 where
 pub linear-on : {d : List ℕ} {s lo : ℕ} → Split d s lo → LinearSearch d (s + 1) lo
 linear-on S = record { within = S .within; before = λ j h. let k = S .before j h in omega arith }
 
-pub linear-next : {d : List ℕ} {day r : ℕ} → LinearSearch d day r → r < length d → getD d r 0 < day → LinearSearch d day (r + 1)
+pub linear-next : {d : List ℕ} {day r : ℕ} → LinearSearch d day r → r < length d → getD d r 0 < day
+    → LinearSearch d day (r + 1)
 linear-next {d} {day} {r} S l h =
     record {
       within = omega arith;
@@ -63,7 +65,8 @@ binary-start d day =
       after = λ j a b. absurd (omega arith);
     }
 
-module _ {d : List ℕ} (up : NeverFall d) {day low high middle : ℕ} (H : BinarySearch d day low high) (a : low ≤ middle) (b : middle < high) where
+module _ {d : List ℕ} (up : NeverFall d) {day low high middle : ℕ} (H : BinarySearch d day low high)
+    (a : low ≤ middle) (b : middle < high) where
   pub binary-up : getD d middle 0 < day → BinarySearch d day (middle + 1) high
   binary-up h =
       let w = H .within in
@@ -91,7 +94,8 @@ binary-end {d} {day} {low} {high} H h =
     record { within = omega arith; before = H .before; after = λ j a b. H .after j (omega arith) b }
 
 pub linear-found : {d : List ℕ} {day r : ℕ} → NeverFall d → LinearSearch d day r → day ≤ getD d r 0 → Split d day r
-linear-found {d} {day} {r} up S h = record { within = S .within; before = S .before; after = λ j a b. le-trans h (rising-all d up r j a b) }
+linear-found {d} {day} {r} up S h =
+    record { within = S .within; before = S .before; after = λ j a b. le-trans h (rising-all d up r j a b) }
 
 pub linear-end : {d : List ℕ} {day r : ℕ} → LinearSearch d day r → length d ≤ r → Split d day r
 linear-end S h = record { within = S .within; before = S .before; after = λ j a b. absurd (omega arith) }
@@ -119,7 +123,8 @@ split-none : (d : List ℕ) → Split d 0 0
 split-none d = record { within = omega arith; before = λ j h. absurd (not-suc-le-zero h); after = λ j a b. omega arith }
 
 -- the heads of an adjacency that was just made, or of one whose heads went back, go on to a day
-pub heads-on : {d f s sc : List ℕ} {day next : ℕ} → Sound d f s → Adjacency (tableOf d f s) 0 sc → Split d day next → HeadsAt d f s sc 0 day 0 next
+pub heads-on : {d f s sc : List ℕ} {day next : ℕ} → Sound d f s → Adjacency (tableOf d f s) 0 sc
+    → Split d day next → HeadsAt d f s sc 0 day 0 next
 heads-on {d} S L N = record { sound = S; adjacency = L; ordered = omega arith; first = split-none d; last = N }
 
 pub span-of : {d : List ℕ} {s e lo end : ℕ} → s ≤ e → Split d s lo → Split d (e + 1) end → Span d e lo end

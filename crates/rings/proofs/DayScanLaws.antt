@@ -1,7 +1,8 @@
 -- The walk of `scan_on_day` (src/scan.rt) in the adjacency, and what it notes of a row without a branch.
 --     row-noted                   what `note_row` computes without a branch
 --     both, not-first, not-second, bit-is         two tests at once
---     DayScanning, day-scan-start, day-scan-out, day-scan-over, day-scan-mark, day-scan-few, day-scan-most     the walk of `scan_on_day` in the adjacency
+--     DayScanning, day-scan-start, day-scan-out, day-scan-over, day-scan-mark, day-scan-few, day-scan-most     the
+--     walk of `scan_on_day` in the adjacency
 -- Assumes nothing.
 use Prim.Native.Nat.{ℕ, max, _+_, _-_, _≤_, _<_}
 use native.Mathlib.Nat.{le-refl}
@@ -18,7 +19,7 @@ use Rattle.rings.specs.Table.{Table, tableOf, dayOf}
 use Rattle.rings.specs.Ring.{touches}
 use Rattle.rings.specs.CoreTimes.{never}
 use Rattle.rings.specs.Inner.Choice.{Picked}
-use Rattle.rings.specs.Inner.Adjacency.{otherOf, leads, Reading, Every}
+use Rattle.rings.specs.Inner.Adjacency.{otherOf, Reading, Every}
 use Rattle.rings.specs.Inner.Incident.{RowRead}
 use Rattle.rings.specs.Inner.Peeling.{ReadyPruned, estimate}
 use Rattle.rings.specs.declared.frame.Frame.{Frame}
@@ -27,7 +28,8 @@ use Rattle.rings.specs.Inner.Settling.{value, backers, Days, RowsScanned
 use Rattle.rings.proofs.WordLaws.{true-or-false, sucIf-yes, sucIf-no}
 use Rattle.rings.proofs.PeelStateLaws.{estimate-at}
 use Rattle.rings.proofs.PrunedLaws.{reading-out, reading-from, reading-gap, reading-next}
-use Rattle.rings.proofs.ScanLaws.{scanned-start, scanned-out, scanned-stop, scanned-count, scanned-not-lead, scanned-note}
+use Rattle.rings.proofs.ScanLaws.{scanned-start, scanned-out, scanned-stop, scanned-count, scanned-not-lead}
+use Rattle.rings.proofs.ScanLaws.{scanned-note}
 
 -- ---- one row more, without a branch
 
@@ -59,7 +61,9 @@ row-noted y z c n above more {a} {b} {e} {i} {m} up A B I E M =
   where
     soon : z ≤ c → leb z c ≡ true → RowNoted y z c n above more (n + a) b m
     soon l g =
-        let none : e ≡ 0 = E .no (not-first y (⊎-elim (λ h. let k = eqb-true z above h in absurd (omega arith)) (λ h. h) (true-or-false (eqb z above)))) in
+        let none : e ≡ 0 = E .no (not-first y
+        (⊎-elim (λ h. let k = eqb-true z above h in absurd (omega arith)) (λ h. h)
+        (true-or-false (eqb z above)))) in
         let past : (not (leb z c) && ltb z above) ≡ false = not-first (ltb z above) (ap not g) in
         RowNoted.back l (bit-is (leb z c) y n g A) (B .no past) (let k = M .no past in omega arith)
 
@@ -104,7 +108,8 @@ module _ (d f g scratch : List ℕ) (r : Frame) (R : ReadyPruned d f g scratch r
             (let h = R .setting .fits in omega arith);
       }
 
-  module _ {p n above more end : ℕ} (G : DayScanning d f g scratch r xs u c p n above more) (ee : end ≡ getD scratch u 0) where
+  module _ {p n above more end : ℕ} (G : DayScanning d f g scratch r xs u c p n above more)
+      (ee : end ≡ getD scratch u 0) where
     day-scan-count : n + more ≤ G .b
     day-scan-count = G .scanned .few
 
@@ -120,11 +125,14 @@ module _ (d f g scratch : List ℕ) (r : Frame) (R : ReadyPruned d f g scratch r
       from : G .b ≤ it .row
       from = reading-from d f g scratch (R .sound) (R .pruned) small (G .reading) ee here (I .row)
 
-      gap : (i : ℕ) → G .b ≤ i → i < it .row → touches tt i u ≡ true → (i < r .lo) ⊎ (estimate xs (otherOf tt i u) ≡ never)
+      gap : (i : ℕ) → G .b ≤ i → i < it .row → touches tt i u ≡ true
+          → (i < r .lo) ⊎ (estimate xs (otherOf tt i u) ≡ never)
       gap = reading-gap d f g scratch (R .sound) (R .pruned) small (G .reading) ee here (I .row) E
 
       pub day-scan-few : (n < 16384) × (more < 16384) × (c < above)
-      day-scan-few = let a = day-scan-count in let b = I .below in let c = from in let h = R .sound .most in (omega arith, omega arith, G .scanned .rises)
+      day-scan-few =
+          let a = day-scan-count in
+          let b = I .below in let c = from in let h = R .sound .most in (omega arith, omega arith, G .scanned .rises)
 
       -- the walk began at lo
       day-scan-late : r .lo ≤ it .row
@@ -150,11 +158,14 @@ module _ (d f g scratch : List ℕ) (r : Frame) (R : ReadyPruned d f g scratch r
         where
           all : n ≡ backers tt (estimate xs) (r .lo) c u (length d)
           all =
-              scanned-count tt (r .query) (r .start) (r .stop) (r .lo) (R .setting) (estimate xs) (G .scanned) (it .row) from gap
-              (λ i a k. let e = I .day in let y = R .setting .rising (it .row) i a k in let z = o .0 in omega arith) (let b = I .below in omega arith)
+              scanned-count tt (r .query) (r .start) (r .stop) (r .lo) (R .setting) (estimate xs) (G .scanned)
+              (it .row) from gap
+              (λ i a k. let e = I .day in let y = R .setting .rising (it .row) i a k in let z = o .0 in omega arith)
+              (let b = I .below in omega arith)
 
       -- the walk goes on behind this row
-      day-scan-on : {n′ above′ more′ : ℕ} → RowsScanned tt (estimate xs) (r .lo) (r .stop) c u (it .row + 1) n′ above′ more′
+      day-scan-on : {n′ above′ more′ : ℕ}
+          → RowsScanned tt (estimate xs) (r .lo) (r .stop) c u (it .row + 1) n′ above′ more′
           → DayScanning d f g scratch r xs u c (p + 1) n′ above′ more′
       day-scan-on N =
           record {
@@ -172,7 +183,8 @@ module _ (d f g scratch : List ℕ) (r : Frame) (R : ReadyPruned d f g scratch r
           (scanned-not-lead tt (r .query) (r .start) (r .stop) (r .lo) (R .setting) (estimate xs) (G .scanned)
           (it .row) from gap (sym (I .leads day-scan-late) ∙ h) N)
 
-      day-scan-note : {z n′ above′ more′ : ℕ} → it .leads ≡ true → it .day ≤ r .stop → z ≡ max (getD xs (it .other) 0) (it .day)
+      day-scan-note : {z n′ above′ more′ : ℕ} → it .leads ≡ true → it .day ≤ r .stop
+          → z ≡ max (getD xs (it .other) 0) (it .day)
           → RowNoted true z c n above more n′ above′ more′ → DayScanning d f g scratch r xs u c (p + 1) n′ above′ more′
       unfolding value
       day-scan-note {z} h l ez N =
@@ -187,10 +199,15 @@ module _ (d f g scratch : List ℕ) (r : Frame) (R : ReadyPruned d f g scratch r
               let o = I .day in omega arith
 
           in-range : (z ≤ r .stop) ⊎ (z ≡ never)
-          in-range = let o = R .setting .fits in ⊎-elim (λ k. _⊎_.inl (omega arith)) (λ k. _⊎_.inr (omega arith)) (D (it .other) (I .small))
+          in-range =
+              let o = R .setting .fits in
+              ⊎-elim (λ k. _⊎_.inl (omega arith)) (λ k. _⊎_.inr (omega arith)) (D (it .other) (I .small))
 
-      pub day-scan-mark : {z w n′ above′ more′ : ℕ} → it .day ≤ r .stop → z ≡ max (getD xs (it .other) 0) (it .day) → Picked (it .leads) z never w
+      pub day-scan-mark : {z w n′ above′ more′ : ℕ} → it .day ≤ r .stop
+          → z ≡ max (getD xs (it .other) 0) (it .day) → Picked (it .leads) z never w
           → RowNoted true w c n above more n′ above′ more′ → DayScanning d f g scratch r xs u c (p + 1) n′ above′ more′
       day-scan-mark {n′ = n′} {above′ = above′} {more′ = more′} l ez B N =
-          ⊎-elim (λ h. day-scan-note h l ez (subst (λ (i : ℕ). RowNoted true i c n above more n′ above′ more′) (B .yes h) N))
-          (λ h. day-scan-skip h (subst (λ (i : ℕ). RowNoted true i c n above more n′ above′ more′) (B .no h) N)) (true-or-false (it .leads))
+          ⊎-elim (λ h. day-scan-note h l ez
+          (subst (λ (i : ℕ). RowNoted true i c n above more n′ above′ more′) (B .yes h) N))
+          (λ h. day-scan-skip h (subst (λ (i : ℕ). RowNoted true i c n above more n′ above′ more′) (B .no h) N))
+          (true-or-false (it .leads))

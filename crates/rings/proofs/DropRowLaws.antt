@@ -59,7 +59,8 @@ module _ (d f g : List ℕ) (q : Query) (s te lo : ℕ) (S : Setting (tableOf d 
       mixed-below at-s later lo i h ∙ (gone i (omega arith) ∙ sym (row-before ts q te s i (S .before-lo i h))))
       (λ y. mixed-from at-s later lo i (ltb-false i lo y)) (true-or-false (ltb i lo)))
 
-  module _ {j : ℕ} (h : j < next) (top : te ≤ 1024) {v : ℕ} (e : v ≡ at-s j) {counts : List ℕ} (D : Dropping j counts) where
+  module _ {j : ℕ} (h : j < next) (top : te ≤ 1024) {v : ℕ} (e : v ≡ at-s j) {counts : List ℕ}
+      (D : Dropping j counts) where
     here : j < length d
     here = let a = N .within in omega arith
 
@@ -72,7 +73,9 @@ module _ (d f g : List ℕ) (q : Query) (s te lo : ℕ) (S : Setting (tableOf d 
     pub drop-next : {counts′ : List ℕ} → Removing v counts counts′ → Dropping (j + 1) counts′
     drop-next =
         hist-drop D here is (is-time ts q te s j top e) (mixed-below at-s later (j + 1) j (omega arith) ∙ gone j h)
-        (λ a n. ⊎-elim (λ y. let l = ltb-true a j y in mixed-below at-s later (j + 1) a (omega arith) ∙ sym (mixed-below at-s later j a l))
+        (λ a n. ⊎-elim
+        (λ y. let l = ltb-true a j y in
+        mixed-below at-s later (j + 1) a (omega arith) ∙ sym (mixed-below at-s later j a l))
         (λ y. let l = ltb-false a j y in
         mixed-from at-s later (j + 1) a (⊎-elim (λ o. absurd (n (sym o))) (λ o. omega arith) (eq-or-lt-of-le l))
         ∙ sym (mixed-from at-s later j a l))

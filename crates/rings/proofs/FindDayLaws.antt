@@ -15,7 +15,8 @@ use Rattle.rings.specs.Table.{Table, size}
 use Rattle.rings.specs.CoreTimes.{never}
 use Rattle.rings.specs.Inner.Support.{supporters}
 use Rattle.rings.specs.Inner.Peeling.{Setting}
-use Rattle.rings.specs.Inner.Settling.{value, backing, backers, RowsScanned, DayScanned, Short, SlackAbove, DayFound}
+use Rattle.rings.specs.Inner.Settling.{value, backing, backers, RowsScanned, DayScanned, Short, SlackAbove}
+use Rattle.rings.specs.Inner.Settling.{DayFound}
 use Rattle.rings.specs.declared.Query.{Query}
 use Rattle.rings.proofs.WordLaws.{true-or-false, count-mono}
 use Rattle.rings.proofs.FixpointLaws.{enough}
@@ -25,7 +26,8 @@ module _ (t : Table) (q : Query) (s hi lo : ℕ) (S : Setting t q s hi lo) (x : 
   -- ---- from day to day
 
   -- no row comes in between c and above
-  same-between : {c u n above more : ℕ} → RowsScanned t x lo hi c u (size t) n above more → (a : ℕ) → c ≤ a → a < above → a ≤ hi → supporters t x s a u ≤ n
+  same-between : {c u n above more : ℕ} → RowsScanned t x lo hi c u (size t) n above more → (a : ℕ) → c ≤ a
+      → a < above → a ≤ hi → supporters t x s a u ≤ n
   unfolding backers value
   same-between {c} {u} {n} {above} {more} W a l h top =
       let e = W .counted in
@@ -50,7 +52,8 @@ module _ (t : Table) (q : Query) (s hi lo : ℕ) (S : Setting t q s hi lo) (x : 
   pub few-start : (c u : ℕ) → Few c c u
   few-start c u a h l = absurd (omega arith)
 
-  few-next : {c₀ c u n above more : ℕ} → Few c₀ c u → RowsScanned t x lo hi c u (size t) n above more → n < q .k → Few c₀ above u
+  few-next : {c₀ c u n above more : ℕ} → Few c₀ c u → RowsScanned t x lo hi c u (size t) n above more → n < q .k
+      → Few c₀ above u
   few-next {c₀} {c} {u} {n} {above} {more} F W h a l k top =
       ⊎-elim (λ y. let g = same-between W a (leb-true c a y) k top in omega arith) (λ y. F a l (leb-false c a y) top)
       (true-or-false (leb c a))
@@ -103,14 +106,20 @@ module _ (t : Table) (q : Query) (s hi lo : ℕ) (S : Setting t q s hi lo) (x : 
   find-day-found {c₀} {c} {u} {n} {m = m} F o G h top e =
       let g = backers-are t q s hi lo S x c u in
       let b : n ≤ backers t x lo c u (size t) = counted G in
-      record { least = record { from = o; fewer = F; enough = _⊎_.inr (top, omega arith) }; known = omega arith; enough = _⊎_.inr (omega arith) }
+      record {
+        least = record { from = o; fewer = F; enough = _⊎_.inr (top, omega arith) };
+        known = omega arith;
+        enough = _⊎_.inr (omega arith);
+      }
     where
-      counted : {above more : ℕ} → DayScanned t x lo hi c u (size t) (q .k) n above more → n ≤ backers t x lo c u (size t)
+      counted : {above more : ℕ} → DayScanned t x lo hi c u (size t) (q .k) n above more
+          → n ≤ backers t x lo c u (size t)
       counted (DayScanned.full a b) = b
       counted (DayScanned.scanned W) = let z = W .counted in omega arith
 
   pub find-day-never : {c₀ c u m : ℕ} → Few c₀ c u → c₀ ≤ c → c ≡ never → m ≡ 1 → DayFound t x s (q .k) hi c₀ u c m
-  find-day-never F o e g = record { least = record { from = o; fewer = F; enough = _⊎_.inl e }; known = omega arith; enough = _⊎_.inl e }
+  find-day-never F o e g =
+      record { least = record { from = o; fewer = F; enough = _⊎_.inl e }; known = omega arith; enough = _⊎_.inl e }
 
   -- the same in the words of the contracts
   pub short-start : (c u : ℕ) → (c ≤ hi) ⊎ (c ≡ never) → Short t x s (q .k) hi c u c
@@ -121,7 +130,9 @@ module _ (t : Table) (q : Query) (s hi lo : ℕ) (S : Setting t q s hi lo) (x : 
       → DayScanned t x lo hi c u (size t) (q .k) n above more
       → n < q .k
       → Short t x s (q .k) hi c₀ u above
-  short-next H G m = let L = find-day-next (H .fewer) G m in record { from = let a = L .1 in let b = H .from in omega arith; day = L .2; fewer = L .0 }
+  short-next H G m =
+      let L = find-day-next (H .fewer) G m in
+      record { from = let a = L .1 in let b = H .from in omega arith; day = L .2; fewer = L .0 }
 
   -- one walk, and it has enough on the day above
   pub find-day-near : {c u n above more both m : ℕ}
@@ -131,6 +142,8 @@ module _ (t : Table) (q : Query) (s hi lo : ℕ) (S : Setting t q s hi lo) (x : 
       → SlackAbove above both (q .k) m
       → (m ≡ 0 → ⊥)
       → DayFound t x s (q .k) hi c u above m
-  find-day-near {c} {u} G few e (SlackAbove.none h k) o = let L = find-day-next (few-start c u) G few in find-day-never (L .0) (let a = L .1 in omega arith) h k
-  find-day-near {c} {u} G few e (SlackAbove.some h k i) o = find-day-then (few-start c u) (le-refl c) G few h (omega arith) (omega arith)
+  find-day-near {c} {u} G few e (SlackAbove.none h k) o =
+      let L = find-day-next (few-start c u) G few in find-day-never (L .0) (let a = L .1 in omega arith) h k
+  find-day-near {c} {u} G few e (SlackAbove.some h k i) o =
+      find-day-then (few-start c u) (le-refl c) G few h (omega arith) (omega arith)
   find-day-near G few e (SlackAbove.few h k i) o = absurd (o i)

@@ -25,7 +25,8 @@ use Rattle.rings.specs.CoreTimes.{never, accountTime}
 use Rattle.rings.specs.Inner.Adjacency.{opensBy}
 use Rattle.rings.specs.Inner.Support.{backs, supports, supporters}
 use Rattle.rings.specs.declared.Query.{Query}
-use Rattle.rings.proofs.WordLaws.{and-i, and-l, and-r, some-i, some-e, count-mono, count-some, marked-tabulate-e, marked-tabulate-i}
+use Rattle.rings.proofs.WordLaws.{and-i, and-l, and-r, some-i, some-e, count-mono, count-some}
+use Rattle.rings.proofs.WordLaws.{marked-tabulate-e, marked-tabulate-i}
 use Rattle.rings.proofs.RingLaws.{window-i, touch-cases, joins-cases, joins-touch, met-i, met-e, met-mono}
 use Rattle.rings.proofs.RingLaws.{neighbour-i, neighbour-e, ring-degree, ring-holds, ring-grows, in-marked}
 use Rattle.rings.proofs.LeadLaws.{Opens, opens-e, opens-i, ring-opens, open-own}
@@ -67,7 +68,8 @@ supports-i t x s c u v b =
 
 module _ (t : Table) (q : Query) (hi s : ℕ) (x : ℕ → ℕ) where
   -- (A)
-  pub enough : Lower t q hi s x → (u c : ℕ) → s ≤ c → c ≤ hi → met t (ring t q s c) u ≡ true → q .k ≤ supporters t x s c u
+  pub enough : Lower t q hi s x → (u c : ℕ) → s ≤ c → c ≤ hi → met t (ring t q s c) u ≡ true
+      → q .k ≤ supporters t x s c u
   unfolding supporters degree
   enough low u c l h m =
       le-trans (ring-degree t q s c u m)
@@ -79,7 +81,9 @@ module _ (t : Table) (q : Query) (hi s : ℕ) (x : ℕ → ℕ) where
         below = y .below;
         join = y .join;
         opens = ring-opens t q s c (y .row) (in-marked t q s c (y .row) (y .has));
-        other = low .under v c l h (met-i t (ring t q s c) (y .row) v (y .below) (y .has) (joins-touch t (y .row) u v (y .join) .1));
+        other =
+            low .under v c l h
+            (met-i t (ring t q s c) (y .row) v (y .below) (y .has) (joins-touch t (y .row) u v (y .join) .1));
       })))
 
   module _ (fits : hi < never) (closed : (u : ℕ) → Closed t q s x u) where
@@ -111,7 +115,9 @@ module _ (t : Table) (q : Query) (hi s : ℕ) (x : ℕ → ℕ) where
 
     held-i : (c j : ℕ) → Held c j → held c j ≡ true
     unfolding held
-    held-i c j h = and-i (opens-i t s c j (h .opens)) (and-i (le-leb (x (firstOf t j)) c (h .one)) (le-leb (x (secondOf t j)) c (h .two)))
+    held-i c j h =
+        and-i (opens-i t s c j (h .opens))
+        (and-i (le-leb (x (firstOf t j)) c (h .one)) (le-leb (x (secondOf t j)) c (h .two)))
 
     core : ℕ → List Bool
     core c = tabulate (held c) 0 (size t)
@@ -125,7 +131,11 @@ module _ (t : Table) (q : Query) (hi s : ℕ) (x : ℕ → ℕ) where
         let o : Opens t s c (b .row) = record { from = b .opens .from; to = omega arith } in
         marked-tabulate-i (held c) (size t) (b .row) (b .below)
         (held-i c (b .row)
-        (⊎-elim (λ e. record { opens = o; one = subst (λ (a : ℕ). x a ≤ c) (sym (e .0)) l; two = subst (λ (a : ℕ). x a ≤ c) (sym (e .1)) (omega arith) })
+        (⊎-elim (λ e. record {
+          opens = o;
+          one = subst (λ (a : ℕ). x a ≤ c) (sym (e .0)) l;
+          two = subst (λ (a : ℕ). x a ≤ c) (sym (e .1)) (omega arith);
+        })
         (λ e. record {
           opens = o;
           one = subst (λ (a : ℕ). x a ≤ c) (sym (e .0)) (omega arith);
@@ -138,7 +148,8 @@ module _ (t : Table) (q : Query) (hi s : ℕ) (x : ℕ → ℕ) where
     core-degree c u h l =
         le-trans (closed-enough u (le-trans l h))
         (count-mono (supports t x s (x u) u) (neighbour t (core c) u) (names t)
-        (λ v o n. let b = supports-e t x s (x u) u v n in neighbour-i t (core c) (b .row) u v (b .below) (core-row c u v l b) (b .join)))
+        (λ v o n. let b = supports-e t x s (x u) u v n in
+        neighbour-i t (core c) (b .row) u v (b .below) (core-row c u v l b) (b .join)))
 
     core-within : (c : ℕ) → Within (core c) (windowRows t s c)
     unfolding core
@@ -183,7 +194,8 @@ module _ (t : Table) (q : Query) (hi s : ℕ) (x : ℕ → ℕ) where
         le-trans (b .opens .from) (le-trans (open-own t s (b .row)) (b .opens .to))
 
     -- lower and closed everywhere: the core times
-    pub fixpoint : 1 ≤ q .k → ((u : ℕ) → (x u ≤ hi) ⊎ (x u ≡ never)) → Lower t q hi s x → (u : ℕ) → x u ≡ accountTime t q hi s u
+    pub fixpoint : 1 ≤ q .k → ((u : ℕ) → (x u ≤ hi) ⊎ (x u ≡ never)) → Lower t q hi s x → (u : ℕ)
+        → x u ≡ accountTime t q hi s u
     fixpoint k days low u = go (days u) (account-time t q hi s u)
       where
         a : ℕ
@@ -216,4 +228,8 @@ module _ (t : Table) (q : Query) (hi s : ℕ) (fits : hi < never) where
 
   -- the core times at s are lower at a later start
   pub lower-next : (s′ : ℕ) → s ≤ s′ → Lower t q hi s′ (accountTime t q hi s)
-  lower-next s′ l = record { under = λ u c o h m. account-reach-i t q hi s u c (le-trans l o) h (met-mono t u (ring-grows t q l (le-refl c)) m) }
+  lower-next s′ l =
+      record {
+        under = λ u c o h m. account-reach-i t q hi s u c (le-trans l o) h
+            (met-mono t u (ring-grows t q l (le-refl c)) m);
+      }

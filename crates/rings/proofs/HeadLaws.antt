@@ -3,7 +3,8 @@
 --     adjacency-first   an adjacency that was just made has each head at the account's first row
 --     adjacency-later   heads that stand at a day stand at every later one
 --     Resetting, resetting-start, resetting-next, resetting-end    the heads go back to the first rows
---     Moving, moving-start, moving-asks, moving-mid, moving-next, moving-end    they pass the rows up to a day, row by row
+--     Moving, moving-start, moving-asks, moving-mid, moving-next, moving-end    they pass the rows up to a day, row
+--     by row
 --     Else     what lies outside the heads is as before
 --     resetting-few     a head fits 16 bits
 -- Assumes nothing.
@@ -23,7 +24,8 @@ use Rattle.rings.specs.Words.{at}
 use Rattle.rings.specs.Table.{Table, tableOf, size, dayOf, firstOf, secondOf, Split}
 use Rattle.rings.specs.Ring.{touches}
 use Rattle.rings.specs.Sound.{Sound}
-use Rattle.rings.specs.Inner.Adjacency.{rank, offsetOf, PartAdjacency, Head, Adjacency, HeadInside, headPassed, HeadsMoved, Ahead}
+use Rattle.rings.specs.Inner.Adjacency.{rank, offsetOf, PartAdjacency, Head, Adjacency, HeadInside, headPassed}
+use Rattle.rings.specs.Inner.Adjacency.{HeadsMoved, Ahead}
 use Rattle.rings.proofs.WordLaws.{true-or-false, same-or}
 use Rattle.rings.proofs.RingLaws.{touch-first, touch-second}
 use Rattle.rings.proofs.RankLaws.{first-small, second-small, rank-less, places-most, place-step, entry-below}
@@ -41,8 +43,10 @@ else-set : {sc₀ sc sc′ : List ℕ} {u : ℕ} (v : ℕ) → u < 4096 → Else
 else-set {sc = sc} {u = u} v l E e =
     record {
       long = ap length e ∙ (length-set sc (4096 + u) v ∙ E .long);
-      low = λ p h. ap (λ (ys : List ℕ). getD ys p 0) e ∙ (getD-set-other sc (4096 + u) p v 0 (λ y. omega arith) ∙ E .low p h);
-      high = λ p h. ap (λ (ys : List ℕ). getD ys p 0) e ∙ (getD-set-other sc (4096 + u) p v 0 (λ y. omega arith) ∙ E .high p h);
+      low = λ p h.
+          ap (λ (ys : List ℕ). getD ys p 0) e ∙ (getD-set-other sc (4096 + u) p v 0 (λ y. omega arith) ∙ E .low p h);
+      high = λ p h.
+          ap (λ (ys : List ℕ). getD ys p 0) e ∙ (getD-set-other sc (4096 + u) p v 0 (λ y. omega arith) ∙ E .high p h);
     }
 
 pub adjacency-by : {t : Table} {day day′ : ℕ} {sc₀ sc : List ℕ} → Adjacency t day sc₀ → Else sc₀ sc
@@ -58,7 +62,12 @@ adjacency-by {t} L E H =
 
 -- at the account's first row nothing stands before it
 head-first : (t : Table) (u p : ℕ) → p ≡ offsetOf t u → Head t u 0 p
-head-first t u p e = record { from = omega arith; to = let g = place-step t u in omega arith; before = λ i l k h. absurd (omega arith) }
+head-first t u p e =
+    record {
+      from = omega arith;
+      to = let g = place-step t u in omega arith;
+      before = λ i l k h. absurd (omega arith);
+    }
 
 pub adjacency-first : {t : Table} {sc : List ℕ} → PartAdjacency t (size t) sc → Adjacency t 0 sc
 adjacency-first {t} {sc} B =
@@ -76,7 +85,8 @@ adjacency-later L h =
       long = L .long;
       cursors = L .cursors;
       heads = λ u l.
-          let H = L .heads u l in record { from = H .from; to = H .to; before = λ i k y o. let m = H .before i k y o in omega arith };
+          let H = L .heads u l in
+          record { from = H .from; to = H .to; before = λ i k y o. let m = H .before i k y o in omega arith };
       entries = L .entries;
       pairs = L .pairs;
     }
@@ -93,10 +103,12 @@ pub resetting-start : (t : Table) (sc : List ℕ) → Resetting t sc 0 0 sc
 unfolding offsetOf
 resetting-start t sc = record { else = else-none sc; taken = refl; heads = λ v h. absurd (not-suc-le-zero h) }
 
-pub resetting-few : (t : Table) {sc₀ sc : List ℕ} {u total : ℕ} → size t ≤ 16384 → Resetting t sc₀ u total sc → total < 65536
+pub resetting-few : (t : Table) {sc₀ sc : List ℕ} {u total : ℕ} → size t ≤ 16384 → Resetting t sc₀ u total sc
+    → total < 65536
 resetting-few t {u = u} m R = let a = R .taken in let b = places-most t u in omega arith
 
-pub resetting-next : {t : Table} {day u total end : ℕ} {sc₀ sc sc′ : List ℕ} → Adjacency t day sc₀ → Resetting t sc₀ u total sc → u < 4096
+pub resetting-next : {t : Table} {day u total end : ℕ} {sc₀ sc sc′ : List ℕ} → Adjacency t day sc₀
+    → Resetting t sc₀ u total sc → u < 4096
     → end ≡ getD sc u 0 → sc′ ≡ set sc (4096 + u) total → Resetting t sc₀ (u + 1) end sc′
 resetting-next {t} {u = u} {total = total} {sc = sc} {sc′ = sc′} L R l ee e =
     record {
@@ -115,8 +127,10 @@ resetting-next {t} {u = u} {total = total} {sc = sc} {sc′ = sc′} L R l ee e 
           (eq-or-lt-of-le (omega arith));
     }
 
-pub resetting-end : {t : Table} {day u total : ℕ} {sc₀ sc : List ℕ} → Adjacency t day sc₀ → Resetting t sc₀ u total sc → 4096 ≤ u → Adjacency t 0 sc
-resetting-end {t} {sc = sc} L R h = adjacency-by L (R .else) (λ v l. head-first t v (getD sc (4096 + v) 0) (R .heads v (omega arith) l))
+pub resetting-end : {t : Table} {day u total : ℕ} {sc₀ sc : List ℕ} → Adjacency t day sc₀
+    → Resetting t sc₀ u total sc → 4096 ≤ u → Adjacency t 0 sc
+resetting-end {t} {sc = sc} L R h =
+    adjacency-by L (R .else) (λ v l. head-first t v (getD sc (4096 + v) 0) (R .heads v (omega arith) l))
 
 -- ---- on to a later day
 
@@ -126,7 +140,8 @@ pub record Moving (t : Table) (sc₀ : List ℕ) (j : ℕ) (sc : List ℕ) : Typ
   pub heads : (u : ℕ) → u < 4096 → Ahead t u j (getD sc (4096 + u) 0)
 
 -- lo and the rows after it are not dated before the day of the heads
-ahead-of : {t : Table} {day u lo : ℕ} {sc : List ℕ} → Adjacency t day sc → u < 4096 → ((j : ℕ) → j < size t → lo ≤ j → day ≤ dayOf t j)
+ahead-of : {t : Table} {day u lo : ℕ} {sc : List ℕ} → Adjacency t day sc → u < 4096
+    → ((j : ℕ) → j < size t → lo ≤ j → day ≤ dayOf t j)
     → Ahead t u lo (getD sc (4096 + u) 0)
 ahead-of {u = u} {lo} L small late =
     let H = L .heads u small in
@@ -134,7 +149,9 @@ ahead-of {u = u} {lo} L small late =
       from = H .from;
       to = H .to;
       before = λ i l k h.
-          ⊎-elim (λ y. let a = late i l (leb-true lo i y) in let b = H .before i l k h in absurd (omega arith)) (λ y. leb-false lo i y)
+          ⊎-elim
+          (λ y. let a = late i l (leb-true lo i y) in let b = H .before i l k h in absurd (omega arith))
+          (λ y. leb-false lo i y)
           (true-or-false (leb lo i));
     }
 
@@ -146,7 +163,8 @@ ahead-pass t u j p l y A =
       to = let a = reached in let b = entry-below t u j y l in omega arith;
       before = λ i k h o.
           ⊎-elim (λ z. let m = leb-true i j z in omega arith)
-          (λ z. let m = rank-less t u j i y (leb-false i j z) in let a = reached in absurd (omega arith)) (true-or-false (leb i j));
+          (λ z. let m = rank-less t u j i y (leb-false i j z) in let a = reached in absurd (omega arith))
+          (true-or-false (leb i j));
     }
   where
     reached : p ≤ offsetOf t u + rank t u j
@@ -190,11 +208,18 @@ module _ (d f g : List ℕ) (S : Sound d f g) where
 
       -- what `pass_row` asks for the first account
       pub moving-asks : 8192 ≤ length sc₀ → HeadInside sc a
-      moving-asks long = record { account = moving-first; long = let x = M .else .long in omega arith; few = moving-few a moving-first }
+      moving-asks long =
+          record {
+            account = moving-first;
+            long = let x = M .else .long in omega arith;
+            few = moving-few a moving-first;
+          }
 
       module _ {sc₁ : List ℕ} (e₁ : sc₁ ≡ headPassed sc a) where
         same₁ : (u : ℕ) → (u ≡ a → ⊥) → getD sc₁ (4096 + u) 0 ≡ getD sc (4096 + u) 0
-        same₁ u n = ap (λ (ys : List ℕ). getD ys (4096 + u) 0) e₁ ∙ getD-set-other sc (4096 + a) (4096 + u) (getD sc (4096 + a) 0 + 1) 0 (λ y. n (omega arith))
+        same₁ u n =
+            ap (λ (ys : List ℕ). getD ys (4096 + u) 0) e₁
+            ∙ getD-set-other sc (4096 + a) (4096 + u) (getD sc (4096 + a) 0 + 1) 0 (λ y. n (omega arith))
 
         -- and for the second
         pub moving-mid : 8192 ≤ length sc₀ → HeadInside sc₁ b
@@ -212,7 +237,9 @@ module _ (d f g : List ℕ) (S : Sound d f g) where
                   ⊎-elim (λ y. at-b u y)
                   (λ n.
                   subst (Ahead t u (j + 1)) (sym (same₂ u n))
-                  (⊎-elim (λ y. at-a u y) (λ m. subst (Ahead t u (j + 1)) (sym (same₁ u m)) (ahead-on (M .heads u k))) (same-or u a)))
+                  (⊎-elim (λ y. at-a u y)
+                  (λ m. subst (Ahead t u (j + 1)) (sym (same₁ u m)) (ahead-on (M .heads u k)))
+                  (same-or u a)))
                   (same-or u b);
             }
           where
@@ -221,7 +248,8 @@ module _ (d f g : List ℕ) (S : Sound d f g) where
 
             same₂ : (u : ℕ) → (u ≡ b → ⊥) → getD sc₂ (4096 + u) 0 ≡ getD sc₁ (4096 + u) 0
             same₂ u n =
-                ap (λ (ys : List ℕ). getD ys (4096 + u) 0) e₂ ∙ getD-set-other sc₁ (4096 + b) (4096 + u) (getD sc₁ (4096 + b) 0 + 1) 0
+                ap (λ (ys : List ℕ). getD ys (4096 + u) 0) e₂
+                ∙ getD-set-other sc₁ (4096 + b) (4096 + u) (getD sc₁ (4096 + b) 0 + 1) 0
                 (λ y. n (omega arith))
 
             set₁ : getD sc₁ (4096 + a) 0 ≡ getD sc (4096 + a) 0 + 1
@@ -232,20 +260,25 @@ module _ (d f g : List ℕ) (S : Sound d f g) where
             set₂ : getD sc₂ (4096 + b) 0 ≡ getD sc (4096 + b) 0 + 1
             set₂ =
                 ap (λ (ys : List ℕ). getD ys (4096 + b) 0) e₂
-                ∙ (getD-set-same sc₁ (4096 + b) (getD sc₁ (4096 + b) 0 + 1) 0 (let x = E₁ .long in let y = moving-second in omega arith) ∙ ap
+                ∙ (getD-set-same sc₁ (4096 + b) (getD sc₁ (4096 + b) 0 + 1) 0
+                (let x = E₁ .long in let y = moving-second in omega arith)
+                ∙ ap
                 (λ (c : ℕ). c + 1) (same₁ b (λ y. let z = apart in omega arith)))
 
             at-a : (u : ℕ) → u ≡ a → Ahead t u (j + 1) (getD sc₁ (4096 + u) 0)
             at-a u y =
                 subst (λ (c : ℕ). Ahead t c (j + 1) (getD sc₁ (4096 + c) 0)) (sym y)
-                (subst (Ahead t a (j + 1)) (sym set₁) (ahead-pass t a j (getD sc (4096 + a) 0) l has-a (M .heads a moving-first)))
+                (subst (Ahead t a (j + 1)) (sym set₁)
+                (ahead-pass t a j (getD sc (4096 + a) 0) l has-a (M .heads a moving-first)))
 
             at-b : (u : ℕ) → u ≡ b → Ahead t u (j + 1) (getD sc₂ (4096 + u) 0)
             at-b u y =
                 subst (λ (c : ℕ). Ahead t c (j + 1) (getD sc₂ (4096 + c) 0)) (sym y)
-                (subst (Ahead t b (j + 1)) (sym set₂) (ahead-pass t b j (getD sc (4096 + b) 0) l has-b (M .heads b moving-second)))
+                (subst (Ahead t b (j + 1)) (sym set₂)
+                (ahead-pass t b j (getD sc (4096 + b) 0) l has-b (M .heads b moving-second)))
 
-  pub moving-end : {s day next j : ℕ} {sc₀ sc : List ℕ} → Adjacency t s sc₀ → Moving t sc₀ j sc → j ≤ next → Split d day next → HeadsMoved t day sc₀ sc
+  pub moving-end : {s day next j : ℕ} {sc₀ sc : List ℕ} → Adjacency t s sc₀ → Moving t sc₀ j sc → j ≤ next
+      → Split d day next → HeadsMoved t day sc₀ sc
   unfolding dayOf at
   moving-end L M h N =
       record {
@@ -253,6 +286,10 @@ module _ (d f g : List ℕ) (S : Sound d f g) where
             adjacency-by L (M .else)
             (λ u k.
             let A = M .heads u k in
-            record { from = A .from; to = A .to; before = λ i l y o. N .before i (let m = A .before i l y o in omega arith) });
+            record {
+              from = A .from;
+              to = A .to;
+              before = λ i l y o. N .before i (let m = A .before i l y o in omega arith);
+            });
         behind = M .else .high;
       }

@@ -46,16 +46,22 @@ module _ (d f s : List ℕ) (S : Sound d f s) {j : ℕ} (l : j < length d) where
     pub row-small : {v : ℕ} → v ≡ pickOther (eqb a u) a c → v < 4096
     unfolding pickOther
     row-small {v} ev =
-        ⊎-elim (λ y. let z : v ≡ c = ev ∙ ap (λ (w : Bool). pickOther w a c) y in let k = row-ends .second in omega arith)
-        (λ y. let z : v ≡ a = ev ∙ ap (λ (w : Bool). pickOther w a c) y in let k = row-ends .first in omega arith) (true-or-false (eqb a u))
+        ⊎-elim (λ y. let z : v ≡ c = ev ∙ ap (λ (w : Bool). pickOther w a c) y in let k = row-ends .second in
+        omega arith)
+        (λ y. let z : v ≡ a = ev ∙ ap (λ (w : Bool). pickOther w a c) y in let k = row-ends .first in omega arith)
+        (true-or-false (eqb a u))
 
     -- the other
     pub row-other : {v : ℕ} → v ≡ pickOther (eqb a u) a c → v ≡ otherOf (tableOf d f s) j u
     unfolding otherOf firstOf secondOf at
-    row-other ev = ev ∙ (ap (λ (y : ℕ). pickOther (eqb y u) y c) ea ∙ ap (λ (y : ℕ). pickOther (eqb (getD f j 0) u) (getD f j 0) y) ec)
+    row-other ev =
+        ev
+        ∙ (ap (λ (y : ℕ). pickOther (eqb y u) y c) ea
+        ∙ ap (λ (y : ℕ). pickOther (eqb (getD f j 0) u) (getD f j 0) y) ec)
 
 -- `row_at`: j is the row that stands at p, a and c are its accounts
-module _ {d f s scratch : List ℕ} {u p : ℕ} (R : RowStands d f s scratch u p) {j : ℕ} (ej : j ≡ getD scratch (8192 + p) 0) where
+module _ {d f s scratch : List ℕ} {u p : ℕ} (R : RowStands d f s scratch u p) {j : ℕ}
+    (ej : j ≡ getD scratch (8192 + p) 0) where
   at-below : j < length d
   at-below = let a = R .row in omega arith
 
@@ -68,7 +74,8 @@ module _ {d f s scratch : List ℕ} {u p : ℕ} (R : RowStands d f s scratch u p
     stands-ends = row-ends d f s (R .sound) at-below u at-touch ea ec
 
     -- v is the account that is not u, e the earlier row
-    pub row-read : (lo : ℕ) {day v e : ℕ} → day ≡ getD d j 0 → v ≡ pickOther (eqb a u) a c → e ≡ getD scratch (8192 + 2 * length d + j) 0
+    pub row-read : (lo : ℕ) {day v e : ℕ} → day ≡ getD d j 0 → v ≡ pickOther (eqb a u) a c
+        → e ≡ getD scratch (8192 + 2 * length d + j) 0
         → RowRead (tableOf d f s) scratch lo u p (record { row = j; day = day; other = v; leads = leb e lo })
     unfolding dayOf at
     row-read lo ed ev ee =
@@ -91,7 +98,12 @@ pub row-known : {d f s scratch : List ℕ} {u p : ℕ} → RowStands d f s scrat
     → day ≡ getD d (getD scratch (8192 + p) 0) 0
     → let j = getD scratch (8192 + p) 0 in
     RowRead (tableOf d f s) scratch lo u p
-    (record { row = j; day = day; other = pickOther (eqb (getD f j 0) u) (getD f j 0) (getD s j 0); leads = leb (getD scratch (8192 + 2 * length d + j) 0) lo })
+    (record {
+      row = j;
+      day = day;
+      other = pickOther (eqb (getD f j 0) u) (getD f j 0) (getD s j 0);
+      leads = leb (getD scratch (8192 + 2 * length d + j) 0) lo;
+    })
 row-known R lo ed = row-read R refl refl refl lo ed refl refl
 
 pub same-day : {d f s scratch : List ℕ} {lo u p day : ℕ} {it : Incident} → RowRead (tableOf d f s) scratch lo u p it
@@ -100,21 +112,25 @@ unfolding dayOf at
 same-day {d = d} I e = e ∙ (ap (λ (j : ℕ). getD d j 0) (sym (I .row)) ∙ sym (I .day))
 
 -- a walk that begins before lo asks for that too
-pub row-leads : {t : Table} {scratch : List ℕ} {lo u p : ℕ} {r : Incident} → RowRead t scratch lo u p r → (leb lo (r .row) && r .leads) ≡ leads t lo (r .row)
+pub row-leads : {t : Table} {scratch : List ℕ} {lo u p : ℕ} {r : Incident} → RowRead t scratch lo u p r
+    → (leb lo (r .row) && r .leads) ≡ leads t lo (r .row)
 row-leads {t} {lo = lo} {r = r} R =
     ⊎-elim (λ y. ap (λ (b : Bool). b && r .leads) y ∙ R .leads (leb-true lo (r .row) y))
     (λ y. ap (λ (b : Bool). b && r .leads) y ∙ sym (not-before y)) (true-or-false (leb lo (r .row)))
   where
     not-before : leb lo (r .row) ≡ false → leads t lo (r .row) ≡ false
     not-before y =
-        ⊎-elim (λ h. let a = lead-from t lo (r .row) h in let b = leb-false lo (r .row) y in absurd (omega arith)) (λ h. h)
+        ⊎-elim
+        (λ h. let a = lead-from t lo (r .row) h in let b = leb-false lo (r .row) y in absurd (omega arith))
+        (λ h. h)
         (true-or-false (leads t lo (r .row)))
 
 -- what `other` returns
 pub other-sum : {a b u r : ℕ} → (a ≡ u) ⊎ (b ≡ u) → r ≡ a + b - u → r ≡ pickOther (eqb a u) a b
 unfolding pickOther
 other-sum {a} {b} {u} {r} h e =
-    ⊎-elim (λ y. let g : r ≡ b = let z = eqb-true a u y in omega arith in g ∙ ap (λ (c : Bool). pickOther c a b) (sym y))
+    ⊎-elim (λ y. let g : r ≡ b = let z = eqb-true a u y in omega arith in
+    g ∙ ap (λ (c : Bool). pickOther c a b) (sym y))
     (λ y. let g : r ≡ a = ⊎-elim (λ z. absurd (eqb-false a u y z)) (λ z. omega arith) h in
     g ∙ ap (λ (c : Bool). pickOther c a b) (sym y))
     (true-or-false (eqb a u))

@@ -1,4 +1,5 @@
--- Which rows count, and from which day on: the laws of `pairCounts`, `leads`, `openDay` and `opensBy` (specs/Inner/Adjacency.antt), which no other file opens.
+-- Which rows count, and from which day on: the laws of `pairCounts`, `leads`, `openDay` and `opensBy`
+-- (specs/Inner/Adjacency.antt), which no other file opens.
 --     counts-from, counts-here     a row by which its pair counts is at lo or later; each row at lo or later is one
 --     lead-counts, lead-from     by a leading row its pair counts, so it is at lo or later
 --     lead-one                    a pair has one leading row at most
@@ -7,15 +8,18 @@
 --     open-own                     a row opens on its own day or later
 --     open-day, day-opens          it opens on its own day, so each row of a window opens in it
 --     Opens, opens-e, opens-i, opens-not     what `opensBy` says
---     ring-opens, opens-ring       a row of a ring opens by its end; one that does, between two accounts of the ring, is in it
---     row-opens, row-shut          its core time is the greatest of its accounts' and the day on which it opens; never if it does not open in the range
+--     ring-opens, opens-ring       a row of a ring opens by its end; one that does, between two accounts of the ring,
+--                                  is in it
+--     row-opens, row-shut          its core time is the greatest of its accounts' and the day on which it opens;
+--                                  never if it does not open in the range
 --     open-is                      a row by which its pair counts opens on its own day
 --     lead-opens                   a leading row dated by day c opens by c
 --     LeadBy, open-lead            the pair of a row that opens by c has a leading row dated by c
 -- Here one row is enough for a pair to count. Where h rows are asked for (02, S-7), the definitions change and these
 -- laws are proved anew, in the same words; so are two-met (RingLaws) and row-max (CoreTimeLaws), on which opens-ring
 -- and row-opens rest.
--- Four of them hold for one row alone, counts-here, lead-alone, open-day and day-opens: who cites these needs another argument then.
+-- Four of them hold for one row alone, counts-here, lead-alone, open-day and day-opens: who cites these needs another
+-- argument then.
 -- Assumes nothing.
 use Prim.Native.Nat.{ℕ, zero, suc, max, _≤_, _<_, zero-le}
 use native.Mathlib.Nat.{le-refl, le-trans, eq-or-lt-of-le, not-suc-le-zero}
@@ -55,7 +59,8 @@ pub lead-from : (t : Table) (lo j : ℕ) → leads t lo j ≡ true → lo ≤ j
 lead-from t lo j h = counts-from t lo j (lead-counts t lo j h)
 
 -- e is the earlier row, as the scratch has it
-pub lead-test : (t : Table) (lo j : ℕ) {e : ℕ} {y : Bool} → e ≡ earlier t j → y ≡ (leb lo j and leb e lo) → y ≡ leads t lo j
+pub lead-test : (t : Table) (lo j : ℕ) {e : ℕ} {y : Bool} → e ≡ earlier t j → y ≡ (leb lo j and leb e lo)
+    → y ≡ leads t lo j
 unfolding leads pairCounts
 lead-test t lo j h k = k ∙ ap (λ (c : ℕ). leb lo j and leb c lo) h
 
@@ -64,7 +69,8 @@ pub lead-alone : (t : Table) (lo j : ℕ) {e : ℕ} → lo ≤ j → e ≡ earli
 unfolding leads pairCounts _and_
 lead-alone t lo j h k = ap (λ (c : ℕ). leb c lo) k ∙ ap (λ (y : Bool). y and leb (earlier t j) lo) (sym (le-leb lo j h))
 
-pub lead-on : (t : Table) {lo next : ℕ} → lo ≤ next → (j : ℕ) → pairCounts t next j ≡ true → leads t lo j ≡ true → leads t next j ≡ true
+pub lead-on : (t : Table) {lo next : ℕ} → lo ≤ next → (j : ℕ) → pairCounts t next j ≡ true → leads t lo j ≡ true
+    → leads t next j ≡ true
 unfolding leads
 lead-on t {lo} {next} up j h k =
     and-i h
@@ -98,7 +104,11 @@ lead-e : (t : Table) (lo j : ℕ) → leads t lo j ≡ true → Lead t lo j
 unfolding leads earlier
 lead-e t lo j h =
     let e = pairBefore t (firstOf t j) (secondOf t j) j in
-    record { from = lead-from t lo j h; none-before = before-e t (firstOf t j) (secondOf t j) lo j (leb-true e lo (and-r (pairCounts t lo j) (leb e lo) h)) }
+    record {
+      from = lead-from t lo j h;
+      none-before = before-e t (firstOf t j) (secondOf t j) lo j
+          (leb-true e lo (and-r (pairCounts t lo j) (leb e lo) h));
+    }
 
 lead-i : (t : Table) (lo j : ℕ) → Lead t lo j → leads t lo j ≡ true
 unfolding leads earlier
@@ -108,12 +118,14 @@ lead-i t lo j f =
     (before-i t (firstOf t j) (secondOf t j) lo j (f .none-before)))
 
 -- of two leading rows that join the same accounts neither is earlier
-pub lead-one : (t : Table) (lo i j u v : ℕ) → leads t lo i ≡ true → leads t lo j ≡ true → joins t i u v ≡ true → joins t j u v ≡ true → i ≡ j
+pub lead-one : (t : Table) (lo i j u v : ℕ) → leads t lo i ≡ true → leads t lo j ≡ true → joins t i u v ≡ true
+    → joins t j u v ≡ true → i ≡ j
 lead-one t lo i j u v f g h k =
     ⊎-elim (λ l. ⊎-elim (λ e. e)
     (λ o. clash (pair-joins t i j u v k h) (lead-e t lo j g .none-before i (lead-e t lo i f .from) o))
     (eq-or-lt-of-le (leb-true i j l)))
-    (λ l. clash (pair-joins t j i u v h k) (lead-e t lo i f .none-before j (lead-e t lo j g .from) (leb-false i j l))) (true-or-false (leb i j))
+    (λ l. clash (pair-joins t j i u v h k) (lead-e t lo i f .none-before j (lead-e t lo j g .from) (leb-false i j l)))
+    (true-or-false (leb i j))
 
 record LeadRow (t : Table) (lo i u v : ℕ) : Type 0 where
   row : ℕ
@@ -125,7 +137,8 @@ record LeadRow (t : Table) (lo i u v : ℕ) : Type 0 where
 first-lead : (t : Table) (lo i u v : ℕ) → lo ≤ i → joins t i u v ≡ true → LeadRow t lo i u v
 first-lead t lo i u v l h = go i i (le-refl i) l h
   where
-    lead-here : (i : ℕ) → lo ≤ i → joins t i u v ≡ true → ((n : ℕ) → lo ≤ n → n < i → joins t n u v ≡ false) → LeadRow t lo i u v
+    lead-here : (i : ℕ) → lo ≤ i → joins t i u v ≡ true → ((n : ℕ) → lo ≤ n → n < i → joins t n u v ≡ false)
+        → LeadRow t lo i u v
     lead-here i l h f =
         record {
           row = i;
@@ -141,7 +154,8 @@ first-lead t lo i u v l h = go i i (le-refl i) l h
         }
 
     weaker : {m n : ℕ} → m ≤ n → LeadRow t lo m u v → LeadRow t lo n u v
-    weaker {m} {n} o w = record { row = w .row; at-most = le-trans (w .at-most) o; is-lead = w .is-lead; join = w .join }
+    weaker {m} {n} o w =
+        record { row = w .row; at-most = le-trans (w .at-most) o; is-lead = w .is-lead; join = w .join }
 
     go : (n i : ℕ) → i ≤ n → lo ≤ i → joins t i u v ≡ true → LeadRow t lo i u v
     go zero i o l h = lead-here i l h (λ m a b. absurd (omega arith))
@@ -192,10 +206,14 @@ opens-not t s e j h o = clash (opens-i t s e j o) h
 
 module _ (t : Table) (q : Query) (s e j : ℕ) where
   pub ring-opens : inRing t q s e j ≡ true → Opens t s e j
-  ring-opens h = let w = in-window t q s e j h in let a = w .to in let b = open-day t s j in record { from = w .from; to = omega arith }
+  ring-opens h =
+      let w = in-window t q s e j h in
+      let a = w .to in let b = open-day t s j in record { from = w .from; to = omega arith }
 
-  pub opens-ring : j < size t → Opens t s e j → met t (ring t q s e) (firstOf t j) ≡ true → met t (ring t q s e) (secondOf t j) ≡ true → inRing t q s e j ≡ true
-  opens-ring l o a b = two-met t q s e j (record { row = l; from = o .from; to = le-trans (open-own t s j) (o .to) }) a b
+  pub opens-ring : j < size t → Opens t s e j → met t (ring t q s e) (firstOf t j) ≡ true
+      → met t (ring t q s e) (secondOf t j) ≡ true → inRing t q s e j ≡ true
+  opens-ring l o a b =
+      two-met t q s e j (record { row = l; from = o .from; to = le-trans (open-own t s j) (o .to) }) a b
 
 -- a row's core time is the greatest of its accounts' and the day on which it opens
 module _ (t : Table) (q : Query) (hi s : ℕ) where
@@ -226,7 +244,9 @@ module _ (t : Table) (q : Query) (s hi lo : ℕ) (S : Setting t q s hi lo) where
   open-is j l h = open-day t s j
 
   pub lead-opens : (j c : ℕ) → j < size t → leads t lo j ≡ true → dayOf t j ≤ c → Opens t s c j
-  lead-opens j c l h d = let e = open-is j l (lead-counts t lo j h) in record { from = S .from-lo j l (lead-from t lo j h); to = omega arith }
+  lead-opens j c l h d =
+      let e = open-is j l (lead-counts t lo j h) in
+      record { from = S .from-lo j l (lead-from t lo j h); to = omega arith }
 
   pub open-lead : (i u v c : ℕ) → i < size t → joins t i u v ≡ true → Opens t s c i → LeadBy t lo c u v
   open-lead i u v c l h o =

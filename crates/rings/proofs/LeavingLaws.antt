@@ -42,12 +42,14 @@ backers-below t x lo c u m l =
     (λ i h. ⊎-elim (λ y. let b = lead-from t lo i (backed-lead t x lo c u i y) in absurd (omega arith)) (λ y. y)
     (true-or-false (backing t x lo c u i)))
 
-module _ (t : Table) (q : Query) (s hi lo : ℕ) (S : Setting t q s hi lo) (xs : List ℕ) (len : length xs ≡ 4096) (D : Days hi xs) where
+module _ (t : Table) (q : Query) (s hi lo : ℕ) (S : Setting t q s hi lo) (xs : List ℕ) (len : length xs ≡ 4096)
+    (D : Days hi xs) where
   abbrev x : ℕ → ℕ
   x = estimate xs
 
   pub leaving-start : (sp : List ℕ) → length sp ≡ 4096 → Leaving t x lo lo sp sp
-  leaving-start sp l = record { long = l; less = λ u h. let b = backers-below t x lo (x u) u lo (le-refl lo) in _⊎_.inr (omega arith) }
+  leaving-start sp l =
+      record { long = l; less = λ u h. let b = backers-below t x lo (x u) u lo (le-refl lo) in _⊎_.inr (omega arith) }
 
   module _ {j : ℕ} {sp₀ sp : List ℕ} (F : Leaving t x lo j sp₀ sp) where
     -- a row that backs nobody takes nothing
@@ -65,7 +67,8 @@ module _ (t : Table) (q : Query) (s hi lo : ℕ) (S : Setting t q s hi lo) (xs :
         (F .less u l)
 
     -- one that backs u takes one at most
-    taken : (sp′ : List ℕ) (u : ℕ) → u < 4096 → getD sp′ u 0 ≤ getD sp u 0 - 1 → (x u ≡ never) ⊎ (getD sp′ u 0 ≤ getD sp₀ u 0 - backers t x lo (x u) u (j + 1))
+    taken : (sp′ : List ℕ) (u : ℕ) → u < 4096 → getD sp′ u 0 ≤ getD sp u 0 - 1
+        → (x u ≡ never) ⊎ (getD sp′ u 0 ≤ getD sp₀ u 0 - backers t x lo (x u) u (j + 1))
     taken sp′ u l h =
         ⊎-elim (λ y. ⊎-elim _⊎_.inl
         (λ m. let b : backers t x lo (x u) u (j + 1)
@@ -114,7 +117,8 @@ module _ (t : Table) (q : Query) (s hi lo : ℕ) (S : Setting t q s hi lo) (xs :
         → xb ≡ getD xs b 0
         → wa ≡ ((leb xb xa && leb day xa) && ltb xa never)
         → wb ≡ ((leb xa xb && leb day xb) && ltb xb never)
-        → DroppedSupporter (y && wa) a tail sp ws sp₁ ws₁ mid → DroppedSupporter (y && wb) b mid sp₁ ws₁ sp₂ ws₂ r → Leaving t x lo (j + 1) sp₀ sp₂
+        → DroppedSupporter (y && wa) a tail sp ws sp₁ ws₁ mid → DroppedSupporter (y && wb) b mid sp₁ ws₁ sp₂ ws₂ r
+        → Leaving t x lo (j + 1) sp₀ sp₂
     leaving-row {y} {wa} {wb} {a} {b} {day} {xa} {xb} {sp₁ = sp₁} {sp₂ = sp₂} l ey ea eb ed exa exb ewa ewb A B =
         record {
           long = lessb .long;
@@ -147,9 +151,12 @@ module _ (t : Table) (q : Query) (s hi lo : ℕ) (S : Setting t q s hi lo) (xs :
         tb : xb ≡ x b
         tb = exb ∙ sym (estimate-at xs b len lb)
 
-        at-a : (u : ℕ) → u ≡ firstOf t j → (x u ≡ never) ⊎ (getD sp₂ u 0 ≤ getD sp₀ u 0 - backers t x lo (x u) u (j + 1))
+        at-a : (u : ℕ) → u ≡ firstOf t j
+            → (x u ≡ never) ⊎ (getD sp₂ u 0 ≤ getD sp₀ u 0 - backers t x lo (x u) u (j + 1))
         at-a u e =
-            subst (λ (c : ℕ). (x c ≡ never) ⊎ (getD sp₂ c 0 ≤ getD sp₀ c 0 - backers t x lo (x c) c (j + 1))) (sym (e ∙ sym ea))
+            subst
+            (λ (c : ℕ). (x c ≡ never) ⊎ (getD sp₂ c 0 ≤ getD sp₀ c 0 - backers t x lo (x c) c (j + 1)))
+            (sym (e ∙ sym ea))
             (gate sp₂ la (ap (otherOf t j) ea ∙ (other-first t j ∙ sym eb))
             (λ f h k o.
             let m = ta in
@@ -157,9 +164,12 @@ module _ (t : Table) (q : Query) (s hi lo : ℕ) (S : Setting t q s hi lo) (xs :
             both (ey ∙ f) (ewa ∙ dropped-i xb xa day never (omega arith) (omega arith) (omega arith)))
             (F .long) (le-refl (getD sp a 0)) (lessb .down a) A)
 
-        at-b : (u : ℕ) → u ≡ secondOf t j → (x u ≡ never) ⊎ (getD sp₂ u 0 ≤ getD sp₀ u 0 - backers t x lo (x u) u (j + 1))
+        at-b : (u : ℕ) → u ≡ secondOf t j
+            → (x u ≡ never) ⊎ (getD sp₂ u 0 ≤ getD sp₀ u 0 - backers t x lo (x u) u (j + 1))
         at-b u e =
-            subst (λ (c : ℕ). (x c ≡ never) ⊎ (getD sp₂ c 0 ≤ getD sp₀ c 0 - backers t x lo (x c) c (j + 1))) (sym (e ∙ sym eb))
+            subst
+            (λ (c : ℕ). (x c ≡ never) ⊎ (getD sp₂ c 0 ≤ getD sp₀ c 0 - backers t x lo (x c) c (j + 1)))
+            (sym (e ∙ sym eb))
             (gate sp₂ lb (ap (otherOf t j) eb ∙ (other-second t j apart ∙ sym ea))
             (λ f h k o.
             let m = ta in
@@ -167,7 +177,8 @@ module _ (t : Table) (q : Query) (s hi lo : ℕ) (S : Setting t q s hi lo) (xs :
             both (ey ∙ f) (ewb ∙ dropped-i xa xb day never (omega arith) (omega arith) (omega arith)))
             (lessa .long) (lessa .down b) (le-refl (getD sp₂ b 0)) B)
 
-pub leaving-last : {t : Table} {x : ℕ → ℕ} {lo j next : ℕ} {sp₀ sp : List ℕ} → Leaving t x lo j sp₀ sp → j ≤ next → next ≤ j → Leaving t x lo next sp₀ sp
+pub leaving-last : {t : Table} {x : ℕ → ℕ} {lo j next : ℕ} {sp₀ sp : List ℕ} → Leaving t x lo j sp₀ sp → j ≤ next
+    → next ≤ j → Leaving t x lo next sp₀ sp
 leaving-last {t} {x} {lo} {sp₀ = sp₀} {sp = sp} F a b = subst (λ (m : ℕ). Leaving t x lo m sp₀ sp) (le-antisymm a b) F
 
 -- what the code reads of row j

@@ -1,5 +1,6 @@
 -- Members and order of the lists that `tabulate`, `flatten`, `filterBy` and `map` make.
---     mem-tabulate, tabulate-mem, mem-flatten, flatten-mem, mem-filterBy, filterBy-mem, mem-map, map-mem     who is a member
+--     mem-tabulate, tabulate-mem, mem-flatten, flatten-mem, mem-filterBy, filterBy-mem, mem-map, map-mem     who is a
+--     member
 --     any-i, any-e              a test on the members
 --     pair-tabulate, pair-flatten, pair-filterBy, pair-map, pair-weaken     each entry stands in R to every later one
 --     pair-unique                   two lists in the same strict order with the same members are one
@@ -51,7 +52,8 @@ module _ {A : Type 0} where
   unfolding flatten
   mem-flatten {xss = []} h m = absurd (not-nil h)
   mem-flatten {xss = ys ∷ yss} {x = x} h m =
-      ⊎-elim (λ e. append-left (flatten yss) (subst (Mem x) e m)) (λ r. append-right ys (mem-flatten r m)) (cases-cons h)
+      ⊎-elim (λ e. append-left (flatten yss) (subst (Mem x) e m)) (λ r. append-right ys (mem-flatten r m))
+      (cases-cons h)
 
   pub record FromFlatten (xss : List (List A)) (x : A) : Type 0 where
     pub part : List A
@@ -63,7 +65,8 @@ module _ {A : Type 0} where
   flatten-mem [] m = absurd (not-nil m)
   flatten-mem (ys ∷ yss) m =
       ⊎-elim (λ a. record { part = ys; is-part = here refl; has = a })
-      (λ b. let w = flatten-mem yss b in record { part = w .part; is-part = there (w .is-part); has = w .has }) (append-cases ys m)
+      (λ b. let w = flatten-mem yss b in record { part = w .part; is-part = there (w .is-part); has = w .has })
+      (append-cases ys m)
 
   pub consIf-yes : {b : Bool} (x : A) (xs : List A) → b ≡ true → consIf b x xs ≡ x ∷ xs
   unfolding consIf
@@ -100,13 +103,15 @@ module _ {A : Type 0} where
       ⊎-elim (λ a. ⊎-elim (λ e. (here e, subst (λ (z : A). p z ≡ true) (sym e) a))
       (λ r. let w = filterBy-mem p ys r in (there (w .0), w .1))
       (cases-cons (subst (Mem x) (consIf-yes y (filterBy p ys) a) m)))
-      (λ a. let w = filterBy-mem p ys (subst (Mem x) (consIf-no y (filterBy p ys) a) m) in (there (w .0), w .1)) (true-or-false (p y))
+      (λ a. let w = filterBy-mem p ys (subst (Mem x) (consIf-no y (filterBy p ys) a) m) in (there (w .0), w .1))
+      (true-or-false (p y))
 
   pub any-i : (p : A → Bool) (xs : List A) (x : A) → Mem x xs → p x ≡ true → any p xs ≡ true
   unfolding any
   any-i p [] x m h = absurd (not-nil m)
   any-i p (y ∷ ys) x m h =
-      ⊎-elim (λ e. or-l (p y) (any p ys) (subst (λ (z : A). p z ≡ true) e h)) (λ r. or-r (p y) (any p ys) (any-i p ys x r h)) (cases-cons m)
+      ⊎-elim (λ e. or-l (p y) (any p ys) (subst (λ (z : A). p z ≡ true) e h))
+      (λ r. or-r (p y) (any p ys) (any-i p ys x r h)) (cases-cons m)
 
   pub record One (p : A → Bool) (xs : List A) : Type 0 where
     pub it : A
@@ -124,7 +129,8 @@ module _ {A : Type 0} where
   -- ---- order
 
   module _ (R : A → A → Type 0) where
-    pub pair-tabulate : (f : ℕ → A) (i n : ℕ) → ((a b : ℕ) → i ≤ a → a < b → b < i + n → R (f a) (f b)) → Pairwise R (tabulate f i n)
+    pub pair-tabulate : (f : ℕ → A) (i n : ℕ) → ((a b : ℕ) → i ≤ a → a < b → b < i + n → R (f a) (f b))
+        → Pairwise R (tabulate f i n)
     unfolding tabulate
     pair-tabulate f i zero h = none
     pair-tabulate f i (suc n) h =
@@ -135,10 +141,12 @@ module _ {A : Type 0} where
         subst (R (f i)) (sym (w .is)) (h i (w .it) (le-refl i) a (omega arith)))
         (pair-tabulate f (suc i) n (λ a b l k o. h a b (omega arith) k (omega arith)))
 
-    pair-append : (xs ys : List A) → Pairwise R xs → Pairwise R ys → ((x y : A) → Mem x xs → Mem y ys → R x y) → Pairwise R (xs ++ ys)
+    pair-append : (xs ys : List A) → Pairwise R xs → Pairwise R ys → ((x y : A) → Mem x xs → Mem y ys → R x y)
+        → Pairwise R (xs ++ ys)
     pair-append [] ys p q h = q
     pair-append (x ∷ xs) ys (more f p) q h =
-        more (λ y m. ⊎-elim (f y) (λ b. h x y (here refl) b) (append-cases xs m)) (pair-append xs ys p q (λ a b m n. h a b (there m) n))
+        more (λ y m. ⊎-elim (f y) (λ b. h x y (here refl) b) (append-cases xs m))
+        (pair-append xs ys p q (λ a b m n. h a b (there m) n))
 
     pub pair-flatten : (xss : List (List A))
         → ((xs : List A) → Mem xs xss → Pairwise R xs)
@@ -153,7 +161,8 @@ module _ {A : Type 0} where
     pub pair-filterBy : (p : A → Bool) (xs : List A) → Pairwise R xs → Pairwise R (filterBy p xs)
     pair-filterBy p [] q = subst (Pairwise R) (sym (filterBy-nil p)) none
     pair-filterBy p (x ∷ xs) (more f q) =
-        ⊎-elim (λ a. subst (Pairwise R) (sym (filterBy-yes p x xs a)) (more (λ y m. f y (filterBy-mem p xs m .0)) (pair-filterBy p xs q)))
+        ⊎-elim (λ a. subst (Pairwise R) (sym (filterBy-yes p x xs a))
+        (more (λ y m. f y (filterBy-mem p xs m .0)) (pair-filterBy p xs q)))
         (λ a. subst (Pairwise R) (sym (filterBy-no p x xs a)) (pair-filterBy p xs q)) (true-or-false (p x))
 
     -- two lists in one strict order with the same members are one
@@ -188,9 +197,11 @@ module _ {A : Type 0} where
         cons e r = cc
 
   -- a stronger order on the members
-  pub pair-weaken : (R S : A → A → Type 0) (xs : List A) → Pairwise R xs → ((x y : A) → Mem x xs → Mem y xs → R x y → S x y) → Pairwise S xs
+  pub pair-weaken : (R S : A → A → Type 0) (xs : List A) → Pairwise R xs
+      → ((x y : A) → Mem x xs → Mem y xs → R x y → S x y) → Pairwise S xs
   pair-weaken R S [] p h = none
-  pair-weaken R S (x ∷ xs) (more f p) h = more (λ y m. h x y (here refl) (there m) (f y m)) (pair-weaken R S xs p (λ a b m n. h a b (there m) (there n)))
+  pair-weaken R S (x ∷ xs) (more f p) h =
+      more (λ y m. h x y (here refl) (there m) (f y m)) (pair-weaken R S xs p (λ a b m n. h a b (there m) (there n)))
 
 module _ {A B : Type 0} (g : A → B) where
   pub mem-map : (xs : List A) {x : A} → Mem x xs → Mem (g x) (map g xs)
@@ -211,4 +222,5 @@ module _ {A B : Type 0} (g : A → B) where
 
   pub pair-map : (R : B → B → Type 0) (xs : List A) → Pairwise (λ a b. R (g a) (g b)) xs → Pairwise R (map g xs)
   pair-map R [] p = none
-  pair-map R (x ∷ xs) (more f p) = more (λ y m. let w = map-mem xs m in subst (R (g x)) (sym (w .is)) (f (w .it) (w .member))) (pair-map R xs p)
+  pair-map R (x ∷ xs) (more f p) =
+      more (λ y m. let w = map-mem xs m in subst (R (g x)) (sym (w .is)) (f (w .it) (w .member))) (pair-map R xs p)

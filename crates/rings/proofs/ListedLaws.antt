@@ -35,7 +35,8 @@ pub record DroppingListed (tail : ℕ) (sp₀ ws₀ : List ℕ) (p end : ℕ) (s
   pub fewer : DroppedListed tail p ws₀ sp₀ sp
   pub rest : (i : ℕ) → p ≤ i → getD ws i 0 ≡ getD ws₀ i 0
 
-pub dropping-listed-start : (tail : ℕ) (sp ws : List ℕ) → length sp ≡ 4096 → length ws ≡ 4352 → DroppingListed tail sp ws tail tail sp ws
+pub dropping-listed-start : (tail : ℕ) (sp ws : List ℕ) → length sp ≡ 4096 → length ws ≡ 4352
+    → DroppingListed tail sp ws tail tail sp ws
 dropping-listed-start tail sp ws l m =
     record {
       behind = le-refl tail;
@@ -69,7 +70,8 @@ dropping-listed-next {p = p} {end = end} {v = v} {sp₀ = sp₀} {ws₀ = ws₀}
                 let n = D .one refl in
                 let c = Z .fewer .less v in
                 omega arith)
-                (λ l. let h = Z .fewer .each i a l in let k = D .down (getD ws₀ i 0) in omega arith) (eq-or-lt-of-le (let r : i ≤ p = omega arith in r));
+                (λ l. let h = Z .fewer .each i a l in let k = D .down (getD ws₀ i 0) in omega arith)
+                (eq-or-lt-of-le (let r : i ≤ p = omega arith in r));
           };
       rest = λ i h. in-list i (L .queued) ∙ (getD-set-other ws end i v 0 (λ e. omega arith) ∙ Z .rest i (omega arith));
     }
@@ -78,7 +80,8 @@ pub dropping-listed-end : {tail p upto end : ℕ} {sp₀ ws₀ sp ws : List ℕ}
     → DroppingListed tail sp₀ ws₀ p end sp ws
     → upto ≤ p
     → DroppedListed tail upto ws₀ sp₀ sp
-dropping-listed-end Z h = record { long = Z .fewer .long; less = Z .fewer .less; each = λ i a b. Z .fewer .each i a (omega arith) }
+dropping-listed-end Z h =
+    record { long = Z .fewer .long; less = Z .fewer .less; each = λ i a b. Z .fewer .each i a (omega arith) }
 
 -- ---- and is who loses u by the rise
 
@@ -93,16 +96,24 @@ pub rise-scanned-dropped-supported : (t : Table) (q : Query) (s hi lo : ℕ)
     → DroppedListed tail end ws₁ sp sp′
     → DroppedSupported t (estimate (set xs u new)) lo u (size t) c new sp sp′
 unfolding estimate value
-rise-scanned-dropped-supported t q s hi lo S xs len D {u} {c} {new} {tail = tail} {end = end} {ws = ws} {ws₁ = ws₁} {sp = sp} {sp′ = sp′} top G same F =
-    record { long = F .long; less = F .less; dropped = λ j l f h a b k. let e = same-time j l h in loses j l f h (omega arith) (omega arith) (omega arith) }
+rise-scanned-dropped-supported t q s hi lo S xs len D {u} {c} {new} {tail = tail} {end = end} {ws = ws}
+    {ws₁ = ws₁} {sp = sp} {sp′ = sp′} top G same F =
+    record {
+      long = F .long;
+      less = F .less;
+      dropped = λ j l f h a b k. let e = same-time j l h in
+          loses j l f h (omega arith) (omega arith) (omega arith);
+    }
   where
-    same-time : (j : ℕ) → j < size t → touches t j u ≡ true → estimate (set xs u new) (otherOf t j u) ≡ estimate xs (otherOf t j u)
+    same-time : (j : ℕ) → j < size t → touches t j u ≡ true
+        → estimate (set xs u new) (otherOf t j u) ≡ estimate xs (otherOf t j u)
     same-time j l h = getD-set-other xs u (otherOf t j u) new never (other-apart t j u (S .accounts j l) h)
 
     taken : {v : ℕ} → Place ws tail end v → getD sp′ v 0 ≤ getD sp v 0 - 1
     taken {v} P =
         let e : getD ws₁ (P .place) 0 ≡ v = same (P .place) (P .from) ∙ P .is in
-        let m = F .each (P .place) (P .from) (P .below) in let n = at-place sp′ e in let o = at-place sp e in omega arith
+        let m = F .each (P .place) (P .from) (P .below) in
+        let n = at-place sp′ e in let o = at-place sp e in omega arith
 
     loses : (j : ℕ)
         → j < size t
@@ -116,5 +127,6 @@ rise-scanned-dropped-supported t q s hi lo S xs len D {u} {c} {new} {tail = tail
         let v = other-small t q s hi lo S j u l h in
         let g = estimate-at xs (otherOf t j u) len v in
         let day : dayOf t j ≤ hi = ⊎-elim (λ y. omega arith) (λ y. absurd (omega arith)) (D (otherOf t j u) v) in
-        let same-day : estimate xs (otherOf t j u) ≡ c = ⊎-elim (λ y. omega arith) (λ y. absurd (omega arith)) (G .apart j (lead-counts t lo j f) l h day) in
+        let same-day : estimate xs (otherOf t j u) ≡ c =
+        ⊎-elim (λ y. omega arith) (λ y. absurd (omega arith)) (G .apart j (lead-counts t lo j f) l h day) in
         taken (G .loses j l f h same-day (omega arith))

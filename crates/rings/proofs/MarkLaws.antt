@@ -50,13 +50,16 @@ pub mark-start : (g : ℕ → Bool) (m : List ℕ) → Marking g 0 0 m m
 unfolding count
 mark-start g m = record { long = refl; done = λ i h. absurd (not-suc-le-zero h); counted = refl }
 
-mark-one : {g : ℕ → Bool} {j n : ℕ} {m₀ m : List ℕ} (b : ℕ) → Marking g j n m₀ m → j < length m → b ≡ mark (g j) → (i : ℕ) → i < j + 1
+mark-one : {g : ℕ → Bool} {j n : ℕ} {m₀ m : List ℕ} (b : ℕ) → Marking g j n m₀ m → j < length m → b ≡ mark (g j)
+    → (i : ℕ) → i < j + 1
     → getD (set m j b) i 0 ≡ mark (g i)
 mark-one {g} {j} {n} {m₀} {m} b M l e i h =
-    ⊎-elim (λ y. ap (λ (c : ℕ). getD (set m j b) c 0) y ∙ (getD-set-same m j b 0 l ∙ (e ∙ ap (λ (c : ℕ). mark (g c)) (sym y))))
+    ⊎-elim (λ y. ap (λ (c : ℕ). getD (set m j b) c 0) y
+    ∙ (getD-set-same m j b 0 l ∙ (e ∙ ap (λ (c : ℕ). mark (g c)) (sym y))))
     (λ o. getD-set-other m j i b 0 (λ y. omega arith) ∙ M .done i o) (eq-or-lt-of-le (omega arith))
 
-pub mark-yes : {g : ℕ → Bool} {j n : ℕ} {m₀ m : List ℕ} → Marking g j n m₀ m → j < length m → g j ≡ true → Marking g (j + 1) (n + 1) m₀ (set m j 1)
+pub mark-yes : {g : ℕ → Bool} {j n : ℕ} {m₀ m : List ℕ} → Marking g j n m₀ m → j < length m → g j ≡ true
+    → Marking g (j + 1) (n + 1) m₀ (set m j 1)
 unfolding count mark
 mark-yes {g} {j} {n} {m₀} {m} M l y =
     record {
@@ -66,7 +69,8 @@ mark-yes {g} {j} {n} {m₀} {m} M l y =
           rw (add-one j) (let t = sucIf-yes (count g j) y in omega arith);
     }
 
-pub mark-no : {g : ℕ → Bool} {j n : ℕ} {m₀ m : List ℕ} → Marking g j n m₀ m → j < length m → g j ≡ false → Marking g (j + 1) n m₀ (set m j 0)
+pub mark-no : {g : ℕ → Bool} {j n : ℕ} {m₀ m : List ℕ} → Marking g j n m₀ m → j < length m → g j ≡ false
+    → Marking g (j + 1) n m₀ (set m j 0)
 unfolding count mark
 mark-no {g} {j} {n} {m₀} {m} M l y =
     record {
@@ -80,14 +84,19 @@ mark-no {g} {j} {n} {m₀} {m} M l y =
 pub mark-few : {g : ℕ → Bool} {j n : ℕ} {m₀ m : List ℕ} → Marking g j n m₀ m → n ≤ j
 mark-few {g} {j} M = subst (λ (c : ℕ). c ≤ j) (sym (M .counted)) (Rattle.rings.proofs.WordLaws.count-le g j)
 
-pub mark-end : (t : Table) (q : Query) (start stop : ℕ) {g : ℕ → Bool} {j n : ℕ} {m₀ m : List ℕ} → Marking g j n m₀ m → length m₀ ≡ size t → j ≡ size t
+pub mark-end : (t : Table) (q : Query) (start stop : ℕ) {g : ℕ → Bool} {j n : ℕ} {m₀ m : List ℕ}
+    → Marking g j n m₀ m → length m₀ ≡ size t → j ≡ size t
     → ((i : ℕ) → i < size t → marked (ring t q start stop) i ≡ g i) → RingMarked t q start stop n m
 unfolding members marks marked mark
 mark-end t q start stop {g} {j} {n} {m₀} {m} M e y same =
     record {
-      number = M .counted ∙ (ap (count g) (y ∙ sym sized) ∙ sym (count-same (marked r) g (length r) (λ i o. same i (let a = sized in omega arith))));
+      number =
+          M .counted
+          ∙ (ap (count g) (y ∙ sym sized)
+          ∙ sym (count-same (marked r) g (length r) (λ i o. same i (let a = sized in omega arith))));
       marks = ext-getD 0 m (map mark r) (M .long ∙ (e ∙ (sym sized ∙ sym (length-map r mark))))
-          (λ i l. M .done i (let a = M .long in omega arith) ∙ (ap mark (sym (same i (let a = M .long in omega arith))) ∙ sym (List·getD-map mark r i false)));
+          (λ i l. M .done i (let a = M .long in omega arith)
+          ∙ (ap mark (sym (same i (let a = M .long in omega arith))) ∙ sym (List·getD-map mark r i false)));
     }
   where
     r : List Bool
@@ -106,21 +115,24 @@ module _ (d f s : List ℕ) (q : Frame) where
   rg = ring t (q .query) (q .start) (q .stop)
 
   -- peeling leaves those who are met in the ring
-  pub remaining-of : (scratch : List ℕ) → Ready d f s scratch q → q .start ≤ q .stop → {end : ℕ} → Span d (q .stop) (q .lo) end → {r : Removal} {x l w : List ℕ}
+  pub remaining-of : (scratch : List ℕ) → Ready d f s scratch q → q .start ≤ q .stop → {end : ℕ}
+      → Span d (q .stop) (q .lo) end → {r : Removal} {x l w : List ℕ}
       → QueueEmpty d f s q (allRows end) r x l w → Remaining t q x
   unfolding dayOf at
   remaining-of scratch R order {end} Sp {r} {x} {l} {w} Q =
       record {
         long = F .buffers .times;
         is-met = stays-met t q (R .setting) F (λ j h k. Sp .inside j h);
-        met-is = λ u k m. ⊎-elim (λ z. z) (λ g. absurd (removed-not t q (R .setting) F u k g order m)) (removed-or-not x u);
+        met-is = λ u k m.
+            ⊎-elim (λ z. z) (λ g. absurd (removed-not t q (R .setting) F u k g order m)) (removed-or-not x u);
       }
     where
       F : PeelState t q 4096 never end (r .tail) (r .tail) nothing x l w
       F =
           subst (λ (c : ℕ). PeelState t q 4096 never end c (r .tail) nothing x l w) (Q .idle)
           (subst (λ (c : ℕ). PeelState t q 4096 never c (r .head) (r .tail) nothing x l w) (Q .goes-on .end)
-          (subst (λ (c : ℕ). PeelState t q 4096 c (r .end) (r .head) (r .tail) nothing x l w) (Q .goes-on .day) (Q .goes-on .state)))
+          (subst (λ (c : ℕ). PeelState t q 4096 c (r .end) (r .head) (r .tail) nothing x l w) (Q .goes-on .day)
+          (Q .goes-on .state)))
 
   module _ (W : WholeWindow d f s q) {x : List ℕ} (M : Remaining t q x) (j : ℕ) (b : j < length d) where
     rank-a : getD f j 0 < 4096
@@ -137,7 +149,9 @@ module _ (d f s : List ℕ) (q : Frame) where
     -- all rows are those of the window
     inside : Opens t (q .start) (q .stop) j
     unfolding dayOf at
-    inside = day-opens t (q .start) (q .stop) j (W .from .after j (let e = W .lo in omega arith) b) (let e = W .to .before j b in omega arith)
+    inside =
+        day-opens t (q .start) (q .stop) j (W .from .after j (let e = W .lo in omega arith) b)
+        (let e = W .to .before j b in omega arith)
 
     pub stays-ring : {y : Bool} → y ≡ bothRemain f s x j → marked rg j ≡ y
     unfolding firstOf secondOf at
@@ -152,8 +166,10 @@ module _ (d f s : List ℕ) (q : Frame) where
         goes : marked rg j ≡ true → za and zb ≡ true
         goes h =
             let k = in-marked t (q .query) (q .start) (q .stop) j h in
-            and-i (eq-eqb (getD x (getD f j 0) 0) 0 (M .met-is (getD f j 0) rank-a (met-first t (q .query) (q .start) (q .stop) j k)))
-            (eq-eqb (getD x (getD s j 0) 0) 0 (M .met-is (getD s j 0) rank-b (met-second t (q .query) (q .start) (q .stop) j k)))
+            and-i (eq-eqb (getD x (getD f j 0) 0) 0
+            (M .met-is (getD f j 0) rank-a (met-first t (q .query) (q .start) (q .stop) j k)))
+            (eq-eqb (getD x (getD s j 0) 0) 0
+            (M .met-is (getD s j 0) rank-b (met-second t (q .query) (q .start) (q .stop) j k)))
 
         comes : za and zb ≡ true → marked rg j ≡ true
         comes h =

@@ -59,7 +59,8 @@ module _ (mv : ℕ → Bool) where
       ≡ count (λ j. eqb (g j) e) (suc n) + count (λ j. eqb (g′ j) e) n
   count-stays g g′ e n k =
       ⊎-elim (λ y. let a = count-yes g e n y in let b = count-yes g′ e n (ap (λ (c : ℕ). eqb c e) k ∙ y) in omega arith)
-      (λ y. let a = count-no g e n y in let b = count-no g′ e n (ap (λ (c : ℕ). eqb c e) k ∙ y) in omega arith) (true-or-false (eqb (g n) e))
+      (λ y. let a = count-no g e n y in let b = count-no g′ e n (ap (λ (c : ℕ). eqb c e) k ∙ y) in omega arith)
+      (true-or-false (eqb (g n) e))
 
   module _ (g g′ : ℕ → ℕ) (old new : ℕ) where
     count-moves : (e n : ℕ)
@@ -71,7 +72,8 @@ module _ (mv : ℕ → Bool) where
     count-moves e (suc n) h =
         let before = count-moves e n (λ j l. h j (omega arith)) in
         let w = h n (le-refl (suc n)) in
-        ⊎-elim (λ y. let a = pendingOn-one g old e n y (w .0 y .0) in let b = pendingOn-one g′ new e n y (w .0 y .1) in omega arith)
+        ⊎-elim (λ y. let a = pendingOn-one g old e n y (w .0 y .0) in
+        let b = pendingOn-one g′ new e n y (w .0 y .1) in omega arith)
         (λ y.
         let a = count-stays g g′ e n (w .1 y) in
         let b : pendingOn old (count mv (suc n)) e ≡ pendingOn old (count mv n) e =
@@ -87,9 +89,16 @@ module _ (mv : ℕ → Bool) where
           record {
             long = T .long;
             from-day = small;
-            enough = let a = T .each old small in let b = count-mono mv (λ j. eqb (g j) old) n (λ j l y. eq-eqb (g j) old (h j l .0 y .0)) in omega arith;
+            enough =
+                let a = T .each old small in
+                let b = count-mono mv (λ j. eqb (g j) old) n (λ j l y. eq-eqb (g j) old (h j l .0 y .0)) in
+                omega arith;
             room = λ k. let o : new < 1025 = ⊎-elim (λ y. y) (λ y. absurd (k y)) i in
-                record { in-days = o; few = let a = T .each new o in let b = count-le (λ j. eqb (g j) new) n in let c = count-le mv n in omega arith };
+                record {
+                  in-days = o;
+                  few = let a = T .each new o in let b = count-le (λ j. eqb (g j) new) n in let c = count-le mv n in
+                      omega arith;
+                };
           }
 
       pub moving-hist : {m : ℕ} {xs′ : List ℕ} → m ≡ count mv n → Moving m old new xs xs′ → Histogram g′ n xs′
@@ -126,7 +135,9 @@ module _ (m old new : ℕ) (xs xs₁ : List ℕ) (long : length xs ≡ 1025) (sm
   moving-room ask =
       record {
         long = ap length e₁ ∙ (length-set xs old (getD xs old 0 - m) ∙ long);
-        room = λ k. let a = ask k in let b = taken-off new in let c = a .few in record { in-days = a .in-days; few = omega arith };
+        room = λ k.
+            let a = ask k in
+            let b = taken-off new in let c = a .few in record { in-days = a .in-days; few = omega arith };
       }
 
   pub moving-made : {xs′ : List ℕ} → Adding m new xs₁ xs′ → Moving m old new xs xs′
@@ -141,7 +152,10 @@ module _ (m old new : ℕ) (xs xs₁ : List ℕ) (long : length xs ≡ 1025) (sm
       }
   moving-made {xs′} (Adding.some h w) =
       record {
-        long = ap length w ∙ (length-set xs₁ new (getD xs₁ new 0 + m) ∙ (ap length e₁ ∙ (length-set xs old (getD xs old 0 - m) ∙ long)));
+        long =
+            ap length w
+            ∙ (length-set xs₁ new (getD xs₁ new 0 + m)
+            ∙ (ap length e₁ ∙ (length-set xs old (getD xs old 0 - m) ∙ long)));
         each = λ e l.
             let a = taken-off e in
             ⊎-elim (λ y.

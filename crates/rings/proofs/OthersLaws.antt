@@ -1,7 +1,9 @@
 -- "At least k distinct other accounts": what `degree` counts in an accepted table.
---     DistinctOthers t m u     a neighbour of u is another account; `degree` is the number of the accounts that share a row of m with u, each counted once
+--     DistinctOthers t m u     a neighbour of u is another account; `degree` is the number of the accounts that share
+--                              a row of m with u, each counted once
 --     distinct-others          so it is in every accepted table, for every row set and every account
---     accounts-rise            the first account of a row of an accepted table is below the second, and both are below 4,096
+--     accounts-rise            the first account of a row of an accepted table is below the second, and both are
+--                              below 4,096
 --     touch-named, neighbour-named     every account of a row has a number that `degree` looks at
 --     count-list               how many numbers have p: the length of every list that holds these, each once
 -- Assumes nothing.
@@ -22,7 +24,8 @@ use Rattle.rings.specs.Table.{Table, size, firstOf, secondOf}
 use Rattle.rings.specs.Ring.{joins, neighbour, greatest, names, degree, touches, Shares, Others}
 use Rattle.rings.specs.TableCheck.{tableCheck}
 use Rattle.rings.specs.declared.refusal.Verdict.the-variants.{Accepted}
-use Rattle.rings.proofs.WordLaws.{true-or-false, clash, and-i, and-l, and-r, no-i, no-e, same-truth, sucIf-yes, sucIf-no, count-same, count-none}
+use Rattle.rings.proofs.WordLaws.{true-or-false, clash, and-i, and-l, and-r, no-i, no-e, same-truth, sucIf-yes}
+use Rattle.rings.proofs.WordLaws.{sucIf-no, count-same, count-none}
 use Rattle.rings.proofs.ListLaws.{mem-tabulate, mem-filterBy, filterBy-mem, pair-tabulate, pair-filterBy}
 use Rattle.rings.proofs.RingLaws.{touch-cases, joins-cases, joins-touch, neighbour-i, neighbour-e}
 use Rattle.rings.proofs.TableLaws.{table-sound}
@@ -40,16 +43,20 @@ pub record DistinctOthers (t : Table) (m : List Bool) (u : ℕ) : Type 0 where
 -- ---- counting by a list
 
 -- one number less has p
-count-without : (p r : ℕ → Bool) (n x : ℕ) → x < n → p x ≡ true → r x ≡ false → ((v : ℕ) → (v ≡ x → ⊥) → p v ≡ r v) → count p n ≡ suc (count r n)
+count-without : (p r : ℕ → Bool) (n x : ℕ) → x < n → p x ≡ true → r x ≡ false
+    → ((v : ℕ) → (v ≡ x → ⊥) → p v ≡ r v) → count p n ≡ suc (count r n)
 unfolding count
 count-without p r zero x l a b f = absurd (not-suc-le-zero l)
 count-without p r (suc n) x l a b f =
     ⊎-elim (λ e.
     let yes : p n ≡ true = rw e at a in
     let none : r n ≡ false = rw e at b in
-    sucIf-yes (count p n) yes ∙ (ap suc (count-same p r n (λ i k. f i (λ o. omega arith))) ∙ ap suc (sym (sucIf-no (count r n) none))))
+    sucIf-yes (count p n) yes
+    ∙ (ap suc (count-same p r n (λ i k. f i (λ o. omega arith))) ∙ ap suc (sym (sucIf-no (count r n) none))))
     (λ k. let same : p n ≡ r n = f n (λ o. omega arith) in
-    ap (sucIf (p n)) (count-without p r n x k a b f) ∙ (ap (λ (c : Bool). sucIf c (suc (count r n))) same ∙ past (r n))) (eq-or-lt-of-le (le-of-suc-le-suc l))
+    ap (sucIf (p n)) (count-without p r n x k a b f)
+    ∙ (ap (λ (c : Bool). sucIf c (suc (count r n))) same ∙ past (r n)))
+    (eq-or-lt-of-le (le-of-suc-le-suc l))
   where
     past : (c : Bool) → sucIf c (suc (count r n)) ≡ suc (sucIf c (count r n))
     past c =
@@ -58,15 +65,19 @@ count-without p r (suc n) x l a b f =
 
 pub count-list : (p : ℕ → Bool) (n : ℕ) (xs : List ℕ) → Pairwise (λ v w. v ≡ w → ⊥) xs
     → ((v : ℕ) → Mem v xs → (v < n) × (p v ≡ true)) → ((v : ℕ) → v < n → p v ≡ true → Mem v xs) → count p n ≡ length xs
-count-list p n [] a f g = count-none p n (λ i l. ⊎-elim (λ h. absurd (not-nil (g i l h))) (λ h. h) (true-or-false (p i)))
+count-list p n [] a f g =
+    count-none p n (λ i l. ⊎-elim (λ h. absurd (not-nil (g i l h))) (λ h. h) (true-or-false (p i)))
 count-list p n (x ∷ xs) (more d a) f g =
-    count-without p rest n x (f x (here refl) .0) (f x (here refl) .1) gone others ∙ ap suc (count-list rest n xs a to back)
+    count-without p rest n x (f x (here refl) .0) (f x (here refl) .1) gone others
+    ∙ ap suc (count-list rest n xs a to back)
   where
     rest : ℕ → Bool
     rest v = p v and no (eqb v x)
 
     gone : rest x ≡ false
-    gone = ⊎-elim (λ h. clash (eq-eqb x x refl) (no-e (eqb x x) (and-r (p x) (no (eqb x x)) h))) (λ h. h) (true-or-false (rest x))
+    gone =
+        ⊎-elim (λ h. clash (eq-eqb x x refl) (no-e (eqb x x) (and-r (p x) (no (eqb x x)) h))) (λ h. h)
+        (true-or-false (rest x))
 
     others : (v : ℕ) → (v ≡ x → ⊥) → p v ≡ rest v
     others v o = same-truth (p v) (rest v) (λ h. and-i h (no-i (ne-eqb v x o))) (λ h. and-l (p v) (no (eqb v x)) h)
@@ -75,7 +86,9 @@ count-list p n (x ∷ xs) (more d a) f g =
     to v m = (f v (there m) .0, and-i (f v (there m) .1) (no-i (ne-eqb v x (λ e. d v m (sym e)))))
 
     back : (v : ℕ) → v < n → rest v ≡ true → Mem v xs
-    back v l h = ⊎-elim (λ e. clash (eq-eqb v x e) (no-e (eqb v x) (and-r (p v) (no (eqb v x)) h))) (λ m. m) (cases-cons (g v l (and-l (p v) (no (eqb v x)) h)))
+    back v l h =
+        ⊎-elim (λ e. clash (eq-eqb v x e) (no-e (eqb v x) (and-r (p v) (no (eqb v x)) h))) (λ m. m)
+        (cases-cons (g v l (and-l (p v) (no (eqb v x)) h)))
 
 -- ---- the numbers that `degree` looks at
 
@@ -95,24 +108,29 @@ second-named t j = let l : getD (t .second) j 0 ≤ greatest (t .second) = at-gr
 
 pub touch-named : (t : Table) (j u : ℕ) → touches t j u ≡ true → u < names t
 touch-named t j u h =
-    ⊎-elim (λ e. subst (λ (a : ℕ). a < names t) e (first-named t j)) (λ e. subst (λ (a : ℕ). a < names t) e (second-named t j)) (touch-cases t j u h)
+    ⊎-elim (λ e. subst (λ (a : ℕ). a < names t) e (first-named t j))
+    (λ e. subst (λ (a : ℕ). a < names t) e (second-named t j)) (touch-cases t j u h)
 
 pub neighbour-named : (t : Table) (m : List Bool) (u v : ℕ) → neighbour t m u v ≡ true → v < names t
-neighbour-named t m u v h = let x = neighbour-e t m u v h in touch-named t (x .row) v (joins-touch t (x .row) u v (x .join) .1)
+neighbour-named t m u v h =
+    let x = neighbour-e t m u v h in touch-named t (x .row) v (joins-touch t (x .row) u v (x .join) .1)
 
 -- ---- an accepted table
 
 module _ (t : Table) (accepted : tableCheck t ≡ Accepted) where
   pub accounts-rise : (j : ℕ) → j < size t → (firstOf t j < secondOf t j) × (secondOf t j < 4096)
   unfolding firstOf secondOf at
-  accounts-rise j l = let r = table-sound (t .days) (t .first) (t .second) accepted .rows j l in let b = r .account-to in (r .accounts, omega arith)
+  accounts-rise j l =
+      let r = table-sound (t .days) (t .first) (t .second) accepted .rows j l in
+      let b = r .account-to in (r .accounts, omega arith)
 
   module _ (m : List Bool) (u : ℕ) where
     not-itself : (v : ℕ) → neighbour t m u v ≡ true → v ≡ u → ⊥
     not-itself v h e =
         let x = neighbour-e t m u v h in
         let l = accounts-rise (x .row) (x .below) .0 in
-        ⊎-elim (λ a. let b = a .0 in let c = a .1 in omega arith) (λ a. let b = a .0 in let c = a .1 in omega arith) (joins-cases t (x .row) u v (x .join))
+        ⊎-elim (λ a. let b = a .0 in let c = a .1 in omega arith)
+        (λ a. let b = a .0 in let c = a .1 in omega arith) (joins-cases t (x .row) u v (x .join))
 
     shares : (v : ℕ) → neighbour t m u v ≡ true → Shares t m u v
     shares v h =
@@ -141,7 +159,8 @@ module _ (t : Table) (accepted : tableCheck t ≡ Accepted) where
     unfolding degree
     counted-so ns o =
         count-list (neighbour t m u) (names t) ns (o .once)
-        (λ v h. let n = neighbour-of v (o .each v h) in (neighbour-named t m u v n, n)) (λ v l h. o .whole v (shares v h))
+        (λ v h. let n = neighbour-of v (o .each v h) in (neighbour-named t m u v n, n))
+        (λ v l h. o .whole v (shares v h))
 
     abbrev found : List ℕ
     found = filterBy (neighbour t m u) (tabulate (λ v. v) 0 (names t))
@@ -153,7 +172,8 @@ module _ (t : Table) (accepted : tableCheck t ≡ Accepted) where
           whole = λ v w.
               let n = neighbour-of v w in
               let l = neighbour-named t m u v n in
-              mem-filterBy (neighbour t m u) (tabulate (λ v. v) 0 (names t)) (mem-tabulate (λ v. v) 0 (names t) v (omega arith) (omega arith)) n;
+              mem-filterBy (neighbour t m u) (tabulate (λ v. v) 0 (names t))
+              (mem-tabulate (λ v. v) 0 (names t) v (omega arith) (omega arith)) n;
           once = pair-filterBy (λ v w. v ≡ w → ⊥) (neighbour t m u) (tabulate (λ v. v) 0 (names t))
               (pair-tabulate (λ v w. v ≡ w → ⊥) (λ v. v) 0 (names t) (λ a b l k o e. omega arith));
         }

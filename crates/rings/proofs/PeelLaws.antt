@@ -1,10 +1,12 @@
--- Peeling by any test: what is left is within the start, passes the test in itself, and, where the test is monotone, holds every such set within the start.
+-- Peeling by any test: what is left is within the start, passes the test in itself, and, where the test is monotone,
+-- holds every such set within the start.
 -- Nothing here knows what the test is: a rule with more conditions changes `RingLaws.keep-monotone` and not this file.
 --     Stable test m      each row of m passes the test in m
 --     Monotone test      what passes in a set passes in a greater one
 --     within-refl, within-trans     row sets, by inclusion
 --     members-length     a row set has at most as many rows as marks
---     peel-sized, peel-within, peel-stable, peel-greatest     what is left: a part of the start that passes the test in itself, and the greatest
+--     peel-sized, peel-within, peel-stable, peel-greatest     what is left: a part of the start that passes the test
+--     in itself, and the greatest
 -- Assumes nothing.
 use Prim.Native.Nat.{ℕ, zero, suc, _≤_, _<_}
 use native.Mathlib.Omega.{arith}
@@ -42,7 +44,11 @@ module _ (test : List Bool → ℕ → Bool) where
 
   round-within : (m : List Bool) → Within (round test m) m
   unfolding round
-  round-within m = record { all = λ j h. and-l (marked m j) (test m j) (marked-tabulate-e (λ i. marked m i and test m i) (length m) j h .1) }
+  round-within m =
+      record {
+        all = λ j h. and-l (marked m j) (test m j)
+            (marked-tabulate-e (λ i. marked m i and test m i) (length m) j h .1);
+      }
 
   -- a row of m that passes the test stays
   round-stays : (m : List Bool) (j : ℕ) → marked m j ≡ true → test m j ≡ true → marked (round test m) j ≡ true
@@ -51,11 +57,13 @@ module _ (test : List Bool → ℕ → Bool) where
 
   round-passes : (m : List Bool) (j : ℕ) → marked (round test m) j ≡ true → test m j ≡ true
   unfolding round
-  round-passes m j h = and-r (marked m j) (test m j) (marked-tabulate-e (λ i. marked m i and test m i) (length m) j h .1)
+  round-passes m j h =
+      and-r (marked m j) (test m j) (marked-tabulate-e (λ i. marked m i and test m i) (length m) j h .1)
 
   -- a set from which no row is dropped is left as it is
   round-same : (m : List Bool) → Stable test m → round test m ≡ m
-  round-same m s = same-marks (round test m) m (round-sized m) (round-within m .all) (λ j h. round-stays m j h (s .passes j h))
+  round-same m s =
+      same-marks (round test m) m (round-sized m) (round-within m .all) (λ j h. round-stays m j h (s .passes j h))
 
   rounds-same : (n : ℕ) (m : List Bool) → Stable test m → rounds test n m ≡ m
   unfolding rounds
@@ -73,17 +81,23 @@ module _ (test : List Bool → ℕ → Bool) where
   rounds-within (suc n) m = within-trans (rounds-within n (round test m)) (round-within m)
 
   -- either no row is dropped, or there are fewer rows after the round
-  round-fewer : (m : List Bool) (j : ℕ) → marked m j ≡ true → marked (round test m) j ≡ false → members (round test m) < members m
+  round-fewer : (m : List Bool) (j : ℕ) → marked m j ≡ true → marked (round test m) j ≡ false
+      → members (round test m) < members m
   unfolding members
   round-fewer m j h k =
       subst (λ (n : ℕ). count (marked (round test m)) n < count (marked m) (length m)) (sym (round-sized m))
-      (count-less (marked (round test m)) (marked m) (length m) j (λ i l. round-within m .all i) (marked-below m j h) k h)
+      (count-less (marked (round test m)) (marked m) (length m) j (λ i l. round-within m .all i)
+      (marked-below m j h) k h)
 
   -- as many rounds as the set has rows suffice
   rounds-stable : (n : ℕ) (m : List Bool) → members m ≤ n → Stable test (rounds test n m)
   unfolding rounds members
   rounds-stable zero m h =
-      record { passes = λ j k. let p : 0 < count (marked m) (length m) = count-pos (marked m) (length m) j (marked-below m j k) k in absurd (omega arith) }
+      record {
+        passes = λ j k.
+            let p : 0 < count (marked m) (length m) = count-pos (marked m) (length m) j (marked-below m j k) k in
+            absurd (omega arith);
+      }
   rounds-stable (suc n) m h =
       ⊎-elim (λ e. let w = some-e dropped (length m) e in
       rounds-stable n (round test m)
@@ -96,8 +110,12 @@ module _ (test : List Bool → ℕ → Bool) where
       dropped : ℕ → Bool
       dropped j = marked m j and no (marked (round test m) j)
 
-      less : (j : ℕ) → marked m j ≡ true → marked (round test m) j ≡ false → count (marked (round test m)) (length (round test m)) ≤ n
-      less j a b = let f : count (marked (round test m)) (length (round test m)) < count (marked m) (length m) = round-fewer m j a b in omega arith
+      less : (j : ℕ) → marked m j ≡ true → marked (round test m) j ≡ false
+          → count (marked (round test m)) (length (round test m)) ≤ n
+      less j a b =
+          let f : count (marked (round test m)) (length (round test m))
+          < count (marked m) (length m) = round-fewer m j a b in
+          omega arith
 
       stays : some dropped (length m) ≡ false → (j : ℕ) → marked m j ≡ true → marked (round test m) j ≡ true
       stays e j a =

@@ -1,4 +1,5 @@
--- The stages of peeling (src/peel.rt): remove_queued, remove_row, remove_rows_from_the_end, count_neighbours, queue_low_degree.
+-- The stages of peeling (src/peel.rt): remove_queued, remove_row, remove_rows_from_the_end, count_neighbours,
+-- queue_low_degree.
 --     SameLengths, same-start, same-next        the lengths of the three lists, which no step changes
 --     RemovingQueued, RemovingRows, Counting, QueueingLowDegree             the invariants of the loops
 --     tail-most, remove-queued-start, remove-queued-next, remove-queued-end    the queue
@@ -35,7 +36,8 @@ use Rattle.rings.proofs.RingLaws.{touch-first, touch-second}
 use Rattle.rings.proofs.RankLaws.{first-small, second-small}
 use Rattle.rings.proofs.LeadLaws.{lead-test}
 use Rattle.rings.proofs.PeelStateLaws.{removed-or-not}
-use Rattle.rings.proofs.PeelRowLaws.{remove-row-not-lead, remove-row-removed, remove-row-first-one, remove-row-second-one, remove-row-both}
+use Rattle.rings.proofs.PeelRowLaws.{remove-row-not-lead, remove-row-removed, remove-row-first-one}
+use Rattle.rings.proofs.PeelRowLaws.{remove-row-second-one, remove-row-both}
 use Rattle.rings.proofs.PeelEndLaws.{next-day, peel-times}
 
 -- nobody has been removed exactly where all times are 0
@@ -43,13 +45,16 @@ pub removed-none : (x : List ℕ) → ((u : ℕ) → u < 4096 → getD x u 0 ≡
 unfolding removedCount
 removed-none x f =
     count-none (λ u. no (eqb (getD x u 0) 0)) 4096
-    (λ u k. ⊎-elim (λ h. clash (eq-eqb (getD x u 0) 0 (f u k)) (no-e (eqb (getD x u 0) 0) h)) (λ h. h) (true-or-false (no (eqb (getD x u 0) 0))))
+    (λ u k. ⊎-elim (λ h. clash (eq-eqb (getD x u 0) 0 (f u k)) (no-e (eqb (getD x u 0) 0) h)) (λ h. h)
+    (true-or-false (no (eqb (getD x u 0) 0))))
 
 pub none-removed : (x : List ℕ) → removedCount x ≡ 0 → (u : ℕ) → u < 4096 → getD x u 0 ≡ 0
 unfolding removedCount
 none-removed x e u k =
     ⊎-elim (λ z. z)
-    (λ f. let p : 0 < count (λ u. no (eqb (getD x u 0) 0)) 4096 = count-pos (λ u. no (eqb (getD x u 0) 0)) 4096 u k (no-i (ne-eqb (getD x u 0) 0 f)) in
+    (λ f. let p : 0
+    < count (λ u. no (eqb (getD x u 0) 0)) 4096 =
+    count-pos (λ u. no (eqb (getD x u 0) 0)) 4096 u k (no-i (ne-eqb (getD x u 0) 0 f)) in
     absurd (omega arith)) (removed-or-not x u)
 
 -- ---- the lengths of the three lists, which no step changes
@@ -62,7 +67,8 @@ pub record SameLengths (x₀ l₀ w₀ x l w : List ℕ) : Type 0 where
 pub same-start : (x l w : List ℕ) → SameLengths x l w x l w
 same-start x l w = record { times = refl; left = refl; queue = refl }
 
-pub same-next : {x₀ l₀ w₀ x l w x′ l′ w′ : List ℕ} → SameLengths x₀ l₀ w₀ x l w → length x′ ≡ length x → length l′ ≡ length l → length w′ ≡ length w
+pub same-next : {x₀ l₀ w₀ x l w x′ l′ w′ : List ℕ} → SameLengths x₀ l₀ w₀ x l w → length x′ ≡ length x
+    → length l′ ≡ length l → length w′ ≡ length w
     → SameLengths x₀ l₀ w₀ x′ l′ w′
 same-next S ex el ew = record { times = ex ∙ S .times; left = el ∙ S .left; queue = ew ∙ S .queue }
 
@@ -92,8 +98,10 @@ pub record QueueingLowDegree (d f s : List ℕ) (q : Frame) (u end tail : ℕ) (
   pub state : PeelState (tableOf d f s) q u never end 0 tail nothing x l w
   pub rest : (v : ℕ) → u ≤ v → v < 4096 → getD x v 0 ≡ 0
 
-pub count-end : {d f s : List ℕ} {q : Frame} {j end : ℕ} {l₀ l : List ℕ} → Counting d f s q j end l₀ l → end ≤ j → NeighbourCounts (tableOf d f s) (q .lo) end l
-count-end {d} {f} {s} {q} {l = l} C h = subst (λ (c : ℕ). NeighbourCounts (tableOf d f s) (q .lo) c l) (le-antisymm (C .most) h) (C .counted)
+pub count-end : {d f s : List ℕ} {q : Frame} {j end : ℕ} {l₀ l : List ℕ} → Counting d f s q j end l₀ l → end ≤ j
+    → NeighbourCounts (tableOf d f s) (q .lo) end l
+count-end {d} {f} {s} {q} {l = l} C h =
+    subst (λ (c : ℕ). NeighbourCounts (tableOf d f s) (q .lo) c l) (le-antisymm (C .most) h) (C .counted)
 
 module _ (d f s scratch : List ℕ) (q : Frame) (R : Ready d f s scratch q) where
   abbrev t : Table
@@ -106,18 +114,27 @@ module _ (d f s scratch : List ℕ) (q : Frame) (R : Ready d f s scratch q) wher
 
   pub tail-most : {b : ℕ} {m : Removal} {x l w : List ℕ} → PeelStateOf d f s q b m x l w → m .tail ≤ 4096
   unfolding removedCount
-  tail-most {x = x} F = subst (λ (c : ℕ). c ≤ 4096) (sym (F .queue .tail-is)) (count-le (λ u. no (eqb (getD x u 0) 0)) 4096)
+  tail-most {x = x} F =
+      subst (λ (c : ℕ). c ≤ 4096) (sym (F .queue .tail-is)) (count-le (λ u. no (eqb (getD x u 0) 0)) 4096)
 
-  pub remove-queued-start : {m : Removal} {x l w : List ℕ} → PeelStateOf d f s q 4096 m x l w → RemovingQueued d f s q m m x l w x l w
-  remove-queued-start {m} {x} {l} {w} F = record { lengths = same-start x l w; goes-on = record { state = F; day = refl; end = refl } }
+  pub remove-queued-start : {m : Removal} {x l w : List ℕ} → PeelStateOf d f s q 4096 m x l w
+      → RemovingQueued d f s q m m x l w x l w
+  remove-queued-start {m} {x} {l} {w} F =
+      record { lengths = same-start x l w; goes-on = record { state = F; day = refl; end = refl } }
 
   module _ {m state : Removal} {x₀ l₀ w₀ x l w : List ℕ} (D : RemovingQueued d f s q m state x₀ l₀ w₀ x l w) where
-    pub remove-queued-next : {r : Removal} {x′ l′ w′ : List ℕ} → length x′ ≡ length x → length l′ ≡ length l → length w′ ≡ length w
+    pub remove-queued-next : {r : Removal} {x′ l′ w′ : List ℕ} → length x′ ≡ length x → length l′ ≡ length l
+        → length w′ ≡ length w
         → HeadWalked d f s q state r x′ l′ w′ → RemovingQueued d f s q m r x₀ l₀ w₀ x′ l′ w′
     remove-queued-next ex el ew W =
         record {
           lengths = same-next (D .lengths) ex el ew;
-          goes-on = record { state = W .goes-on .state; day = W .goes-on .day ∙ D .goes-on .day; end = W .goes-on .end ∙ D .goes-on .end };
+          goes-on =
+              record {
+                state = W .goes-on .state;
+                day = W .goes-on .day ∙ D .goes-on .day;
+                end = W .goes-on .end ∙ D .goes-on .end;
+              };
         }
 
     pub remove-queued-end : state .tail ≤ state .head → QueueEmpty d f s q m state x l w
@@ -129,14 +146,19 @@ module _ (d f s scratch : List ℕ) (q : Frame) (R : Ready d f s scratch q) wher
   remove-row-below L = let a = L .some in let b = L .rows-removed .row-removal .within in omega arith
 
   -- by the two numbers alone
-  pub rows-removed-of : {m : Removal} {x l w : List ℕ} → RowRemoval d f s q m x l w → RowsRemovedTo d f s q (m .end) (m .tail) x l w
+  pub rows-removed-of : {m : Removal} {x l w : List ℕ} → RowRemoval d f s q m x l w
+      → RowsRemovedTo d f s q (m .end) (m .tail) x l w
   rows-removed-of {m} {x} {l} {w} F =
       record {
         day = m .day;
-        row-removal = subst (λ (c : ℕ). RowRemoval d f s q (record { day = m .day; end = m .end; head = c; tail = m .tail }) x l w) (F .idle) F;
+        row-removal =
+            subst
+            (λ (c : ℕ). RowRemoval d f s q (record { day = m .day; end = m .end; head = c; tail = m .tail }) x l w)
+            (F .idle) F;
       }
 
-  module _ {end tail : ℕ} {x l w : List ℕ} (L : RowRemovable d f s q end tail x l w) {e : ℕ} (day : e ≡ getD d (end - 1) 0) where
+  module _ {end tail : ℕ} {x l w : List ℕ} (L : RowRemovable d f s q end tail x l w) {e : ℕ}
+      (day : e ≡ getD d (end - 1) 0) where
     abbrev j : ℕ
     j = end - 1
 
@@ -153,7 +175,8 @@ module _ (d f s scratch : List ℕ) (q : Frame) (R : Ready d f s scratch q) wher
         let z = L .rows-removed .row-removal .dated j (omega (arith, one-more)) in
         subst (λ (c : ℕ). State 4096 c (suc j) tail tail x l w) (sym day)
         (next-day t q (R .setting)
-        (subst (λ (c : ℕ). State 4096 (L .rows-removed .day) c tail tail x l w) one-more (L .rows-removed .row-removal .state))
+        (subst (λ (c : ℕ). State 4096 (L .rows-removed .day) c tail tail x l w) one-more
+        (L .rows-removed .row-removal .state))
         b (z .0) (z .1) (L .rows-removed .row-removal .above j (omega (arith, one-more))))
 
     e-day : e ≤ dayOf t j
@@ -181,15 +204,19 @@ module _ (d f s scratch : List ℕ) (q : Frame) (R : Ready d f s scratch q) wher
         → RowsRemovedTo d f s q j (r .tail) x′ l′ w′
     unfolding dayOf at
     remove-row-left {r} {n} {x′} {l′} {w′} ed en Q =
-        subst (λ (c : ℕ). RowsRemovedTo d f s q c (r .tail) x′ l′ w′) (Q .goes-on .end ∙ en) (rows-removed-of (left ed en Q))
+        subst (λ (c : ℕ). RowsRemovedTo d f s q c (r .tail) x′ l′ w′) (Q .goes-on .end ∙ en)
+        (rows-removed-of (left ed en Q))
       where
         left : n .day ≡ e → n .end ≡ j → QueueEmpty d f s q n r x′ l′ w′ → RowRemoval d f s q r x′ l′ w′
         left ed en Q =
-            let a = L .rows-removed .row-removal .within in let o = L .some in let g : r .end ≡ j = Q .goes-on .end ∙ en in
+            let a = L .rows-removed .row-removal .within in
+            let o = L .some in let g : r .end ≡ j = Q .goes-on .end ∙ en in
             record {
               state = Q .goes-on .state;
               idle = Q .idle;
-              above = λ i k. subst (λ (c : ℕ). getD d i 0 ≤ c) (sym (Q .goes-on .day ∙ (ed ∙ day))) (R .setting .rising i j (omega arith) b);
+              above = λ i k.
+                  subst (λ (c : ℕ). getD d i 0 ≤ c) (sym (Q .goes-on .day ∙ (ed ∙ day)))
+                  (R .setting .rising i j (omega arith) b);
               within = omega arith;
               from = omega arith;
               dated = λ i k. L .rows-removed .row-removal .dated i (omega arith);
@@ -198,7 +225,8 @@ module _ (d f s scratch : List ℕ) (q : Frame) (R : Ready d f s scratch q) wher
     -- it has left, and nobody fell
     gone : State 4096 e j tail tail x l w → RowsRemovedTo d f s q j tail x l w
     gone F =
-        remove-row-left {r = record { day = e; end = j; head = tail; tail = tail }} {n = record { day = e; end = j; head = tail; tail = tail }} refl refl
+        remove-row-left {r = record { day = e; end = j; head = tail; tail = tail }}
+        {n = record { day = e; end = j; head = tail; tail = tail }} refl refl
         (record { goes-on = record { state = F; day = refl; end = refl }; idle = refl })
 
     pub remove-row-old : {y : Bool} → y ≡ leadsBy scratch (length d) (q .lo) j → y ≡ false
@@ -209,16 +237,19 @@ module _ (d f s scratch : List ℕ) (q : Frame) (R : Ready d f s scratch q) wher
         → RowsRemovedTo d f s q j tail x l w
     unfolding firstOf at
     remove-row-a-removed {a} {v} ea ev n =
-        gone (remove-row-removed t q (R .setting) G e-day b a (subst (λ (c : ℕ). touches t j c ≡ true) (sym ea) (touch-first t j)) (λ z. n (ev ∙ z)))
+        gone (remove-row-removed t q (R .setting) G e-day b a
+        (subst (λ (c : ℕ). touches t j c ≡ true) (sym ea) (touch-first t j)) (λ z. n (ev ∙ z)))
 
     pub remove-row-b-removed : {c v : ℕ} → c ≡ getD s j 0 → v ≡ getD x c 0 → (v ≡ 0 → ⊥)
         → RowsRemovedTo d f s q j tail x l w
     unfolding secondOf at
     remove-row-b-removed {c} {v} ec ev n =
-        gone (remove-row-removed t q (R .setting) G e-day b c (subst (λ (g : ℕ). touches t j g ≡ true) (sym ec) (touch-second t j)) (λ z. n (ev ∙ z)))
+        gone (remove-row-removed t q (R .setting) G e-day b c
+        (subst (λ (g : ℕ). touches t j g ≡ true) (sym ec) (touch-second t j)) (λ z. n (ev ∙ z)))
 
     module _ {y : Bool} (ey : y ≡ leadsBy scratch (length d) (q .lo) j) (yes : y ≡ true)
-        {a c va vc : ℕ} (ea : a ≡ getD f j 0) (ec : c ≡ getD s j 0) (va-is : va ≡ getD x a 0) (vc-is : vc ≡ getD x c 0) (za : va ≡ 0) (zc : vc ≡ 0) where
+        {a c va vc : ℕ} (ea : a ≡ getD f j 0) (ec : c ≡ getD s j 0) (va-is : va ≡ getD x a 0)
+        (vc-is : vc ≡ getD x c 0) (za : va ≡ 0) (zc : vc ≡ 0) where
       f-is : leads t (q .lo) j ≡ true
       f-is = lead-is ey ∙ yes
 
@@ -250,14 +281,16 @@ module _ (d f s scratch : List ℕ) (q : Frame) (R : Ready d f s scratch q) wher
             subst (λ (g : ℕ). Droppable (q .query .k) one g x₁ l₁ w₁) (sym c-is)
             (remove-row-second-one t q (R .setting) G e-day b f-is zero-a zero-c A′)
 
-        pub remove-row-now : {x₂ l₂ w₂ : List ℕ} {two : ℕ} → DroppedNeighbour (q .query .k) e one c x₁ l₁ w₁ x₂ l₂ w₂ two → State 4096 e j tail two x₂ l₂ w₂
+        pub remove-row-now : {x₂ l₂ w₂ : List ℕ} {two : ℕ}
+            → DroppedNeighbour (q .query .k) e one c x₁ l₁ w₁ x₂ l₂ w₂ two → State 4096 e j tail two x₂ l₂ w₂
         remove-row-now {x₂} {l₂} {w₂} {two} M =
             remove-row-both t q (R .setting) G e-day b f-is zero-a zero-c A′
             (subst (λ (g : ℕ). DroppedNeighbour (q .query .k) e one g x₁ l₁ w₁ x₂ l₂ w₂ two) c-is M)
 
   -- ---- remove_rows_from_the_end
 
-  pub removing-rows-start : {m : Removal} {x l w : List ℕ} → RowRemoval d f s q m x l w → RemovingRows d f s q (m .end) (m .tail) x l w x l w
+  pub removing-rows-start : {m : Removal} {x l w : List ℕ} → RowRemoval d f s q m x l w
+      → RemovingRows d f s q (m .end) (m .tail) x l w x l w
   removing-rows-start {x = x} {l} {w} F = record { lengths = same-start x l w; rows-removed = rows-removed-of F }
 
   module _ {end tail : ℕ} {x₀ l₀ w₀ x l w : List ℕ} (F : RemovingRows d f s q end tail x₀ l₀ w₀ x l w) where
@@ -275,5 +308,8 @@ module _ (d f s scratch : List ℕ) (q : Frame) (R : Ready d f s scratch q) wher
         let g : end ≡ q .lo = le-antisymm h (now .from) in
         record {
           long = now .state .buffers .times;
-          times = λ u k. peel-times t q (R .setting) (subst (λ (c : ℕ). State 4096 (F .rows-removed .day) c tail tail x l w) g (now .state)) u k;
+          times = λ u k.
+              peel-times t q (R .setting)
+              (subst (λ (c : ℕ). State 4096 (F .rows-removed .day) c tail tail x l w) g (now .state))
+              u k;
         }

@@ -45,11 +45,14 @@ module _ (d f s scratch : List ℕ) (q : Frame) (R : Ready d f s scratch q) wher
       → end ≤ length d → ((j : ℕ) → end ≤ j → j < length d → q .stop < dayOf t j) → State 0 never end 0 0 x l w
   peel-state-start x₀ {x} {l} {w} {end} n ex C m within later =
       record {
-        buffers = record { times = ap length ex ∙ (length-replicate {A = ℕ} (length x₀) 0 ∙ n); left = C .long; queue = m };
+        buffers =
+            record { times = ap length ex ∙ (length-replicate {A = ℕ} (length x₀) 0 ∙ n); left = C .long; queue = m };
         walked = λ u. false;
         live = λ j u. counts-for d f s scratch q R end u j;
         rows = record {
-          live-row = λ j u h. let a = and-l (leads t (q .lo) j and ltb j end) (touches t j u) h in let b = counts-below d f s scratch q R end u j h in
+          live-row = λ j u h.
+              let a = and-l (leads t (q .lo) j and ltb j end) (touches t j u) h in
+              let b = counts-below d f s scratch q R end u j h in
               record {
                 below = omega arith;
                 before = b;
@@ -96,16 +99,29 @@ module _ (d f s scratch : List ℕ) (q : Frame) (R : Ready d f s scratch q) wher
       nobody : removedCount x ≡ 0
       nobody = removed-none x zero
 
-  pub low-degree-start : {end : ℕ} {x l w : List ℕ} → PeelStateOf d f s q 0 (allRows end) x l w → QueueingLowDegree d f s q 0 end 0 x w x l w
+  pub low-degree-start : {end : ℕ} {x l w : List ℕ} → PeelStateOf d f s q 0 (allRows end) x l w
+      → QueueingLowDegree d f s q 0 end 0 x w x l w
   low-degree-start {end} {x} F =
-      record { times-length = refl; queue-length = refl; most = omega arith; state = F; rest = λ v a k. none-removed x (sym (F .queue .tail-is)) v k }
+      record {
+        times-length = refl;
+        queue-length = refl;
+        most = omega arith;
+        state = F;
+        rest = λ v a k. none-removed x (sym (F .queue .tail-is)) v k;
+      }
 
-  pub low-degree-end : {u end tail : ℕ} {x₀ w₀ x l w : List ℕ} → QueueingLowDegree d f s q u end tail x₀ w₀ x l w → 4096 ≤ u
+  pub low-degree-end : {u end tail : ℕ} {x₀ w₀ x l w : List ℕ} → QueueingLowDegree d f s q u end tail x₀ w₀ x l w
+      → 4096 ≤ u
       → Continues d f s q (allRows end) (record { day = never; end = end; head = 0; tail = tail }) x l w
   low-degree-end {u} {end} {tail} {x = x} {l} {w} W h =
-      record { state = subst (λ (c : ℕ). State c never end 0 tail x l w) (le-antisymm (W .most) h) (W .state); day = refl; end = refl }
+      record {
+        state = subst (λ (c : ℕ). State c never end 0 tail x l w) (le-antisymm (W .most) h) (W .state);
+        day = refl;
+        end = refl;
+      }
 
-  module _ {end u tail : ℕ} {x₀ w₀ x l w : List ℕ} (W : QueueingLowDegree d f s q u end tail x₀ w₀ x l w) (k : u < 4096) where
+  module _ {end u tail : ℕ} {x₀ w₀ x l w : List ℕ} (W : QueueingLowDegree d f s q u end tail x₀ w₀ x l w)
+      (k : u < 4096) where
     F : State u never end 0 tail x l w
     F = W .state
 
@@ -116,7 +132,9 @@ module _ (d f s scratch : List ℕ) (q : Frame) (R : Ready d f s scratch q) wher
     low-degree-small = subst (λ (c : ℕ). c < 4096) (sym (F .queue .tail-is)) (room x u k zero-u)
 
     pub low-degree-room : (tail < length w) × (u < length x)
-    low-degree-room = let a = low-degree-small in let b = F .buffers .queue in let c = F .buffers .times in (omega arith, omega arith)
+    low-degree-room =
+        let a = low-degree-small in
+        let b = F .buffers .queue in let c = F .buffers .times in (omega arith, omega arith)
 
     pub low-degree-left : u < length l
     low-degree-left = let a = F .buffers .left in omega arith
@@ -142,7 +160,9 @@ module _ (d f s scratch : List ℕ) (q : Frame) (R : Ready d f s scratch q) wher
                   many = F .counts .many;
                   few = F .counts .few;
                   enough =
-                      λ v a b z. ⊎-elim (λ e. subst (λ (c : ℕ). q .query .k ≤ getD l c 0) (sym e) h) (λ o. F .counts .enough v o b z)
+                      λ v a b z.
+                      ⊎-elim (λ e. subst (λ (c : ℕ). q .query .k ≤ getD l c 0) (sym e) h)
+                      (λ o. F .counts .enough v o b z)
                       (eq-or-lt-of-le (omega arith));
                 };
           };
@@ -155,7 +175,9 @@ module _ (d f s scratch : List ℕ) (q : Frame) (R : Ready d f s scratch q) wher
         → QueueingLowDegree d f s q (u + 1) end (tail + 1) x₀ w₀ x′ l w′
     low-degree-removal h {x′} {w′} ex ew =
         subst (λ (c : List ℕ). QueueingLowDegree d f s q (u + 1) end (tail + 1) x₀ w₀ c l w′) (sym ex)
-        (subst (λ (c : List ℕ). QueueingLowDegree d f s q (u + 1) end (tail + 1) x₀ w₀ (set x u never) l c) (sym ew) removed)
+        (subst
+        (λ (c : List ℕ). QueueingLowDegree d f s q (u + 1) end (tail + 1) x₀ w₀ (set x u never) l c)
+        (sym ew) removed)
       where
         few : count (λ j. F .live j u) (length d) < q .query .k
         few = let a : getD l u 0 ≡ count (λ j. F .live j u) (length d) = F .counts .degrees u k zero-u in omega arith
@@ -184,22 +206,32 @@ module _ (d f s scratch : List ℕ) (q : Frame) (R : Ready d f s scratch q) wher
                 walked = F .walked;
                 live = F .live;
                 rows = F .rows;
-                queue = queue-removal t q (R .setting) (F .buffers .times) (F .times) u k zero-u (F .buffers .queue) (F .queue);
+                queue =
+                    queue-removal t q (R .setting) (F .buffers .times) (F .times) u k zero-u (F .buffers .queue)
+                    (F .queue);
                 times =
                     times-removal t q (R .setting) (F .buffers .times) (F .times) u k zero-u
-                    (removal-lower t q (R .setting) (F .rows) (F .queue .walked-removed) (F .times) (F .passed-why) (F .left-why) u few);
+                    (removal-lower t q (R .setting) (F .rows) (F .queue .walked-removed) (F .times)
+                    (F .passed-why) (F .left-why) u few);
                 counts = record {
-                  degrees = λ v a z. ⊎-elim (λ y. absurd (removed-u v y z)) (λ y. F .counts .degrees v a (sym (same v y) ∙ z)) (same-or v u);
+                  degrees = λ v a z.
+                      ⊎-elim (λ y. absurd (removed-u v y z)) (λ y. F .counts .degrees v a (sym (same v y) ∙ z))
+                      (same-or v u);
                   enough =
                       λ v a b z. ⊎-elim (λ y. absurd (removed-u v y z))
-                      (λ y. F .counts .enough v (⊎-elim (λ e. absurd (y e)) (λ o. o) (eq-or-lt-of-le (omega arith))) b (sym (same v y) ∙ z)) (same-or v u);
+                      (λ y. F .counts .enough v
+                      (⊎-elim (λ e. absurd (y e)) (λ o. o) (eq-or-lt-of-le (omega arith))) b (sym (same v y) ∙ z))
+                      (same-or v u);
                   many =
                       λ v a z. ⊎-elim
                       (λ y. subst (λ (c : ℕ). count (λ j. F .live j c) (length d) ≤ getD l c 0) (sym y)
-                      (let m : getD l u 0 ≡ count (λ j. F .live j u) (length d) = F .counts .degrees u k zero-u in omega arith))
+                      (let m : getD l u 0 ≡ count (λ j. F .live j u) (length d) = F .counts .degrees u k zero-u in
+                      omega arith))
                       (λ y. F .counts .many v a (λ e. z (same v y ∙ e))) (same-or v u);
                   few =
-                      λ v a z. ⊎-elim (λ y. subst (λ (c : ℕ). getD l c 0 < q .query .k) (sym y) h) (λ y. F .counts .few v a (λ e. z (same v y ∙ e)))
+                      λ v a z.
+                      ⊎-elim (λ y. subst (λ (c : ℕ). getD l c 0 < q .query .k) (sym y) h)
+                      (λ y. F .counts .few v a (λ e. z (same v y ∙ e)))
                       (same-or v u);
                 };
                 passed-why = λ j v a p. clash refl (sym p);
@@ -215,11 +247,13 @@ module _ (d f s scratch : List ℕ) (q : Frame) (R : Ready d f s scratch q) wher
     unfolding dayOf at
     later-day = Sp .later
 
-    pub core-start : {x₀ l₀ x l w : List ℕ} → PeelBuffers x₀ l₀ w → x ≡ replicate (length x₀) 0 → NeighbourCounts t (q .lo) end l
+    pub core-start : {x₀ l₀ x l w : List ℕ} → PeelBuffers x₀ l₀ w → x ≡ replicate (length x₀) 0
+        → NeighbourCounts t (q .lo) end l
         → PeelStateOf d f s q 0 (allRows end) x l w
     core-start {x₀} B ex C = peel-state-start x₀ (B .times) ex C (B .queue) (Sp .within) later-day
 
-    pub remove-rows-start : {r : Removal} {x l w : List ℕ} → QueueEmpty d f s q (allRows end) r x l w → RowRemoval d f s q r x l w
+    pub remove-rows-start : {r : Removal} {x l w : List ℕ} → QueueEmpty d f s q (allRows end) r x l w
+        → RowRemoval d f s q r x l w
     unfolding dayOf at
     remove-rows-start {r} Q =
         let g = Q .goes-on .end in let e = Q .goes-on .day in

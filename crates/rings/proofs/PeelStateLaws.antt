@@ -28,10 +28,12 @@ use Rattle.rings.specs.Ring.{joins, neighbour, names, degree, touches, m
 use Rattle.rings.specs.CoreTimes.{never}
 use Rattle.rings.specs.Inner.Adjacency.{otherOf}
 use Rattle.rings.specs.Inner.Support.{supports, supporters}
-use Rattle.rings.specs.Inner.Peeling.{DroppedNeighbour, Setting, Removed, Rows, removedCount, Queue, estimate, Times, PeelState, nothing}
+use Rattle.rings.specs.Inner.Peeling.{DroppedNeighbour, Setting, Removed, Rows, removedCount, Queue, estimate}
+use Rattle.rings.specs.Inner.Peeling.{Times, PeelState, nothing}
 use Rattle.rings.specs.declared.Query.{Query}
 use Rattle.rings.specs.declared.frame.Frame.{Frame}
-use Rattle.rings.proofs.WordLaws.{true-or-false, clash, and-i, and-l, and-r, no-i, no-e, same-truth, count-mono, count-less, count-le, same-or}
+use Rattle.rings.proofs.WordLaws.{true-or-false, clash, and-i, and-l, and-r, no-i, no-e, same-truth}
+use Rattle.rings.proofs.WordLaws.{count-mono, count-less, count-le, same-or}
 use Rattle.rings.proofs.RingLaws.{joins-touch, touch-cases, met-i, neighbour-e, ring-degree, in-marked}
 use Rattle.rings.proofs.PairLaws.{Partner, count-inject, count-drop, joins-other, joins-same}
 use Rattle.rings.proofs.LeadLaws.{ring-opens, open-lead}
@@ -40,13 +42,16 @@ use Rattle.rings.proofs.FixpointLaws.{supports-i, supports-e}
 -- ---- one store
 
 pub removed-or-not : (x : List ℕ) (u : ℕ) → (getD x u 0 ≡ 0) ⊎ Removed x u
-removed-or-not x u = ⊎-elim (λ h. _⊎_.inl (eqb-true (getD x u 0) 0 h)) (λ h. _⊎_.inr (eqb-false (getD x u 0) 0 h)) (true-or-false (eqb (getD x u 0) 0))
+removed-or-not x u =
+    ⊎-elim (λ h. _⊎_.inl (eqb-true (getD x u 0) 0 h)) (λ h. _⊎_.inr (eqb-false (getD x u 0) 0 h))
+    (true-or-false (eqb (getD x u 0) 0))
 
 pub removed-other : (x : List ℕ) (u v e : ℕ) → (u ≡ v → ⊥) → Removed (set x v e) u → Removed x u
 removed-other x u v e n f z = f (getD-set-other x v u e 0 n ∙ z)
 
 -- where one more account is removed
-removed-more : (x : List ℕ) (v e : ℕ) → v < 4096 → length x ≡ 4096 → getD x v 0 ≡ 0 → 1 ≤ e → removedCount (set x v e) ≡ suc (removedCount x)
+removed-more : (x : List ℕ) (v e : ℕ) → v < 4096 → length x ≡ 4096 → getD x v 0 ≡ 0 → 1 ≤ e
+    → removedCount (set x v e) ≡ suc (removedCount x)
 unfolding removedCount
 removed-more x v e l n z p =
     count-drop (λ u. no (eqb (getD (set x v e) u 0) 0)) (λ u. no (eqb (getD x u 0) 0)) 4096 v l
@@ -59,7 +64,9 @@ removed-more x v e l n z p =
 -- an account that has not been removed leaves room in the queue
 pub room : (x : List ℕ) (v : ℕ) → v < 4096 → getD x v 0 ≡ 0 → removedCount x < 4096
 unfolding removedCount
-room x v l z = le-trans (count-less (λ u. no (eqb (getD x u 0) 0)) (λ u. true) 4096 v (λ i o h. refl) l off refl) (count-le (λ u. true) 4096)
+room x v l z =
+    le-trans (count-less (λ u. no (eqb (getD x u 0) 0)) (λ u. true) 4096 v (λ i o h. refl) l off refl)
+    (count-le (λ u. true) 4096)
   where
     off : no (eqb (getD x v 0) 0) ≡ false
     off = ⊎-elim (λ y. clash (eq-eqb (getD x v 0) 0 z) (no-e (eqb (getD x v 0) 0) y)) (λ y. y) (true-or-false (no (eqb (getD x v 0) 0)))
@@ -112,9 +119,12 @@ pub without-this : (live : ℕ → ℕ → Bool) (j v : ℕ) → without live j 
 without-this live j v = ⊎-elim (λ y. absurd (without-e live j v j v y .1 (refl, refl))) (λ y. y) (true-or-false (without live j v j v))
 
 pub without-other : (live : ℕ → ℕ → Bool) (j v i u : ℕ) → ((i ≡ j) × (u ≡ v) → ⊥) → without live j v i u ≡ live i u
-without-other live j v i u n = same-truth (without live j v i u) (live i u) (λ h. without-e live j v i u h .0) (λ h. without-i live j v i u h n)
+without-other live j v i u n =
+    same-truth (without live j v i u) (live i u) (λ h. without-e live j v i u h .0) (λ h. without-i live j v i u h n)
 
-pub rows-pass : {t : Table} {lo r : ℕ} {passed passed′ : ℕ → ℕ → Bool} {walked : ℕ → Bool} {live : ℕ → ℕ → Bool} (j v : ℕ) → Pass passed passed′ j v
+pub rows-pass : {t : Table} {lo r : ℕ} {passed passed′ : ℕ → ℕ → Bool} {walked : ℕ → Bool} {live : ℕ → ℕ → Bool}
+    (j v : ℕ)
+    → Pass passed passed′ j v
     → Rows t lo r passed walked live → Rows t lo r passed′ walked (without live j v)
 rows-pass {t} {lo} {r} {passed} {passed′} {walked} {live} j v p R =
     record {
@@ -122,17 +132,23 @@ rows-pass {t} {lo} {r} {passed} {passed′} {walked} {live} j v p R =
       live-not = λ i u h. R .live-not i u (without-e live j v i u h .0);
       live-passed = λ i u h. let e = without-e live j v i u h in p .rest i u (e .1) ∙ R .live-passed i u (e .0);
       live-all = λ i u a b c. let n : (i ≡ j) × (u ≡ v)
-          → ⊥ = λ e. clash (subst (λ (y : ℕ). passed′ i y ≡ true) (sym (e .1)) (subst (λ (y : ℕ). passed′ y v ≡ true) (sym (e .0)) (p .this))) c in
+          → ⊥ = λ e.
+          clash
+          (subst (λ (y : ℕ). passed′ i y ≡ true) (sym (e .1))
+          (subst (λ (y : ℕ). passed′ y v ≡ true) (sym (e .0)) (p .this)))
+          c in
           without-i live j v i u (R .live-all i u a b (sym (p .rest i u n) ∙ c)) n;
     }
 
 -- the same state under other names
-pub moved : {t : Table} {frame : Frame} {b e r head tail tail′ : ℕ} {passed : ℕ → ℕ → Bool} {x d w x′ d′ w′ : List ℕ} → x′ ≡ x → d′ ≡ d → w′ ≡ w → tail′ ≡ tail
+pub moved : {t : Table} {frame : Frame} {b e r head tail tail′ : ℕ} {passed : ℕ → ℕ → Bool} {x d w x′ d′ w′ : List ℕ}
+    → x′ ≡ x → d′ ≡ d → w′ ≡ w → tail′ ≡ tail
     → PeelState t frame b e r head tail passed x d w → PeelState t frame b e r head tail′ passed x′ d′ w′
 moved ex ed ew et F = rw (ex, ed, ew, et) F
 
 -- the same pairs, passed under another name
-pub renamed : {t : Table} {frame : Frame} {b e r head tail : ℕ} {passed : ℕ → ℕ → Bool} {x d w : List ℕ} → PeelState t frame b e r head tail nothing x d w
+pub renamed : {t : Table} {frame : Frame} {b e r head tail : ℕ} {passed : ℕ → ℕ → Bool} {x d w : List ℕ}
+    → PeelState t frame b e r head tail nothing x d w
     → ((j v : ℕ) → passed j v ≡ false) → PeelState t frame b e r head tail passed x d w
 renamed F none =
     record {
@@ -154,7 +170,8 @@ renamed F none =
     }
 
 -- a loss leaves the head of the queue where it is
-pub grown : {k e head tail v tail′ : ℕ} {x d w x′ d′ w′ : List ℕ} → DroppedNeighbour k e tail v x d w x′ d′ w′ tail′ → head < tail → head < tail′
+pub grown : {k e head tail v tail′ : ℕ} {x d w x′ d′ w′ : List ℕ}
+    → DroppedNeighbour k e tail v x d w x′ d′ w′ tail′ → head < tail → head < tail′
 grown (DroppedNeighbour.stays h ex ed ew et) l = omega arith
 grown (DroppedNeighbour.removes h ex ed ew et) l = omega arith
 
@@ -216,21 +233,37 @@ module _ (t : Table) (frame : Frame) (S : Setting t (frame .query) (frame .start
           it = j;
           below = below;
           to = f .join;
-          has = R .live-all j v (record { below = below; before = not-left j below day; is-lead = f .is-lead; touch = joins-touch t j v w (f .join) .0 })
+          has =
+              R .live-all j v
+              (record {
+                below = below;
+                before = not-left j below day;
+                is-lead = f .is-lead;
+                touch = joins-touch t j v w (f .join) .0;
+              })
               (subst (λ (z : ℕ). walked z ≡ false) (sym other) (not-walked w w-met))
               (not-passed j v w below day other w-met w-small);
         }
       where
         not-left : (j : ℕ) → j < size t → dayOf t j ≤ c → j < r
-        not-left j k d = ⊎-elim (λ y. ⊎-elim (λ z. absurd (omega arith)) (λ z. absurd (omega arith)) (lw j (leb-true r j y) k)) (λ y. leb-false r j y)
+        not-left j k d =
+            ⊎-elim
+            (λ y. ⊎-elim (λ z. absurd (omega arith)) (λ z. absurd (omega arith)) (lw j (leb-true r j y) k))
+            (λ y. leb-false r j y)
             (true-or-false (leb r j))
 
         not-walked : (w : ℕ) → met t (ring t q s c) w ≡ true → walked w ≡ false
-        not-walked w k = ⊎-elim (λ y. let f = removed w y in absurd (not-removed c w l a b k (f .0) (f .1))) (λ y. y) (true-or-false (walked w))
+        not-walked w k =
+            ⊎-elim (λ y. let f = removed w y in absurd (not-removed c w l a b k (f .0) (f .1))) (λ y. y)
+            (true-or-false (walked w))
 
-        not-passed : (j v w : ℕ) → j < size t → dayOf t j ≤ c → otherOf t j v ≡ w → met t (ring t q s c) w ≡ true → w < 4096 → passed j v ≡ false
+        not-passed : (j v w : ℕ) → j < size t → dayOf t j ≤ c → otherOf t j v ≡ w → met t (ring t q s c) w ≡ true
+            → w < 4096 → passed j v ≡ false
         not-passed j v w k d o k′ small =
-            ⊎-elim (λ y. ⊎-elim (λ z. absurd (not-removed c w l a b k′ small (subst (Removed x) o (z .1)))) (λ z. absurd (omega arith)) (pw j v k y)) (λ y. y)
+            ⊎-elim
+            (λ y. ⊎-elim (λ z. absurd (not-removed c w l a b k′ small (subst (Removed x) o (z .1))))
+            (λ z. absurd (omega arith)) (pw j v k y))
+            (λ y. y)
             (true-or-false (passed j v))
 
     pub removal-lower : (v : ℕ) → count (λ j. live j v) (size t) < q .k → (c : ℕ) → s ≤ c → c ≤ hi → met t (ring t q s c) v ≡ true → e ≤ c
@@ -241,7 +274,8 @@ module _ (t : Table) (frame : Frame) (S : Setting t (frame .query) (frame .start
         let l = leb-false e c y in
         let k : q .k ≤ count (neighbour t (ring t q s c) v) (names t) = ring-degree t q s c v m in
         let n : count (neighbour t (ring t q s c) v) (names t) ≤ count (λ j. live j v) (size t) =
-        count-inject (neighbour t (ring t q s c) v) (names t) (λ j. live j v) (size t) (λ w j. joins t j v w ≡ true) (λ w o h. ring-live v c l a b m w h)
+        count-inject (neighbour t (ring t q s c) v) (names t) (λ j. live j v) (size t)
+        (λ w j. joins t j v w ≡ true) (λ w o h. ring-live v c l a b m w h)
         (λ w w′ j h h′. joins-same t j v w w′ h h′) in
         absurd (omega arith)) (true-or-false (leb e c))
 
@@ -273,15 +307,21 @@ module _ (t : Table) (frame : Frame) (S : Setting t (frame .query) (frame .start
               λ u k f. ⊎-elim (λ y. subst (λ (a : ℕ). e ≤ a) (sym (at-v u y)) (le-refl e))
               (λ y. subst (λ (a : ℕ). e ≤ a) (sym (still u y)) (T .above u k (removed-other x u v e y f))) (same-or u v);
           lower =
-              λ u c k f a b m. ⊎-elim (λ y. subst (λ (g : ℕ). g ≤ c) (sym (at-v u y)) (low c a b (subst (λ (g : ℕ). met t (ring t q s c) g ≡ true) y m)))
+              λ u c k f a b m.
+              ⊎-elim (λ y. subst (λ (g : ℕ). g ≤ c) (sym (at-v u y))
+              (low c a b (subst (λ (g : ℕ). met t (ring t q s c) g ≡ true) y m)))
               (λ y. subst (λ (g : ℕ). g ≤ c) (sym (still u y)) (T .lower u c k (removed-other x u v e y f) a b m)) (same-or u v);
           closed =
               λ u k f. ⊎-elim
               (λ y. subst (λ (a : ℕ). (a ≡ never) ⊎ (q .k ≤ supporters t (estimate (set x v e)) s a u)) (sym (at-v u y))
-              (raised e (le-refl e) u (subst (λ (g : ℕ). (e ≡ never) ⊎ (q .k ≤ supporters t (estimate x) s e g)) (sym y) (T .backed v l z))))
+              (raised e (le-refl e) u
+              (subst (λ (g : ℕ). (e ≡ never) ⊎ (q .k ≤ supporters t (estimate x) s e g)) (sym y)
+              (T .backed v l z))))
               (λ y. subst (λ (a : ℕ). (a ≡ never) ⊎ (q .k ≤ supporters t (estimate (set x v e)) s a u)) (sym (still u y))
               (raised (getD x u 0) (T .above u k (removed-other x u v e y f)) u (T .closed u k (removed-other x u v e y f)))) (same-or u v);
-          backed = λ u k g. ⊎-elim (λ y. absurd (pos (sym (at-v u y) ∙ g))) (λ y. raised e (le-refl e) u (T .backed u k (sym (still u y) ∙ g))) (same-or u v);
+          backed = λ u k g.
+              ⊎-elim (λ y. absurd (pos (sym (at-v u y) ∙ g)))
+              (λ y. raised e (le-refl e) u (T .backed u k (sym (still u y) ∙ g))) (same-or u v);
         }
       where
         at-v : (u : ℕ) → u ≡ v → getD (set x v e) u 0 ≡ e
@@ -294,7 +334,10 @@ module _ (t : Table) (frame : Frame) (S : Setting t (frame .query) (frame .start
             → e ≤ c
             → (u : ℕ) → (c ≡ never) ⊎ (q .k ≤ supporters t (estimate x) s c u)
             → (c ≡ never) ⊎ (q .k ≤ supporters t (estimate (set x v e)) s c u)
-        raised c h u = ⊎-elim _⊎_.inl (λ k. _⊎_.inr (le-trans k (supporters-mono t (estimate x) (estimate (set x v e)) s c u (estimate-keeps c h))))
+        raised c h u =
+            ⊎-elim _⊎_.inl
+            (λ k. _⊎_.inr
+            (le-trans k (supporters-mono t (estimate x) (estimate (set x v e)) s c u (estimate-keeps c h))))
 
     pub queue-removal : {head tail : ℕ} {walked : ℕ → Bool} {w : List ℕ} → 4096 ≤ length w → Queue head tail walked x w
         → Queue head (tail + 1) walked (set x v e) (set w tail v)
@@ -314,7 +357,10 @@ module _ (t : Table) (frame : Frame) (S : Setting t (frame .query) (frame .start
               (ap (λ (c : ℕ). getD x c 0) (sym (old i (omega arith)) ∙ (g ∙ (ap (λ (c : ℕ). getD (set w tail v) c 0) y ∙ here))) ∙ z))
               (λ y. Q .apart i i′ a o y (sym (old i (omega arith)) ∙ (g ∙ old i′ y))) (last i′ b);
           in-order = let o = Q .in-order in omega arith;
-          tail-is = let p = Q .tail-is in let c : removedCount (set x v e) ≡ suc (removedCount x) = removed-more x v e l n z (T .e-pos) in omega arith;
+          tail-is =
+              let p = Q .tail-is in
+              let c : removedCount (set x v e) ≡ suc (removedCount x) = removed-more x v e l n z (T .e-pos) in
+              omega arith;
         }
       where
         space : tail < 4096
@@ -330,7 +376,9 @@ module _ (t : Table) (frame : Frame) (S : Setting t (frame .query) (frame .start
         last i b = eq-or-lt-of-le (omega arith)
 
         split : (i : ℕ) → i < tail + 1 → (P : ℕ → Type 0) → P v → (i < tail → P (getD w i 0)) → P (getD (set w tail v) i 0)
-        split i b P p f = ⊎-elim (λ y. subst P (sym (ap (λ (c : ℕ). getD (set w tail v) c 0) y ∙ here)) p) (λ y. subst P (sym (old i y)) (f y)) (last i b)
+        split i b P p f =
+            ⊎-elim (λ y. subst P (sym (ap (λ (c : ℕ). getD (set w tail v) c 0) y ∙ here)) p)
+            (λ y. subst P (sym (old i y)) (f y)) (last i b)
 
         removed-v : Removed (set x v e) v
         removed-v g = let p = T .e-pos in let y = now-e in omega arith

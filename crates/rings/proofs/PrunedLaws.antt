@@ -8,7 +8,8 @@
 --     reading-behind             it does so where the scratch changes behind the adjacency
 --     pruned-list-stands, reading-stands    what `row_at` asks of a place
 --     every-rise, covered-rise   times only rise, and rows only leave
---     adjacency-pruned, adjacency-covered, adjacency-every, none-missing     the whole adjacency is such an adjacency, and lacks nothing
+--     adjacency-pruned, adjacency-covered, adjacency-every, none-missing     the whole adjacency is such an
+--     adjacency, and lacks nothing
 -- Assumes nothing.
 use Prim.Native.Nat.{ℕ, suc, _+_, _-_, _*_, _≤_, _<_}
 use native.Mathlib.Nat.{eq-or-lt-of-le}
@@ -25,7 +26,8 @@ use Rattle.rings.specs.Table.{Table, tableOf, size, dayOf}
 use Rattle.rings.specs.Ring.{touches}
 use Rattle.rings.specs.CoreTimes.{never}
 use Rattle.rings.specs.Sound.{Sound}
-use Rattle.rings.specs.Inner.Adjacency.{otherOf, rank, offsetOf, Adjacency, PrunedList, PrunedAdjacency, Stands, Reading, Every, Covered}
+use Rattle.rings.specs.Inner.Adjacency.{otherOf, rank, offsetOf, Adjacency, PrunedList, PrunedAdjacency, Stands}
+use Rattle.rings.specs.Inner.Adjacency.{Reading, Every, Covered}
 use Rattle.rings.specs.Inner.Incident.{RowStands}
 use Rattle.rings.proofs.WordLaws.{true-or-false}
 use Rattle.rings.proofs.RankLaws.{rank-less, nth-row, places-most, place-step, entry-below}
@@ -37,10 +39,13 @@ pub record Seeking (sc : List ℕ) (u lo p : ℕ) : Type 0 where
   pub to : p ≤ getD sc u 0
   pub before : (r : ℕ) → getD sc (4096 + u) 0 ≤ r → r < p → getD sc (8192 + r) 0 < lo
 
-pub seeking-start : {t : Table} {sc : List ℕ} {u p : ℕ} (lo : ℕ) → PrunedList t u sc → p ≡ getD sc (4096 + u) 0 → Seeking sc u lo p
-seeking-start lo K e = record { from = omega arith; to = let a = K .from in omega arith; before = λ r h k. absurd (omega arith) }
+pub seeking-start : {t : Table} {sc : List ℕ} {u p : ℕ} (lo : ℕ) → PrunedList t u sc → p ≡ getD sc (4096 + u) 0
+    → Seeking sc u lo p
+seeking-start lo K e =
+    record { from = omega arith; to = let a = K .from in omega arith; before = λ r h k. absurd (omega arith) }
 
-pub seeking-next : {sc : List ℕ} {u lo p j : ℕ} → Seeking sc u lo p → p < getD sc u 0 → j ≡ getD sc (8192 + p) 0 → j < lo → Seeking sc u lo (p + 1)
+pub seeking-next : {sc : List ℕ} {u lo p j : ℕ} → Seeking sc u lo p → p < getD sc u 0 → j ≡ getD sc (8192 + p) 0
+    → j < lo → Seeking sc u lo (p + 1)
 seeking-next {sc} G more ej h =
     record {
       from = let a = G .from in omega arith;
@@ -50,7 +55,8 @@ seeking-next {sc} G more ej h =
           (eq-or-lt-of-le (let z : r ≤ _ = omega arith in z));
     }
 
-pub seeking-found : {t : Table} {sc : List ℕ} {u lo p j : ℕ} → PrunedList t u sc → Seeking sc u lo p → p < getD sc u 0 → j ≡ getD sc (8192 + p) 0
+pub seeking-found : {t : Table} {sc : List ℕ} {u lo p j : ℕ} → PrunedList t u sc → Seeking sc u lo p
+    → p < getD sc u 0 → j ≡ getD sc (8192 + p) 0
     → lo ≤ j → Reading sc u lo p
 seeking-found {sc = sc} {p = p} K G more ej h =
     record {
@@ -68,7 +74,8 @@ seeking-out G past = record { from = G .from; to = G .to; before = G .before; af
 -- ---- from there on
 
 -- a walk may begin at the head, with every row before it
-pub reading-start : {t : Table} {sc : List ℕ} {u p : ℕ} → PrunedList t u sc → p ≡ getD sc (4096 + u) 0 → Reading sc u 0 p
+pub reading-start : {t : Table} {sc : List ℕ} {u p : ℕ} → PrunedList t u sc → p ≡ getD sc (4096 + u) 0
+    → Reading sc u 0 p
 reading-start K e =
     record {
       from = omega arith;
@@ -77,7 +84,8 @@ reading-start K e =
       after = λ r h k. omega arith;
     }
 
-module _ (d f s scratch : List ℕ) (S : Sound d f s) (L : PrunedAdjacency (tableOf d f s) scratch) {u : ℕ} (small : u < 4096) where
+module _ (d f s scratch : List ℕ) (S : Sound d f s) (L : PrunedAdjacency (tableOf d f s) scratch) {u : ℕ}
+    (small : u < 4096) where
   abbrev t : Table
   t = tableOf d f s
 
@@ -85,7 +93,14 @@ module _ (d f s scratch : List ℕ) (S : Sound d f s) (L : PrunedAdjacency (tabl
   pub pruned-list-stands : {p : ℕ} → getD scratch (4096 + u) 0 ≤ p → p < getD scratch u 0 → RowStands d f s scratch u p
   pruned-list-stands {p} h k =
       let K = L .pruned-list u small in
-      record { sound = S; long = L .long; pairs = L .pairs; place = let a = K .to in omega arith; row = K .row p h k; touch = K .touch p h k }
+      record {
+        sound = S;
+        long = L .long;
+        pairs = L .pairs;
+        place = let a = K .to in omega arith;
+        row = K .row p h k;
+        touch = K .touch p h k;
+      }
 
   module _ {b p end : ℕ} (A : Reading scratch u b p) (ee : end ≡ getD scratch u 0) where
     pub reading-stands : p < end → RowStands d f s scratch u p
@@ -95,14 +110,17 @@ module _ (d f s scratch : List ℕ) (S : Sound d f s) (L : PrunedAdjacency (tabl
     stands-after : {i : ℕ} → b ≤ i → (P : Stands scratch u i) → p ≤ P .place
     stands-after h P =
         ⊎-elim (λ y. leb-true p (P .place) y)
-        (λ y. let a = A .before (P .place) (P .from) (leb-false p (P .place) y) in let e = P .is in absurd (omega arith))
+        (λ y. let a = A .before (P .place) (P .from) (leb-false p (P .place) y) in let e = P .is in
+        absurd (omega arith))
         (true-or-false (leb p (P .place)))
 
-    pub reading-out : {x : ℕ → ℕ} {lo : ℕ} → Every t x lo u scratch → end ≤ p → (i : ℕ) → b ≤ i → i < length d → touches t i u ≡ true
+    pub reading-out : {x : ℕ → ℕ} {lo : ℕ} → Every t x lo u scratch → end ≤ p → (i : ℕ) → b ≤ i → i < length d
+        → touches t i u ≡ true
         → (i < lo) ⊎ (x (otherOf t i u) ≡ never)
     reading-out {lo = lo} E h i a k y =
         ⊎-elim
-        (λ z. ⊎-elim _⊎_.inr (λ P. let o = stands-after a P in let g = P .below in absurd (omega arith)) (E .row i (leb-true lo i z) k y))
+        (λ z. ⊎-elim _⊎_.inr (λ P. let o = stands-after a P in let g = P .below in absurd (omega arith))
+        (E .row i (leb-true lo i z) k y))
         (λ z. _⊎_.inl (leb-false lo i z)) (true-or-false (leb lo i))
 
     module _ (more : p < end) where
@@ -128,7 +146,8 @@ module _ (d f s scratch : List ℕ) (S : Sound d f s) (L : PrunedAdjacency (tabl
             ⊎-elim (λ o. let m = ap (λ (c : ℕ). getD scratch (8192 + c) 0) o in absurd (omega arith))
             (λ o. let m = L .pruned-list u small .rising p (P .place) (A .from) o (omega arith) in absurd (omega arith))
             (eq-or-lt-of-le (stands-after a P)))
-            (E .row i (leb-true lo i z) (let o = reading-row in omega arith) y)) (λ z. _⊎_.inl (leb-false lo i z)) (true-or-false (leb lo i))
+            (E .row i (leb-true lo i z) (let o = reading-row in omega arith) y)) (λ z. _⊎_.inl (leb-false lo i z))
+            (true-or-false (leb lo i))
 
         pub reading-next : Reading scratch u (j + 1) (p + 1)
         reading-next =
@@ -137,12 +156,14 @@ module _ (d f s scratch : List ℕ) (S : Sound d f s) (L : PrunedAdjacency (tabl
               to = omega arith;
               before = λ r h k.
                   ⊎-elim (λ o. let m = ap (λ (c : ℕ). getD scratch (8192 + c) 0) o in omega arith)
-                  (λ o. let m = A .before r h o in let n = reading-from in omega arith) (eq-or-lt-of-le (let z : r ≤ p = omega arith in z));
+                  (λ o. let m = A .before r h o in let n = reading-from in omega arith)
+                  (eq-or-lt-of-le (let z : r ≤ p = omega arith in z));
               after = λ r h k. let m = L .pruned-list u small .rising p r (A .from) (omega arith) k in omega arith;
             }
 
 -- the scratch changes at a place behind the adjacency
-pub reading-behind : {t : Table} {sc sc′ : List ℕ} {u b p : ℕ} (q x : ℕ) → u < 4096 → PrunedList t u sc → 8192 + 2 * size t ≤ q → sc′ ≡ set sc q x
+pub reading-behind : {t : Table} {sc sc′ : List ℕ} {u b p : ℕ} (q x : ℕ) → u < 4096 → PrunedList t u sc
+    → 8192 + 2 * size t ≤ q → sc′ ≡ set sc q x
     → Reading sc u b p → Reading sc′ u b p
 reading-behind {sc = sc} {sc′} {u} q x small K far e A =
     record {
@@ -166,11 +187,14 @@ reading-behind {sc = sc} {sc′} {u} q x small K far e A =
 
 -- ---- times only rise, and rows only leave
 
-pub every-rise : {t : Table} {x x′ : ℕ → ℕ} {lo lo′ u : ℕ} {sc : List ℕ} → ((v : ℕ) → x v ≡ never → x′ v ≡ never) → lo ≤ lo′
+pub every-rise : {t : Table} {x x′ : ℕ → ℕ} {lo lo′ u : ℕ} {sc : List ℕ} → ((v : ℕ) → x v ≡ never → x′ v ≡ never)
+    → lo ≤ lo′
     → Every t x lo u sc → Every t x′ lo′ u sc
-every-rise {t} {u = u} up h E = record { row = λ i a l y. ⊎-elim (λ e. _⊎_.inl (up (otherOf t i u) e)) _⊎_.inr (E .row i (omega arith) l y) }
+every-rise {t} {u = u} up h E =
+    record { row = λ i a l y. ⊎-elim (λ e. _⊎_.inl (up (otherOf t i u) e)) _⊎_.inr (E .row i (omega arith) l y) }
 
-pub covered-rise : {t : Table} {x x′ : ℕ → ℕ} {lo lo′ : ℕ} {sc : List ℕ} → ((v : ℕ) → x v ≡ never → x′ v ≡ never) → lo ≤ lo′
+pub covered-rise : {t : Table} {x x′ : ℕ → ℕ} {lo lo′ : ℕ} {sc : List ℕ} → ((v : ℕ) → x v ≡ never → x′ v ≡ never)
+    → lo ≤ lo′
     → Covered t x lo sc → Covered t x′ lo′ sc
 covered-rise up h C = record { rows = λ u l n. every-rise up h (C .rows u l (λ e. n (up u e))) }
 
@@ -212,7 +236,8 @@ module _ {t : Table} {day : ℕ} {sc : List ℕ} (L : Adjacency t day sc) where
               from = let a = last-is u l in let b = L .heads u l .to in omega arith;
               to = let a = last-is u l in let b = places-most t (suc u) in omega arith;
               row = λ p h k. let E = entry u p l h k in let a = E .is in let b = E .below in omega arith;
-              touch = λ p h k. let E = entry u p l h k in subst (λ (c : ℕ). touches t c u ≡ true) (sym (E .is)) (E .touch);
+              touch = λ p h k.
+                  let E = entry u p l h k in subst (λ (c : ℕ). touches t c u ≡ true) (sym (E .is)) (E .touch);
               rising = λ p r h o k.
                   let E = entry u p l h (omega arith) in
                   let G = entry u r l (omega arith) k in
@@ -250,7 +275,8 @@ module _ {t : Table} {day : ℕ} {sc : List ℕ} (L : Adjacency t day sc) where
       }
 
   -- it lacks no row of u from lo on, whatever the times of the other accounts
-  pub adjacency-every : {lo u : ℕ} → ((j : ℕ) → j < size t → lo ≤ j → day ≤ dayOf t j) → u < 4096 → Every t (λ v. 0) lo u sc
+  pub adjacency-every : {lo u : ℕ} → ((j : ℕ) → j < size t → lo ≤ j → day ≤ dayOf t j) → u < 4096
+      → Every t (λ v. 0) lo u sc
   adjacency-every {u = u} late l = adjacency-covered (λ v. 0) late .rows u l (λ e. omega arith)
 
 -- so a row of u that a walk passes over there is below lo

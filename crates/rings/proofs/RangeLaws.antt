@@ -22,7 +22,8 @@ unfolding windows windowsFrom
 windows-e lo hi w m =
     let a = flatten-mem (tabulate (windowsFrom hi) lo (suc hi - lo)) m in
     let b = tabulate-mem (windowsFrom hi) lo (suc hi - lo) (a .is-part) in
-    let c = tabulate-mem (λ e. record { start = b .it; end = e }) (b .it) (suc hi - b .it) (subst (Mem w) (b .is) (a .has)) in
+    let c = tabulate-mem (λ e. record { start = b .it; end = e }) (b .it) (suc hi - b .it)
+    (subst (Mem w) (b .is) (a .has)) in
     let x = b .from in let y = b .below in let u = c .from in let v = c .below in
     let s : w .start ≡ b .it = ap (λ (z : Window). z .start) (c .is) in
     let f : w .end ≡ c .it = ap (λ (z : Window). z .end) (c .is) in
@@ -53,7 +54,8 @@ windows-order lo hi =
     (starts a b x y k (tabulate-mem (λ e. record { start = a; end = e }) a (suc hi - a) m .is)
     (tabulate-mem (λ e. record { start = b; end = e }) b (suc hi - b) n .is))))
   where
-    starts : (a b : ℕ) (x y : Window) → a < b → {e f : ℕ} → x ≡ record { start = a; end = e } → y ≡ record { start = b; end = f } → x .start < y .start
+    starts : (a b : ℕ) (x y : Window) → a < b → {e f : ℕ} → x ≡ record { start = a; end = e }
+        → y ≡ record { start = b; end = f } → x .start < y .start
     starts a b x y k p r =
         let u : x .start ≡ a = ap (λ (z : Window). z .start) p in
         let v : y .start ≡ b = ap (λ (z : Window). z .start) r in omega arith

@@ -1,5 +1,6 @@
 -- Recall (src/recalling.rt).
---     Judged d r b e rb sb eb j     the loop over entries has passed the entries below j: none is bad, and rb, sb, eb are those of the entry before j
+--     Judged d r b e rb sb eb j     the loop over entries has passed the entries below j: none is bad, and rb, sb, eb
+--                                   are those of the entry before j
 --     judge-start, judge-next, judge-refused, judge-end     the loop's laws
 --     answer-table, answer-lengths, answer-entries, answer-window     the answer, by the check that decides
 --     lengths-same                  what a passed 8 says
@@ -31,9 +32,11 @@ use Rattle.rings.specs.declared.refusal.Refusal.{Refusal}
 use Rattle.rings.specs.declared.refusal.Refusal.the-variants.{BadLength, BadEntry}
 use Rattle.rings.specs.declared.refusal.Verdict.{Verdict}
 use Rattle.rings.specs.declared.refusal.Verdict.the-variants.{Accepted, Refused}
-use Rattle.rings.proofs.WordLaws.{true-or-false, and-i, and-l, and-r, or-l, same-truth, some-i, some-e, length-tabulate, getD-tabulate}
+use Rattle.rings.proofs.WordLaws.{true-or-false, and-i, and-l, and-r, or-l, same-truth, some-i, some-e}
+use Rattle.rings.proofs.WordLaws.{length-tabulate, getD-tabulate}
 use Rattle.rings.proofs.ListLaws.{mem-tabulate, tabulate-mem, any-i, any-e}
-use Rattle.rings.proofs.CheckLaws.{then-refused, then-accepted, accepted-left, accepted-right, passed, order-accepted, order-refused, all-accepted}
+use Rattle.rings.proofs.CheckLaws.{then-refused, then-accepted, accepted-left, accepted-right, passed}
+use Rattle.rings.proofs.CheckLaws.{order-accepted, order-refused, all-accepted}
 
 and-no-l : {a : Bool} (b : Bool) → a ≡ false → a and b ≡ false
 unfolding _and_
@@ -75,13 +78,17 @@ module _ (d r b e : List ℕ) where
       (λ (x : ℕ). comesAfter (entryOf (getD r i 0) (getD b i 0) x) y) (h₃ i refl))))
 
   entry-is : {rb sb eb j : ℕ} → Judged d r b e rb sb eb j
-      → entryCheck (dated d) c j ≡ judged j (length d) (at d (getD r j 0)) (entryOf rb sb eb) (entryOf (getD r j 0) (getD b j 0) (getD e j 0))
+      → entryCheck (dated d) c j
+      ≡ judged j (length d) (at d (getD r j 0)) (entryOf rb sb eb)
+      (entryOf (getD r j 0) (getD b j 0) (getD e j 0))
   unfolding entryCheck judged fits dayOf entryAt at
   entry-is {rb} {sb} {eb} {j} p =
-      ap (λ (x : Bool). BadEntry j when no (fits (dated d) (entryAt c j) and x)) (place-is rb sb eb j (p .row-before) (p .start-before) (p .end-before))
+      ap (λ (x : Bool). BadEntry j when no (fits (dated d) (entryAt c j) and x))
+      (place-is rb sb eb j (p .row-before) (p .start-before) (p .end-before))
 
   -- what `check_entry` answers is 14 at j
-  entry-here : {rb sb eb j row start end day : ℕ} {v : Verdict} → Judged d r b e rb sb eb j → row ≡ getD r j 0 → start ≡ getD b j 0
+  entry-here : {rb sb eb j row start end day : ℕ} {v : Verdict} → Judged d r b e rb sb eb j → row ≡ getD r j 0
+      → start ≡ getD b j 0
       → end ≡ getD e j 0 → day ≡ at d row → v ≡ judged j (length d) day (entryOf rb sb eb) (entryOf row start end)
       → entryCheck (dated d) c j ≡ v
   entry-here {rb} {sb} {eb} {j} {row} {start} {end} {day} {v} p h₁ h₂ h₃ h₄ h =
@@ -105,7 +112,8 @@ module _ (d r b e : List ℕ) where
         passed = λ i h. absurd (not-suc-le-zero h);
       }
 
-  pub judge-next : {rb sb eb j row start end day : ℕ} → Judged d r b e rb sb eb j → j < length r → row ≡ getD r j 0 → start ≡ getD b j 0
+  pub judge-next : {rb sb eb j row start end day : ℕ} → Judged d r b e rb sb eb j → j < length r
+      → row ≡ getD r j 0 → start ≡ getD b j 0
       → end ≡ getD e j 0 → day ≡ at d row → Accepted ≡ judged j (length d) day (entryOf rb sb eb) (entryOf row start end)
       → Judged d r b e row start end (j + 1)
   judge-next {j = j} p l h₁ h₂ h₃ h₄ h =
@@ -115,21 +123,26 @@ module _ (d r b e : List ℕ) where
         start-before = λ i q. h₂ ∙ ap (λ (x : ℕ). getD b x 0) (same i q);
         end-before = λ i q. h₃ ∙ ap (λ (x : ℕ). getD e x 0) (same i q);
         passed = λ i q.
-            ⊎-elim (λ x. subst (λ (y : ℕ). entryCheck (dated d) c y ≡ Accepted) (sym x) (entry-here p h₁ h₂ h₃ h₄ h)) (λ x. p .passed i x)
+            ⊎-elim
+            (λ x. subst (λ (y : ℕ). entryCheck (dated d) c y ≡ Accepted) (sym x) (entry-here p h₁ h₂ h₃ h₄ h))
+            (λ x. p .passed i x)
             (eq-or-lt-of-le (le-of-suc-le-suc (rw (add-one j) at q)));
       }
     where
       same : (i : ℕ) → j + 1 ≡ suc i → j ≡ i
       same i q = omega arith
 
-  pub judge-refused : {rb sb eb j row start end day : ℕ} {x : Refusal} → Judged d r b e rb sb eb j → j < length r → row ≡ getD r j 0
+  pub judge-refused : {rb sb eb j row start end day : ℕ} {x : Refusal} → Judged d r b e rb sb eb j → j < length r
+      → row ≡ getD r j 0
       → start ≡ getD b j 0 → end ≡ getD e j 0 → day ≡ at d row
       → Refused x ≡ judged j (length d) day (entryOf rb sb eb) (entryOf row start end)
       → Refused x ≡ inOrder (tabulate (entryCheck (dated d) c) 0 (length r))
   judge-refused {j = j} p l h₁ h₂ h₃ h₄ h =
-      sym (order-refused (entryCheck (dated d) c) 0 (length r) j (omega arith) (omega arith) (λ i a q. p .passed i q) (entry-here p h₁ h₂ h₃ h₄ h))
+      sym (order-refused (entryCheck (dated d) c) 0 (length r) j (omega arith) (omega arith)
+      (λ i a q. p .passed i q) (entry-here p h₁ h₂ h₃ h₄ h))
 
-  pub judge-end : {rb sb eb j : ℕ} → Judged d r b e rb sb eb j → length r ≤ j → Accepted ≡ inOrder (tabulate (entryCheck (dated d) c) 0 (length r))
+  pub judge-end : {rb sb eb j : ℕ} → Judged d r b e rb sb eb j → length r ≤ j
+      → Accepted ≡ inOrder (tabulate (entryCheck (dated d) c) 0 (length r))
   judge-end p l = sym (order-accepted (entryCheck (dated d) c) 0 (length r) (λ i a q. p .passed i (omega arith)))
 
 -- ---- the answer
@@ -143,8 +156,11 @@ lengths-same d r b e p h =
     let y = eqb (length e) (length r) in
     let z = eqb p (length d) in
     let all = passed BadLength (x and y and z) (sym h) in
-    let rest = and-r x (y and z) all in
-    (eqb-true (length b) (length r) (and-l x (y and z) all), eqb-true (length e) (length r) (and-l y z rest), eqb-true p (length d) (and-r y z rest))
+    let rest = and-r x (y and z) all in (
+      eqb-true (length b) (length r) (and-l x (y and z) all),
+      eqb-true (length e) (length r) (and-l y z rest),
+      eqb-true p (length d) (and-r y z rest),
+    )
 
 module _ (d f g r b e : List ℕ) (lo hi p : ℕ) where
   abbrev t : Table
@@ -171,11 +187,13 @@ module _ (d f g r b e : List ℕ) (lo hi p : ℕ) where
   unfolding recallAnswer
   answer-table h = sym (then-refused (BadLength when unequal then listed then rangeCheck lo hi) (sym h))
 
-  pub answer-lengths : {x : Refusal} → Accepted ≡ tableCheck t → Refused x ≡ (BadLength when unequal) → Refused x ≡ recallAnswer t c′ lo hi p
+  pub answer-lengths : {x : Refusal} → Accepted ≡ tableCheck t → Refused x ≡ (BadLength when unequal)
+      → Refused x ≡ recallAnswer t c′ lo hi p
   unfolding recallAnswer
   answer-lengths h₁ h₂ =
       sym
-      (then-accepted (BadLength when unequal then listed then rangeCheck lo hi) (sym h₁) ∙ then-refused (listed then rangeCheck lo hi)
+      (then-accepted (BadLength when unequal then listed then rangeCheck lo hi) (sym h₁)
+      ∙ then-refused (listed then rangeCheck lo hi)
       (sym h₂))
 
   pub answer-entries : {x : Refusal} → Accepted ≡ tableCheck t → Accepted ≡ (BadLength when unequal)
@@ -187,7 +205,8 @@ module _ (d f g r b e : List ℕ) (lo hi p : ℕ) where
       ∙ (then-accepted (listed then rangeCheck lo hi) (sym h₂) ∙ then-refused (rangeCheck lo hi) (to-listed h₃)))
 
   pub answer-window : {v : Verdict} → Accepted ≡ tableCheck t → Accepted ≡ (BadLength when unequal)
-      → Accepted ≡ inOrder (tabulate (entryCheck (dated d) c′) 0 (length r)) → v ≡ rangeCheck lo hi → v ≡ recallAnswer t c′ lo hi p
+      → Accepted ≡ inOrder (tabulate (entryCheck (dated d) c′) 0 (length r)) → v ≡ rangeCheck lo hi
+      → v ≡ recallAnswer t c′ lo hi p
   unfolding recallAnswer
   answer-window h₁ h₂ h₃ h₄ =
       sym
@@ -222,7 +241,8 @@ module _ (d f g r b e : List ℕ) (lo hi : ℕ) (m₀ : List ℕ) where
   cleared-long : {m : List ℕ} → m ≡ replicate (length m₀) 0 → length m ≡ length m₀
   cleared-long h = ap length h ∙ length-replicate (length m₀) 0
 
-  pub marks-ready : {m : List ℕ} → Accepted ≡ recallAnswer (tableOf d f g) (columnsOf r b e) lo hi (length m₀) → m ≡ replicate (length m₀) 0
+  pub marks-ready : {m : List ℕ} → Accepted ≡ recallAnswer (tableOf d f g) (columnsOf r b e) lo hi (length m₀)
+      → m ≡ replicate (length m₀) 0
       → Markable (columnsOf r b e) m
   marks-ready h z =
       let x = list-fits d f g r b e lo hi (length m₀) h in
@@ -234,8 +254,10 @@ module _ (d f g r b e : List ℕ) (lo hi : ℕ) (m₀ : List ℕ) where
       }
 
   pub marks-right : {m m′ : List ℕ} → Accepted ≡ recallAnswer (tableOf d f g) (columnsOf r b e) lo hi (length m₀)
-      → m ≡ replicate (length m₀) 0 → m′ ≡ marksOf (columnsOf r b e) lo hi (length m) → m′ ≡ marksOf (columnsOf r b e) lo hi (length d)
-  marks-right h z w = w ∙ ap (marksOf (columnsOf r b e) lo hi) (cleared-long z ∙ list-fits d f g r b e lo hi (length m₀) h .2)
+      → m ≡ replicate (length m₀) 0 → m′ ≡ marksOf (columnsOf r b e) lo hi (length m)
+      → m′ ≡ marksOf (columnsOf r b e) lo hi (length d)
+  marks-right h z w =
+      w ∙ ap (marksOf (columnsOf r b e) lo hi) (cleared-long z ∙ list-fits d f g r b e lo hi (length m₀) h .2)
 
 -- ---- the marks
 
@@ -259,48 +281,71 @@ module _ (r b e : List ℕ) (lo hi : ℕ) where
 
   pub mark-start : (m : List ℕ) → m ≡ replicate (length m) 0 → Marking r b e lo hi (length m) 0 m
   unfolding some mark
-  mark-start m h = record { inside = omega arith; long = refl; mark-at = λ k l. ap (λ (x : List ℕ). getD x k 0) h ∙ getD-replicate (length m) k 0 0 l }
+  mark-start m h =
+      record {
+        inside = omega arith;
+        long = refl;
+        mark-at = λ k l. ap (λ (x : List ℕ). getD x k 0) h ∙ getD-replicate (length m) k 0 0 l;
+      }
 
-  mark-skip : {n i : ℕ} {m : List ℕ} → Marking r b e lo hi n i m → i < length r → ((k : ℕ) → hits c″ lo hi k i ≡ false) → Marking r b e lo hi n (i + 1) m
+  mark-skip : {n i : ℕ} {m : List ℕ} → Marking r b e lo hi n i m → i < length r
+      → ((k : ℕ) → hits c″ lo hi k i ≡ false) → Marking r b e lo hi n (i + 1) m
   mark-skip {n} {i} {m} p l h =
-      record { inside = omega arith; long = p .long; mark-at = λ k q. p .mark-at k q ∙ ap mark (sym (some-no (hits c″ lo hi k) i (h k))) }
+      record {
+        inside = omega arith;
+        long = p .long;
+        mark-at = λ k q. p .mark-at k q ∙ ap mark (sym (some-no (hits c″ lo hi k) i (h k)));
+      }
 
-  pub mark-early : {n i start : ℕ} {m : List ℕ} → Marking r b e lo hi n i m → i < length r → start ≡ getD b i 0 → start < lo → Marking r b e lo hi n (i + 1) m
+  pub mark-early : {n i start : ℕ} {m : List ℕ} → Marking r b e lo hi n i m → i < length r → start ≡ getD b i 0
+      → start < lo → Marking r b e lo hi n (i + 1) m
   unfolding hits at
   mark-early {n} {i} {start} p l h q =
-      mark-skip p l (λ k. and-no-r (eqb (getD r i 0) k) (and-no-l (leb (getD e i 0) hi) (lt-leb lo (getD b i 0) (subst (λ (x : ℕ). x < lo) h q))))
+      mark-skip p l
+      (λ k. and-no-r (eqb (getD r i 0) k)
+      (and-no-l (leb (getD e i 0) hi) (lt-leb lo (getD b i 0) (subst (λ (x : ℕ). x < lo) h q))))
 
-  pub mark-late : {n i end : ℕ} {m : List ℕ} → Marking r b e lo hi n i m → i < length r → end ≡ getD e i 0 → hi < end → Marking r b e lo hi n (i + 1) m
+  pub mark-late : {n i end : ℕ} {m : List ℕ} → Marking r b e lo hi n i m → i < length r → end ≡ getD e i 0
+      → hi < end → Marking r b e lo hi n (i + 1) m
   unfolding hits at
   mark-late {n} {i} {end} p l h q =
-      mark-skip p l (λ k. and-no-r (eqb (getD r i 0) k) (and-no-r (leb lo (getD b i 0)) (lt-leb (getD e i 0) hi (subst (λ (x : ℕ). hi < x) h q))))
+      mark-skip p l
+      (λ k. and-no-r (eqb (getD r i 0) k)
+      (and-no-r (leb lo (getD b i 0)) (lt-leb (getD e i 0) hi (subst (λ (x : ℕ). hi < x) h q))))
 
-  pub mark-hit : {n i row start end : ℕ} {m : List ℕ} → Marking r b e lo hi n i m → InTable n r → i < length r → row ≡ getD r i 0
+  pub mark-hit : {n i row start end : ℕ} {m : List ℕ} → Marking r b e lo hi n i m → InTable n r → i < length r
+      → row ≡ getD r i 0
       → start ≡ getD b i 0 → end ≡ getD e i 0 → lo ≤ start → end ≤ hi → Marking r b e lo hi n (i + 1) (set m row 1)
   unfolding hits at mark
   mark-hit {n} {i} {row} {start} {end} {m} p w l h₁ h₂ h₃ q₁ q₂ =
       record {
         inside = omega arith;
         long = length-set m row 1 ∙ p .long;
-        mark-at = λ k o. ⊎-elim (λ x. here k (eqb-true (getD r i 0) k x) x) (λ x. other k o x) (true-or-false (eqb (getD r i 0) k));
+        mark-at = λ k o.
+            ⊎-elim (λ x. here k (eqb-true (getD r i 0) k x) x) (λ x. other k o x)
+            (true-or-false (eqb (getD r i 0) k));
       }
     where
       room : row < length m
       room = rw (h₁, p .long) (w .in-table i l)
 
-      here : (k : ℕ) → getD r i 0 ≡ k → eqb (getD r i 0) k ≡ true → getD (set m row 1) k 0 ≡ mark (some (hits c″ lo hi k) (i + 1))
+      here : (k : ℕ) → getD r i 0 ≡ k → eqb (getD r i 0) k ≡ true
+          → getD (set m row 1) k 0 ≡ mark (some (hits c″ lo hi k) (i + 1))
       here k x y =
           ap (λ (z : ℕ). getD (set m row 1) z 0) (sym (h₁ ∙ x))
           ∙ (getD-set-same m row 1 0 room ∙ ap mark
           (sym
           (some-yes (hits c″ lo hi k) i
           (and-i y
-          (and-i (le-leb lo (getD b i 0) (subst (λ (z : ℕ). lo ≤ z) h₂ q₁)) (le-leb (getD e i 0) hi (subst (λ (z : ℕ). z ≤ hi) h₃ q₂)))))))
+          (and-i (le-leb lo (getD b i 0) (subst (λ (z : ℕ). lo ≤ z) h₂ q₁))
+          (le-leb (getD e i 0) hi (subst (λ (z : ℕ). z ≤ hi) h₃ q₂)))))))
 
       other : (k : ℕ) → k < n → eqb (getD r i 0) k ≡ false → getD (set m row 1) k 0 ≡ mark (some (hits c″ lo hi k) (i + 1))
       other k o x =
           getD-set-other m row k 1 0 (λ y. eqb-false (getD r i 0) k x (sym (y ∙ h₁)))
-          ∙ (p .mark-at k o ∙ ap mark (sym (some-no (hits c″ lo hi k) i (and-no-l (leb lo (getD b i 0) and leb (getD e i 0) hi) x))))
+          ∙ (p .mark-at k o
+          ∙ ap mark
+          (sym (some-no (hits c″ lo hi k) i (and-no-l (leb lo (getD b i 0) and leb (getD e i 0) hi) x))))
 
   -- a row is recalled if some entry hits it
   recalled-is : (k : ℕ) → recalled (entries r b e) lo hi k ≡ some (hits c″ lo hi k) (length r)
@@ -324,7 +369,8 @@ module _ (r b e : List ℕ) (lo hi : ℕ) where
       kept h =
           let w = some-e (hits c″ lo hi k) (length r) h in
           let l = w .below in
-          any-i test (tabulate it 0 (length r)) (it (w .it)) (mem-tabulate it 0 (length r) (w .it) (omega arith) (omega arith)) (w .has)
+          any-i test (tabulate it 0 (length r)) (it (w .it))
+          (mem-tabulate it 0 (length r) (w .it) (omega arith) (omega arith)) (w .has)
 
   pub mark-end : {n i : ℕ} {m : List ℕ} → Marking r b e lo hi n i m → length r ≤ i → m ≡ marksOf c″ lo hi n
   unfolding marks mark
@@ -345,4 +391,5 @@ module _ (r b e : List ℕ) (lo hi : ℕ) where
           let o′ : k < n = subst (λ (x : ℕ). k < x) (p .long) o in
           p .mark-at k o′
           ∙ (ap (λ (x : ℕ). mark (some (hits c″ lo hi k) x)) last
-          ∙ (ap mark (sym (recalled-is k) ∙ sym (getD-tabulate row 0 n k false o′ ∙ ap row (zero-add k))) ∙ sym (List·getD-map mark rows k false)))
+          ∙ (ap mark (sym (recalled-is k) ∙ sym (getD-tabulate row 0 n k false o′ ∙ ap row (zero-add k)))
+          ∙ sym (List·getD-map mark rows k false)))

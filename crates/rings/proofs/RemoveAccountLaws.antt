@@ -1,7 +1,8 @@
 -- The loop over the rows of an account that was removed (src/peel.rt, `remove_account`).
 --     RemovingAccount                 the rows of u before place p have been passed
 --     head-small, head-place, removing-small, removing-start      before the loop
---     removing-stands, removing-few, removing-stop, removing-room, removing-drop, removing-skip, removing-out     the loop's laws
+--     removing-stands, removing-few, removing-stop, removing-room, removing-drop, removing-skip, removing-out     the
+--     loop's laws
 --     lead-is     whether a row leads, as the code tests it
 -- Assumes nothing.
 use Prim.Native.Nat.{ℕ, _+_, _≤_, _<_}
@@ -19,7 +20,8 @@ use Rattle.rings.specs.Ring.{touches}
 use Rattle.rings.specs.CoreTimes.{never}
 use Rattle.rings.specs.Inner.Adjacency.{leads, PrunedAdjacency, Reading, Every}
 use Rattle.rings.specs.Inner.Incident.{RowStands, RowRead}
-use Rattle.rings.specs.Inner.Peeling.{Droppable, DroppedNeighbour, PeelState, AccountRemoval, nothing, Ready, HeadWaits, HeadWalked}
+use Rattle.rings.specs.Inner.Peeling.{Droppable, DroppedNeighbour, PeelState, AccountRemoval, nothing, Ready}
+use Rattle.rings.specs.Inner.Peeling.{HeadWaits, HeadWalked}
 use Rattle.rings.specs.declared.frame.Frame.{Frame}
 use Rattle.rings.specs.declared.incident.Incident.{Incident}
 use Rattle.rings.specs.declared.peel.Removal.{Removal}
@@ -43,7 +45,8 @@ pub lead-is : (lo j : ℕ) {e e′ : ℕ} → e′ ≡ e → (leb lo j && leb e�
 lead-is lo j {e′ = e′} y = and-is (leb lo j) (leb e′ lo) ∙ ap (λ (m : ℕ). leb lo j and leb m lo) y
 
 -- the rows of u, which stands at the head of the queue, before place p have been passed; the queue ends at tail now
-pub record RemovingAccount (d f s scratch : List ℕ) (q : Frame) (m : Removal) (u end p tail : ℕ) (x₀ l₀ w₀ x l w : List ℕ) : Type 0 where
+pub record RemovingAccount (d f s scratch : List ℕ) (q : Frame) (m : Removal) (u end p tail : ℕ)
+    (x₀ l₀ w₀ x l w : List ℕ) : Type 0 where
   pub lengths : SameLengths x₀ l₀ w₀ x l w
   pub end-is : end ≡ getD scratch u 0
   pub b : ℕ
@@ -61,14 +64,18 @@ module _ (d f s scratch : List ℕ) (q : Frame) (R : Ready d f s scratch q) wher
   -- a row that is not in the adjacency from the head on is below lo, so it does not lead
   not-lead : {i : ℕ} → (i < q .lo) ⊎ (0 ≡ never) → leads t (q .lo) i ≡ false
   not-lead {i} h =
-      ⊎-elim (λ y. let a = lead-from t (q .lo) i y in let b = none-missing h in absurd (omega arith)) (λ y. y) (true-or-false (leads t (q .lo) i))
+      ⊎-elim
+      (λ y. let a = lead-from t (q .lo) i y in let b = none-missing h in absurd (omega arith))
+      (λ y. y) (true-or-false (leads t (q .lo) i))
 
   module _ {m : Removal} {x l w : List ℕ} (H : HeadWaits d f s q m x l w) where
     pub head-small : m .head < 4096
     head-small = let a = tail-most d f s scratch q R (H .state) in let b = H .some in omega arith
 
     pub head-place : m .head < length w
-    head-place = let a = tail-most d f s scratch q R (H .state) in let b = H .some in let c = H .state .buffers .queue in omega arith
+    head-place =
+        let a = tail-most d f s scratch q R (H .state) in
+        let b = H .some in let c = H .state .buffers .queue in omega arith
 
     module _ {u : ℕ} (eu : u ≡ getD w (m .head) 0) where
       removing-account : AccountRemoval t q 0 (m .day) (m .end) (m .head) (m .tail) u x l w
@@ -106,13 +113,15 @@ module _ (d f s scratch : List ℕ) (q : Frame) (R : Ready d f s scratch q) wher
       every = adjacency-every (R .adjacency) (R .setting .from-lo) small
 
       -- the loop ends: no row of u from b on leads
-      pub removing-out : end ≤ p → HeadWalked d f s q m (record { day = m .day; end = m .end; head = m .head + 1; tail = tail }) x l w
+      pub removing-out : end ≤ p
+          → HeadWalked d f s q m (record { day = m .day; end = m .end; head = m .head + 1; tail = tail }) x l w
       removing-out h = walked (remove-account-end t q (R .setting) past (λ i a c k. absurd (omega arith)))
         where
           past : AccountRemoval t q (length d) (m .day) (m .end) (m .head) tail u x l w
           past =
               remove-account-to t q (R .setting) (A .state) (length d) (A .within)
-              (λ i a k y. not-lead (reading-out d f s scratch (R .sound) pruned small (A .reading) (A .end-is) every h i a k y))
+              (λ i a k y. not-lead
+              (reading-out d f s scratch (R .sound) pruned small (A .reading) (A .end-is) every h i a k y))
 
       module _ (more : p < end) where
         pub removing-stands : RowStands d f s scratch u p
@@ -129,26 +138,32 @@ module _ (d f s scratch : List ℕ) (q : Frame) (R : Ready d f s scratch q) wher
           to-row : AccountRemoval t q (r .row) (m .day) (m .end) (m .head) tail u x l w
           to-row =
               remove-account-to t q (R .setting) (A .state) (r .row) row-from
-              (λ i a k y. not-lead (reading-gap d f s scratch (R .sound) pruned small (A .reading) (A .end-is) more (I .row) every i a k y))
+              (λ i a k y. not-lead
+              (reading-gap d f s scratch (R .sound) pruned small (A .reading) (A .end-is) more
+              (I .row) every i a k y))
 
           nothing-between : (i : ℕ) → r .row ≤ i → i < r .row → touches t i u ≡ false
           nothing-between i a k = absurd (omega arith)
 
           -- rows rise: this one, and so every later one, has left
-          pub removing-stop : m .end ≤ r .row → HeadWalked d f s q m (record { day = m .day; end = m .end; head = m .head + 1; tail = tail }) x l w
+          pub removing-stop : m .end ≤ r .row
+              → HeadWalked d f s q m (record { day = m .day; end = m .end; head = m .head + 1; tail = tail }) x l w
           removing-stop h = walked (remove-account-end t q (R .setting) to-row (λ i a c k. absurd (omega arith)))
 
           next-reading : Reading scratch u (r .row + 1) (p + 1)
           next-reading = reading-next d f s scratch (R .sound) pruned small (A .reading) (A .end-is) more (I .row)
 
-          pub removing-skip : (leb (q .lo) (r .row) && r .leads) ≡ false → RemovingAccount d f s scratch q m u end (p + 1) tail x₀ l₀ w₀ x l w
+          pub removing-skip : (leb (q .lo) (r .row) && r .leads) ≡ false
+              → RemovingAccount d f s scratch q m u end (p + 1) tail x₀ l₀ w₀ x l w
           removing-skip h =
               record {
                 lengths = A .lengths;
                 end-is = A .end-is;
                 b = r .row + 1;
                 within = let a = I .below in omega arith;
-                state = remove-account-skip t q (R .setting) to-row (r .row) (le-refl (r .row)) (I .below) (I .touch) nothing-between (sym (row-leads I) ∙ h);
+                state =
+                    remove-account-skip t q (R .setting) to-row (r .row) (le-refl (r .row)) (I .below)
+                    (I .touch) nothing-between (sym (row-leads I) ∙ h);
                 reading = next-reading;
               }
 
@@ -159,9 +174,11 @@ module _ (d f s scratch : List ℕ) (q : Frame) (R : Ready d f s scratch q) wher
             pub removing-room : Droppable (q .query .k) tail (r .other) x l w
             removing-room =
                 subst (λ (y : ℕ). Droppable (q .query .k) tail y x l w) (sym (I .other))
-                (remove-account-droppable t q (R .setting) to-row (r .row) (le-refl (r .row)) (I .below) (I .touch) nothing-between left lead)
+                (remove-account-droppable t q (R .setting) to-row (r .row) (le-refl (r .row)) (I .below)
+                (I .touch) nothing-between left lead)
 
-            pub removing-drop : {x′ l′ w′ : List ℕ} {tail′ : ℕ} → length x′ ≡ length x → length l′ ≡ length l → length w′ ≡ length w
+            pub removing-drop : {x′ l′ w′ : List ℕ} {tail′ : ℕ} → length x′ ≡ length x → length l′ ≡ length l
+                → length w′ ≡ length w
                 → DroppedNeighbour (q .query .k) (m .day) tail (r .other) x l w x′ l′ w′ tail′
                 → RemovingAccount d f s scratch q m u end (p + 1) tail′ x₀ l₀ w₀ x′ l′ w′
             removing-drop {x′} {l′} {w′} {tail′} ex el ew L =
@@ -172,6 +189,9 @@ module _ (d f s scratch : List ℕ) (q : Frame) (R : Ready d f s scratch q) wher
                   within = let a = I .below in omega arith;
                   reading = next-reading;
                   state =
-                      remove-account-dropped t q (R .setting) to-row (r .row) (le-refl (r .row)) (I .below) (I .touch) nothing-between left lead
-                      (subst (λ (y : ℕ). DroppedNeighbour (q .query .k) (m .day) tail y x l w x′ l′ w′ tail′) (I .other) L);
+                      remove-account-dropped t q (R .setting) to-row (r .row) (le-refl (r .row)) (I .below)
+                      (I .touch) nothing-between left lead
+                      (subst
+                      (λ (y : ℕ). DroppedNeighbour (q .query .k) (m .day) tail y x l w x′ l′ w′ tail′)
+                      (I .other) L);
                 }

@@ -1,4 +1,5 @@
--- The ring of a window: it is the ring in 01's words, and nothing else is. Everything above goes through these laws and never opens the peeling.
+-- The ring of a window: it is the ring in 01's words, and nothing else is. Everything above goes through these laws
+-- and never opens the peeling.
 --     ring-is, ring-only       `ring` is the ring of the window, the only one
 --     in-window                a row of the ring lies in the table, and in the window
 --     ring-grows               rings grow with the window
@@ -25,11 +26,13 @@ use lib.Dec.{leb, eqb}
 use borrow.Author.Tests.{leb-true, le-leb, eqb-true, eq-eqb}
 use Rattle.rings.specs.Words.{_and_, _or_, marked, tabulate}
 use Rattle.rings.specs.Table.{Table, size, dayOf, firstOf, secondOf, inWindow, windowRows}
-use Rattle.rings.specs.Ring.{joins, neighbour, names, degree, touches, met, Good, Within, IsRing, keep, ring, inRing}
+use Rattle.rings.specs.Ring.{joins, neighbour, names, degree, touches, met, Good, Within, IsRing, keep, ring}
+use Rattle.rings.specs.Ring.{inRing}
 use Rattle.rings.specs.declared.Query.{Query}
 use Rattle.rings.proofs.WordLaws.{and-i, and-l, and-r, or-l, or-r, or-e, some-i, some-e, count-mono}
 use Rattle.rings.proofs.WordLaws.{length-tabulate, marked-tabulate-e, marked-tabulate-i, same-marks}
-use Rattle.rings.proofs.PeelLaws.{Stable, Monotone, within-trans, peel-sized, peel-within, peel-stable, peel-greatest}
+use Rattle.rings.proofs.PeelLaws.{Stable, Monotone, within-trans, peel-sized, peel-within, peel-stable}
+use Rattle.rings.proofs.PeelLaws.{peel-greatest}
 
 -- ---- windows
 
@@ -60,24 +63,33 @@ window-sized t s e = length-tabulate (λ j. inWindow s e (dayOf t j)) 0 (size t)
 
 pub window-grows : (t : Table) {s s′ e e′ : ℕ} → s′ ≤ s → e ≤ e′ → Within (windowRows t s e) (windowRows t s′ e′)
 window-grows t {s} {s′} {e} {e′} p r =
-    record { all = λ j h. let i = window-e t s e j h in window-i t s′ e′ j (record { row = i .row; from = le-trans p (i .from); to = le-trans (i .to) r }) }
+    record {
+      all = λ j h. let i = window-e t s e j h in
+          window-i t s′ e′ j (record { row = i .row; from = le-trans p (i .from); to = le-trans (i .to) r });
+    }
 
 -- ---- accounts met, neighbours, degrees
 
 pub touch-cases : (t : Table) (j u : ℕ) → touches t j u ≡ true → (firstOf t j ≡ u) ⊎ (secondOf t j ≡ u)
 unfolding touches
 touch-cases t j u h =
-    ⊎-elim (λ a. _⊎_.inl (eqb-true (firstOf t j) u a)) (λ a. _⊎_.inr (eqb-true (secondOf t j) u a)) (or-e (eqb (firstOf t j) u) (eqb (secondOf t j) u) h)
+    ⊎-elim (λ a. _⊎_.inl (eqb-true (firstOf t j) u a)) (λ a. _⊎_.inr (eqb-true (secondOf t j) u a))
+    (or-e (eqb (firstOf t j) u) (eqb (secondOf t j) u) h)
 
 pub touch-first : (t : Table) (j : ℕ) → touches t j (firstOf t j) ≡ true
 unfolding touches
-touch-first t j = or-l (eqb (firstOf t j) (firstOf t j)) (eqb (secondOf t j) (firstOf t j)) (eq-eqb (firstOf t j) (firstOf t j) refl)
+touch-first t j =
+    or-l (eqb (firstOf t j) (firstOf t j)) (eqb (secondOf t j) (firstOf t j))
+    (eq-eqb (firstOf t j) (firstOf t j) refl)
 
 pub touch-second : (t : Table) (j : ℕ) → touches t j (secondOf t j) ≡ true
 unfolding touches
-touch-second t j = or-r (eqb (firstOf t j) (secondOf t j)) (eqb (secondOf t j) (secondOf t j)) (eq-eqb (secondOf t j) (secondOf t j) refl)
+touch-second t j =
+    or-r (eqb (firstOf t j) (secondOf t j)) (eqb (secondOf t j) (secondOf t j))
+    (eq-eqb (secondOf t j) (secondOf t j) refl)
 
-pub joins-cases : (t : Table) (j u v : ℕ) → joins t j u v ≡ true → ((firstOf t j ≡ u) × (secondOf t j ≡ v)) ⊎ ((firstOf t j ≡ v) × (secondOf t j ≡ u))
+pub joins-cases : (t : Table) (j u v : ℕ) → joins t j u v ≡ true
+    → ((firstOf t j ≡ u) × (secondOf t j ≡ v)) ⊎ ((firstOf t j ≡ v) × (secondOf t j ≡ u))
 unfolding joins
 joins-cases t j u v h =
     ⊎-elim (λ a. _⊎_.inl (
@@ -93,14 +105,18 @@ joins-cases t j u v h =
 -- a payment between u and v has both
 pub joins-touch : (t : Table) (j u v : ℕ) → joins t j u v ≡ true → (touches t j u ≡ true) × (touches t j v ≡ true)
 joins-touch t j u v h =
-    ⊎-elim (λ e. (subst (λ (a : ℕ). touches t j a ≡ true) (e .0) (touch-first t j), subst (λ (a : ℕ). touches t j a ≡ true) (e .1) (touch-second t j)))
+    ⊎-elim (λ e. (
+      subst (λ (a : ℕ). touches t j a ≡ true) (e .0) (touch-first t j),
+      subst (λ (a : ℕ). touches t j a ≡ true) (e .1) (touch-second t j),
+    ))
     (λ e. (
       subst (λ (a : ℕ). touches t j a ≡ true) (e .1) (touch-second t j),
       subst (λ (a : ℕ). touches t j a ≡ true) (e .0) (touch-first t j),
     ))
     (joins-cases t j u v h)
 
-pub met-i : (t : Table) (m : List Bool) (j u : ℕ) → j < size t → marked m j ≡ true → touches t j u ≡ true → met t m u ≡ true
+pub met-i : (t : Table) (m : List Bool) (j u : ℕ) → j < size t → marked m j ≡ true → touches t j u ≡ true
+    → met t m u ≡ true
 unfolding met
 met-i t m j u l h k = some-i (λ i. marked m i and touches t i u) (size t) j l (and-i h k)
 
@@ -122,9 +138,11 @@ met-e t m u h =
     }
 
 pub met-mono : (t : Table) {m m′ : List Bool} (u : ℕ) → Within m m′ → met t m u ≡ true → met t m′ u ≡ true
-met-mono t {m} {m′} u w h = let x = met-e t m u h in met-i t m′ (x .row) u (x .below) (w .all (x .row) (x .has)) (x .touch)
+met-mono t {m} {m′} u w h =
+    let x = met-e t m u h in met-i t m′ (x .row) u (x .below) (w .all (x .row) (x .has)) (x .touch)
 
-pub neighbour-i : (t : Table) (m : List Bool) (j u v : ℕ) → j < size t → marked m j ≡ true → joins t j u v ≡ true → neighbour t m u v ≡ true
+pub neighbour-i : (t : Table) (m : List Bool) (j u v : ℕ) → j < size t → marked m j ≡ true → joins t j u v ≡ true
+    → neighbour t m u v ≡ true
 unfolding neighbour
 neighbour-i t m j u v l h k = some-i (λ i. marked m i and joins t i u v) (size t) j l (and-i h k)
 
@@ -155,14 +173,18 @@ degree-mono t {m} {m′} u w =
 -- ---- the test of a ring, and good sets
 
 module _ (t : Table) (q : Query) where
-  keep-e : (m : List Bool) (j : ℕ) → keep t q m j ≡ true → (q .k ≤ degree t m (firstOf t j)) × (q .k ≤ degree t m (secondOf t j))
+  keep-e : (m : List Bool) (j : ℕ) → keep t q m j ≡ true
+      → (q .k ≤ degree t m (firstOf t j)) × (q .k ≤ degree t m (secondOf t j))
   unfolding keep
   keep-e m j h =
       let a = leb (q .k) (degree t m (firstOf t j)) in
-      let b = leb (q .k) (degree t m (secondOf t j)) in
-      (leb-true (q .k) (degree t m (firstOf t j)) (and-l a b h), leb-true (q .k) (degree t m (secondOf t j)) (and-r a b h))
+      let b = leb (q .k) (degree t m (secondOf t j)) in (
+        leb-true (q .k) (degree t m (firstOf t j)) (and-l a b h),
+        leb-true (q .k) (degree t m (secondOf t j)) (and-r a b h),
+      )
 
-  keep-i : (m : List Bool) (j : ℕ) → q .k ≤ degree t m (firstOf t j) → q .k ≤ degree t m (secondOf t j) → keep t q m j ≡ true
+  keep-i : (m : List Bool) (j : ℕ) → q .k ≤ degree t m (firstOf t j) → q .k ≤ degree t m (secondOf t j)
+      → keep t q m j ≡ true
   unfolding keep
   keep-i m j h k = and-i (le-leb (q .k) (degree t m (firstOf t j)) h) (le-leb (q .k) (degree t m (secondOf t j)) k)
 
@@ -210,7 +232,9 @@ module _ (t : Table) (q : Query) where
 
     pub ring-holds : (m : List Bool) → Within m (windowRows t s e) → Good t q m → Within m (ring t q s e)
     unfolding ring
-    ring-holds m w g = peel-greatest (keep t q) keep-monotone m (windowRows t s e) w (stable-of-good m (λ j h. window-e t s e j (w .all j h) .row) g)
+    ring-holds m w g =
+        peel-greatest (keep t q) keep-monotone m (windowRows t s e) w
+        (stable-of-good m (λ j h. window-e t s e j (w .all j h) .row) g)
 
     -- 01's words hold of the ring
     pub ring-is : IsRing t q s e (ring t q s e)
@@ -238,7 +262,8 @@ module _ (t : Table) (q : Query) where
     ring-degree u h = ring-good .neighbours u h
 
     -- a row of the window between two accounts of the ring is in the ring: with it the set is still good
-    pub two-met : (j : ℕ) → Inside t s e j → met t (ring t q s e) (firstOf t j) ≡ true → met t (ring t q s e) (secondOf t j) ≡ true → inRing t q s e j ≡ true
+    pub two-met : (j : ℕ) → Inside t s e j → met t (ring t q s e) (firstOf t j) ≡ true
+        → met t (ring t q s e) (secondOf t j) ≡ true → inRing t q s e j ≡ true
     unfolding inRing
     two-met j i a b =
         ring-holds more more-within (record { neighbours = more-good }) .all j
@@ -272,11 +297,14 @@ module _ (t : Table) (q : Query) where
         more-good u h =
             let x = met-e t more u h in
             ⊎-elim (λ p. old u (met-i t (ring t q s e) (x .row) u (x .below) p (x .touch)))
-            (λ p. ⊎-elim (λ f. subst (λ (v : ℕ). q .k ≤ degree t more v) (ap (firstOf t) (sym (eqb-true (x .row) j p)) ∙ f) (old (firstOf t j) a))
+            (λ p. ⊎-elim
+            (λ f. subst (λ (v : ℕ). q .k ≤ degree t more v) (ap (firstOf t) (sym (eqb-true (x .row) j p)) ∙ f)
+            (old (firstOf t j) a))
             (λ f. subst (λ (v : ℕ). q .k ≤ degree t more v) (ap (secondOf t) (sym (eqb-true (x .row) j p)) ∙ f)
             (old (secondOf t j) b))
             (touch-cases t (x .row) u (x .touch)))
-            (or-e (marked (ring t q s e) (x .row)) (eqb (x .row) j) (marked-tabulate-e also (size t) (x .row) (x .has) .1))
+            (or-e (marked (ring t q s e) (x .row)) (eqb (x .row) j)
+            (marked-tabulate-e also (size t) (x .row) (x .has) .1))
 
     -- the accounts of a row of the ring are met in it
     pub met-first : (j : ℕ) → inRing t q s e j ≡ true → met t (ring t q s e) (firstOf t j) ≡ true
@@ -289,7 +317,8 @@ module _ (t : Table) (q : Query) where
 
   -- rings grow with the window
   pub ring-grows : {s s′ e e′ : ℕ} → s′ ≤ s → e ≤ e′ → Within (ring t q s e) (ring t q s′ e′)
-  ring-grows {s} {s′} {e} {e′} p r = ring-holds s′ e′ (ring t q s e) (within-trans (ring-within s e) (window-grows t p r)) (ring-good s e)
+  ring-grows {s} {s′} {e} {e′} p r =
+      ring-holds s′ e′ (ring t q s e) (within-trans (ring-within s e) (window-grows t p r)) (ring-good s e)
 
   pub in-grows : {s s′ e e′ : ℕ} (j : ℕ) → s′ ≤ s → e ≤ e′ → inRing t q s e j ≡ true → inRing t q s′ e′ j ≡ true
   unfolding inRing

@@ -1,7 +1,9 @@
 -- A scan that keeps what a rise needs (src/scan.rt, scan_for_rise): how many rows of u move with it, and who loses it.
 --     moving-e, moving-i      a row of u that comes in by c
---     rise-scanned-start, rise-scanned-next, rise-scanned-out, rise-scanned-stop       the rows of u, one after the other
---     RiseScanning, as-day-scan, rise-scan-start, rise-scan-out, rise-scan-few, rise-scan-over, rise-scan-next     the walk of `scan_for_rise` in the adjacency
+--     rise-scanned-start, rise-scanned-next, rise-scanned-out, rise-scanned-stop       the rows of u, one after the
+--     other
+--     RiseScanning, as-day-scan, rise-scan-start, rise-scan-out, rise-scan-few, rise-scan-over, rise-scan-next
+--     the walk of `scan_for_rise` in the adjacency
 --     Moved     what a row that moves with u says
 -- Assumes nothing.
 use Prim.Native.Nat.{ℕ, max, _+_, _-_, _≤_, _<_}
@@ -41,7 +43,8 @@ use Rattle.rings.proofs.SupporterLaws.{at-place, in-list}
 -- ---- the rows of u, one after the other
 
 -- what a row more does to the day above
-row-noted-above : {y : Bool} {z c n above more n′ above′ more′ : ℕ} → RowNoted y z c n above more n′ above′ more′ → (above′ ≤ above) × ((z ≤ c) ⊎ (above′ ≤ z))
+row-noted-above : {y : Bool} {z c n above more n′ above′ more′ : ℕ} → RowNoted y z c n above more n′ above′ more′
+    → (above′ ≤ above) × ((z ≤ c) ⊎ (above′ ≤ z))
 row-noted-above (RowNoted.back h en ea em) = (omega arith, _⊎_.inl h)
 row-noted-above (RowNoted.nearer h k en ea em) = (omega arith, _⊎_.inr (omega arith))
 row-noted-above (RowNoted.level h k en ea em) = (omega arith, _⊎_.inr (omega arith))
@@ -74,7 +77,9 @@ module _ (t : Table) (x : ℕ → ℕ) (lo hi : ℕ) where
   rise-scanned-start {c} {u} {tail} ws =
       record {
         apart = λ j a l. let b = counts-from t lo j a in absurd (omega arith);
-        moves = sym (count-none (moving t x lo c u) lo (λ i l. moving-not c u i (λ m. let a = counts-from t lo i (m .counts) in omega arith)));
+        moves =
+            sym (count-none (moving t x lo c u) lo
+            (λ i l. moving-not c u i (λ m. let a = counts-from t lo i (m .counts) in omega arith)));
         loses = λ j l f. let a = lead-from t lo j f in absurd (omega arith);
         small = λ i a b. absurd (omega arith);
         grows = le-refl tail;
@@ -92,12 +97,15 @@ module _ (t : Table) (x : ℕ → ℕ) (lo hi : ℕ) where
         let b = m .by in
         ⊎-elim (λ z. omega arith) (λ z. omega arith) (gap (m .touch)))
 
-    gap-apart : {i above′ : ℕ} → above′ ≤ above → lo ≤ i → (i < lo) ⊎ (x (otherOf t i u) ≡ never) → (value t x i u ≤ c) ⊎ (above′ ≤ value t x i u)
+    gap-apart : {i above′ : ℕ} → above′ ≤ above → lo ≤ i → (i < lo) ⊎ (x (otherOf t i u) ≡ never)
+        → (value t x i u ≤ c) ⊎ (above′ ≤ value t x i u)
     unfolding value
     gap-apart le l o = ⊎-elim (λ z. absurd (omega arith)) (λ z. _⊎_.inr (omega arith)) o
 
-    gap-loses : {A : Type 0} {i : ℕ} → leads t lo i ≡ true → x (otherOf t i u) ≡ c → (i < lo) ⊎ (x (otherOf t i u) ≡ never) → A
-    gap-loses {i = i} f e o = let a = lead-from t lo i f in ⊎-elim (λ z. absurd (omega arith)) (λ z. absurd (omega arith)) o
+    gap-loses : {A : Type 0} {i : ℕ} → leads t lo i ≡ true → x (otherOf t i u) ≡ c
+        → (i < lo) ⊎ (x (otherOf t i u) ≡ never) → A
+    gap-loses {i = i} f e o =
+        let a = lead-from t lo i f in ⊎-elim (λ z. absurd (omega arith)) (λ z. absurd (omega arith)) o
 
     pub rise-scanned-out : b ≤ size t
         → ((i : ℕ) → b ≤ i → i < size t → touches t i u ≡ true → (i < lo) ⊎ (x (otherOf t i u) ≡ never))
@@ -109,13 +117,16 @@ module _ (t : Table) (x : ℕ → ℕ) (lo hi : ℕ) where
               (λ y. gap-apart (le-refl above) (counts-from t lo j a) (gap j (leb-true b j y) k h))
               (λ y. G .apart j a (leb-false b j y) h o) (true-or-false (leb b j));
           moves = G .moves ∙ sym (count-past (moving t x lo c u) b (size t) l (λ i a k. gap-not (gap i a k)));
-          loses = λ j k f h e o. ⊎-elim (λ y. gap-loses f e (gap j (leb-true b j y) k h)) (λ y. G .loses j (leb-false b j y) f h e o) (true-or-false (leb b j));
+          loses = λ j k f h e o.
+              ⊎-elim (λ y. gap-loses f e (gap j (leb-true b j y) k h)) (λ y. G .loses j (leb-false b j y) f h e o)
+              (true-or-false (leb b j));
           small = G .small;
           grows = G .grows;
         }
 
     -- the next row of u in the adjacency is j
-    module _ (j : ℕ) (from : b ≤ j) (gap : (i : ℕ) → b ≤ i → i < j → touches t i u ≡ true → (i < lo) ⊎ (x (otherOf t i u) ≡ never)) where
+    module _ (j : ℕ) (from : b ≤ j)
+        (gap : (i : ℕ) → b ≤ i → i < j → touches t i u ≡ true → (i < lo) ⊎ (x (otherOf t i u) ≡ never)) where
       earlier : {above′ : ℕ}
           → above′ ≤ above
           → (i : ℕ) → pairCounts t lo i ≡ true
@@ -128,8 +139,11 @@ module _ (t : Table) (x : ℕ → ℕ) (lo hi : ℕ) where
           (λ y. ⊎-elim _⊎_.inl (λ z. _⊎_.inr (le-trans le z)) (G .apart i a (leb-false b i y) h o))
           (true-or-false (leb b i))
 
-      listed : (i : ℕ) → i < j → leads t lo i ≡ true → touches t i u ≡ true → x (otherOf t i u) ≡ c → dayOf t i ≤ c → Place ws tail end (otherOf t i u)
-      listed i l f h e o = ⊎-elim (λ y. gap-loses f e (gap i (leb-true b i y) l h)) (λ y. G .loses i (leb-false b i y) f h e o) (true-or-false (leb b i))
+      listed : (i : ℕ) → i < j → leads t lo i ≡ true → touches t i u ≡ true → x (otherOf t i u) ≡ c
+          → dayOf t i ≤ c → Place ws tail end (otherOf t i u)
+      listed i l f h e o =
+          ⊎-elim (λ y. gap-loses f e (gap i (leb-true b i y) l h)) (λ y. G .loses i (leb-false b i y) f h e o)
+          (true-or-false (leb b i))
 
       moves-to : moved ≡ count (moving t x lo c u) j
       moves-to = G .moves ∙ sym (count-past (moving t x lo c u) b j from (λ i a k. gap-not (gap i a k)))
@@ -262,7 +276,8 @@ module _ (d f g scratch : List ℕ) (r : Frame) (R : ReadyPruned d f g scratch r
   soon : c < never
   soon = let h = R .setting .fits in omega arith
 
-  pub rise-scan-start : {p : ℕ} → length ws₀ ≡ 4352 → Reading scratch u (r .lo) p → RiseScanning d f g scratch r xs u c tail ws₀ p 0 never 0 0 tail ws₀
+  pub rise-scan-start : {p : ℕ} → length ws₀ ≡ 4352 → Reading scratch u (r .lo) p
+      → RiseScanning d f g scratch r xs u c tail ws₀ p 0 never 0 0 tail ws₀
   rise-scan-start l A =
       record {
         b = r .lo;
@@ -289,7 +304,8 @@ module _ (d f g scratch : List ℕ) (r : Frame) (R : ReadyPruned d f g scratch r
       from : G .b ≤ it .row
       from = reading-from d f g scratch (R .sound) (R .pruned) small (G .reading) ee here (I .row)
 
-      gap : (i : ℕ) → G .b ≤ i → i < it .row → touches tt i u ≡ true → (i < r .lo) ⊎ (estimate xs (otherOf tt i u) ≡ never)
+      gap : (i : ℕ) → G .b ≤ i → i < it .row → touches tt i u ≡ true
+          → (i < r .lo) ⊎ (estimate xs (otherOf tt i u) ≡ never)
       gap = reading-gap d f g scratch (R .sound) (R .pruned) small (G .reading) ee here (I .row) E
 
       -- the walk began at lo
@@ -299,9 +315,11 @@ module _ (d f g scratch : List ℕ) (r : Frame) (R : ReadyPruned d f g scratch r
       pub rise-scan-few : moved < 16384
       rise-scan-few =
           let a = G .kept .moves in
-          let b = count-le (moving tt (estimate xs) (r .lo) c u) (G .b) in let h = from in let k = I .below in let m = R .sound .most in omega arith
+          let b = count-le (moving tt (estimate xs) (r .lo) c u) (G .b) in
+          let h = from in let k = I .below in let m = R .sound .most in omega arith
 
-      pub rise-scan-over : (c < it .day) × ((r .query .k ≤ n) ⊎ ((r .stop < it .day) ⊎ (above < it .day))) → n < r .query .k
+      pub rise-scan-over : (c < it .day) × ((r .query .k ≤ n) ⊎ ((r .stop < it .day) ⊎ (above < it .day)))
+          → n < r .query .k
           → RiseScanned tt (estimate xs) (r .lo) (r .stop) c u (length d) above moved tail end ws
       rise-scan-over o few =
           rise-scanned-stop tt (estimate xs) (r .lo) (r .stop) soon above-most (G .kept) (it .row) from gap
@@ -309,7 +327,8 @@ module _ (d f g scratch : List ℕ) (r : Frame) (R : ReadyPruned d f g scratch r
           (λ i a k.
           let e = I .day in
           let y = R .setting .rising (it .row) i a k in
-          ⊎-elim (λ h. absurd (omega arith)) (λ h. ⊎-elim (λ z. _⊎_.inl (omega arith)) (λ z. _⊎_.inr (omega arith)) h) (o .1))
+          ⊎-elim (λ h. absurd (omega arith))
+          (λ h. ⊎-elim (λ z. _⊎_.inl (omega arith)) (λ z. _⊎_.inr (omega arith)) h) (o .1))
           (let b = I .below in omega arith)
 
       module _ {xv z n′ above′ more′ : ℕ} (l : it .day ≤ r .stop) (ex : xv ≡ getD xs (it .other) 0)
@@ -325,7 +344,9 @@ module _ (d f g scratch : List ℕ) (r : Frame) (R : ReadyPruned d f g scratch r
             let k = x-is in let o = I .day in omega arith
 
         z-day : (z ≤ r .stop) ⊎ (z ≡ never)
-        z-day = let o = R .setting .fits in ⊎-elim (λ k. _⊎_.inl (omega arith)) (λ k. _⊎_.inr (omega arith)) (D (it .other) (I .small))
+        z-day =
+            let o = R .setting .fits in
+            ⊎-elim (λ k. _⊎_.inl (omega arith)) (λ k. _⊎_.inr (omega arith)) (D (it .other) (I .small))
 
         scanned-on : RowsScanned tt (estimate xs) (r .lo) (r .stop) c u (it .row + 1) n′ above′ more′
         scanned-on =

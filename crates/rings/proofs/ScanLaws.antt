@@ -1,5 +1,6 @@
 -- A scan of an account (src/scan.rt): why the day that it finds is the least with k supporters.
---     scanned-start, scanned-not-lead, scanned-idle, scanned-note, scanned-count, scanned-stop, scanned-out     the rows of u as they stand on a day
+--     scanned-start, scanned-not-lead, scanned-idle, scanned-note, scanned-count, scanned-stop, scanned-out     the
+--     rows of u as they stand on a day
 --     backers-yes, backers-no     one row more, and how many back u
 -- Assumes nothing.
 use Prim.Native.Nat.{ℕ, zero, suc, _+_, _-_, _≤_, _<_}
@@ -35,20 +36,23 @@ module _ (t : Table) (q : Query) (s hi lo : ℕ) (S : Setting t q s hi lo) (x : 
   backers-grow : (c u j : ℕ) → backers t x lo c u j ≤ backers t x lo c u (j + 1)
   backers-grow c u j =
       let e = ap (backers t x lo c u) (add-one j) in
-      ⊎-elim (λ y. let m = backers-yes c u j y in omega arith) (λ y. let m = backers-no c u j y in omega arith) (true-or-false (backing t x lo c u j))
+      ⊎-elim (λ y. let m = backers-yes c u j y in omega arith) (λ y. let m = backers-no c u j y in omega arith)
+      (true-or-false (backing t x lo c u j))
 
   backers-mono : (c u i j : ℕ) → i ≤ j → backers t x lo c u i ≤ backers t x lo c u j
   backers-mono c u i zero h =
       let e : i ≡ 0 = omega arith in
       subst (λ (a : ℕ). backers t x lo c u a ≤ backers t x lo c u 0) (sym e) (le-refl (backers t x lo c u 0))
   backers-mono c u i (suc j) h =
-      ⊎-elim (λ e. subst (λ (a : ℕ). backers t x lo c u a ≤ backers t x lo c u (suc j)) (sym e) (le-refl (backers t x lo c u (suc j))))
+      ⊎-elim (λ e. subst (λ (a : ℕ). backers t x lo c u a ≤ backers t x lo c u (suc j)) (sym e)
+      (le-refl (backers t x lo c u (suc j))))
       (λ l. le-trans (backers-mono c u i j (omega arith))
       (subst (λ (a : ℕ). backers t x lo c u j ≤ backers t x lo c u a) (add-one j) (backers-grow c u j)))
       (eq-or-lt-of-le h)
 
   -- a row of u that is below lo, or whose other account has no time, backs it on no day
-  gap-not : (c u j : ℕ) → c < never → (touches t j u ≡ true → (j < lo) ⊎ (x (otherOf t j u) ≡ never)) → backing t x lo c u j ≡ false
+  gap-not : (c u j : ℕ) → c < never → (touches t j u ≡ true → (j < lo) ⊎ (x (otherOf t j u) ≡ never))
+      → backing t x lo c u j ≡ false
   unfolding value
   gap-not c u j h gap =
       ⊎-elim
@@ -73,7 +77,9 @@ module _ (t : Table) (q : Query) (s hi lo : ℕ) (S : Setting t q s hi lo) (x : 
       (eq-or-lt-of-le h)
 
   not-backing : (c u j : ℕ) {z : ℕ} → c < z → z ≡ value t x j u → backing t x lo c u j ≡ false
-  not-backing c u j h e = ⊎-elim (λ y. let v = backing-e t q s hi lo S x c u j y .by in absurd (omega arith)) (λ y. y) (true-or-false (backing t x lo c u j))
+  not-backing c u j h e =
+      ⊎-elim (λ y. let v = backing-e t q s hi lo S x c u j y .by in absurd (omega arith)) (λ y. y)
+      (true-or-false (backing t x lo c u j))
 
   module _ {c u b n above more : ℕ} (W : RowsScanned t x lo hi c u b n above more) where
     above-most : above ≤ never
@@ -83,12 +89,16 @@ module _ (t : Table) (q : Query) (s hi lo : ℕ) (S : Setting t q s hi lo) (x : 
     soon = let a = above-most in let b = W .rises in omega arith
 
     -- a first row of u that the walk passed over comes in after the day above
-    gap-late : {i above′ : ℕ} → above′ ≤ above → leads t lo i ≡ true → (i < lo) ⊎ (x (otherOf t i u) ≡ never) → (value t x i u ≤ c) ⊎ (above′ ≤ value t x i u)
+    gap-late : {i above′ : ℕ} → above′ ≤ above → leads t lo i ≡ true → (i < lo) ⊎ (x (otherOf t i u) ≡ never)
+        → (value t x i u ≤ c) ⊎ (above′ ≤ value t x i u)
     unfolding value
-    gap-late {i} le f o = let a = lead-from t lo i f in let m = above-most in ⊎-elim (λ z. absurd (omega arith)) (λ z. _⊎_.inr (omega arith)) o
+    gap-late {i} le f o =
+        let a = lead-from t lo i f in
+        let m = above-most in ⊎-elim (λ z. absurd (omega arith)) (λ z. _⊎_.inr (omega arith)) o
 
     -- the next row of u in the adjacency is j
-    module _ (j : ℕ) (from : b ≤ j) (gap : (i : ℕ) → b ≤ i → i < j → touches t i u ≡ true → (i < lo) ⊎ (x (otherOf t i u) ≡ never)) where
+    module _ (j : ℕ) (from : b ≤ j)
+        (gap : (i : ℕ) → b ≤ i → i < j → touches t i u ≡ true → (i < lo) ⊎ (x (otherOf t i u) ≡ never)) where
       flat : n ≡ backers t x lo c u j
       flat = W .counted ∙ sym (backers-flat c u b j soon from gap)
 
@@ -131,9 +141,12 @@ module _ (t : Table) (q : Query) (s hi lo : ℕ) (S : Setting t q s hi lo) (x : 
           }
         where
           not-lead : (a : ℕ) → backing t x lo a u j ≡ false
-          not-lead a = ⊎-elim (λ y. clash (backing-e t q s hi lo S x a u j y .is-lead) f) (λ y. y) (true-or-false (backing t x lo a u j))
+          not-lead a =
+              ⊎-elim (λ y. clash (backing-e t q s hi lo S x a u j y .is-lead) f) (λ y. y)
+              (true-or-false (backing t x lo a u j))
 
-      passes-as : {n′ above′ more′ : ℕ} → leads t lo j ≡ false → n′ ≡ n → above′ ≡ above → more′ ≡ more → RowsScanned t x lo hi c u (j + 1) n′ above′ more′
+      passes-as : {n′ above′ more′ : ℕ} → leads t lo j ≡ false → n′ ≡ n → above′ ≡ above → more′ ≡ more
+          → RowsScanned t x lo hi c u (j + 1) n′ above′ more′
       passes-as {n′} {above′} {more′} f en ea em =
           subst (λ (i : ℕ). RowsScanned t x lo hi c u (j + 1) i above′ more′) (sym en)
           (subst (λ (i : ℕ). RowsScanned t x lo hi c u (j + 1) n i more′) (sym ea)
@@ -150,7 +163,9 @@ module _ (t : Table) (q : Query) (s hi lo : ℕ) (S : Setting t q s hi lo) (x : 
           record {
             counted = en ∙ passes f .counted;
             rises = let a = W .rises in omega arith;
-            none-between = λ i l g y o. subst (λ (a : ℕ). (value t x i u ≤ c) ⊎ (a ≤ value t x i u)) (sym ea) (passes f .none-between i l g y o);
+            none-between = λ i l g y o.
+                subst (λ (a : ℕ). (value t x i u ≤ c) ⊎ (a ≤ value t x i u)) (sym ea)
+                (passes f .none-between i l g y o);
             day = _⊎_.inr (ea ∙ sym k);
             few = let a = few-flat in let m = sucIf-yes more (let z : true ≡ true = refl in z) in omega arith;
             then = _⊎_.inl (ea ∙ sym k);
@@ -164,7 +179,8 @@ module _ (t : Table) (q : Query) (s hi lo : ℕ) (S : Setting t q s hi lo) (x : 
           let e = flat in
           let m = count-mono (backing t x lo c u) (backing t x lo a u) j
           (λ i l y. let b = backing-e t q s hi lo S x c u i y in
-          backing-i t q s hi lo S x a u i (record { is-lead = b .is-lead; touch = b .touch; by = le-trans (b .by) h })) in
+          backing-i t q s hi lo S x a u i
+          (record { is-lead = b .is-lead; touch = b .touch; by = le-trans (b .by) h })) in
           omega arith
 
       -- or its own value does, and the row does not count
@@ -311,7 +327,10 @@ module _ (t : Table) (q : Query) (s hi lo : ℕ) (S : Setting t q s hi lo) (x : 
       unfolding value
       scanned-stop top late l =
           record {
-            counted = scanned-count (λ i a k. let r = W .rises in ⊎-elim (λ z. omega arith) (λ z. omega arith) (late i a k)) l;
+            counted =
+                scanned-count
+                (λ i a k. let r = W .rises in ⊎-elim (λ z. omega arith) (λ z. omega arith) (late i a k))
+                l;
             rises = W .rises;
             none-between = λ i k f h o.
                 ⊎-elim
@@ -344,7 +363,8 @@ module _ (t : Table) (q : Query) (s hi lo : ℕ) (S : Setting t q s hi lo) (x : 
       record {
         counted =
             sym (count-none (backing t x lo c u) lo
-            (λ i l. ⊎-elim (λ y. let a = lead-from t lo i (backing-e t q s hi lo S x c u i y .is-lead) in absurd (omega arith))
+            (λ i l. ⊎-elim
+            (λ y. let a = lead-from t lo i (backing-e t q s hi lo S x c u i y .is-lead) in absurd (omega arith))
             (λ y. y) (true-or-false (backing t x lo c u i))));
         rises = h;
         none-between = λ j l f k. let a = lead-from t lo j f in absurd (omega arith);

@@ -1,5 +1,6 @@
 -- Why settling is right (src/settle.rt), from the scans (ScanLaws) and the dropped supporters (SupporterLaws).
---     rise-lower, rise-own, rise-other, rise-keeps     u rises: no time passes the core times, u keeps its supporters, another loses u at most
+--     rise-lower, rise-own, rise-other, rise-keeps     u rises: no time passes the core times, u keeps its
+--                                                      supporters, another loses u at most
 --     account-same, account-rise                       one account settles
 --     count-split     a count, in two parts
 -- Assumes nothing.
@@ -21,7 +22,8 @@ use Rattle.rings.specs.CoreTimes.{never}
 use Rattle.rings.specs.Inner.Adjacency.{otherOf, leads}
 use Rattle.rings.specs.Inner.Support.{supports, supporters}
 use Rattle.rings.specs.Inner.Peeling.{Setting, estimate, Place}
-use Rattle.rings.specs.Inner.Settling.{Days, Settling, Least, DayFound, DroppedSupported, Queued, Waiting, Raised, Rising}
+use Rattle.rings.specs.Inner.Settling.{Days, Settling, Least, DayFound, DroppedSupported, Queued, Waiting}
+use Rattle.rings.specs.Inner.Settling.{Raised, Rising}
 use Rattle.rings.specs.declared.Query.{Query}
 use Rattle.rings.proofs.WordLaws.{true-or-false, clash, count-mono, sucIf-yes, sucIf-no, same-or}
 use Rattle.rings.proofs.RingLaws.{joins-touch, joins-cases}
@@ -35,7 +37,8 @@ use Rattle.rings.proofs.SupporterLaws.{at-place, in-list}
 -- ---- counts
 
 -- one place apart, p holds only where r does
-count-except : (p r : ℕ → Bool) (n u : ℕ) → ((i : ℕ) → i < n → (i ≡ u → ⊥) → p i ≡ true → r i ≡ true) → count p n ≤ count r n + 1
+count-except : (p r : ℕ → Bool) (n u : ℕ) → ((i : ℕ) → i < n → (i ≡ u → ⊥) → p i ≡ true → r i ≡ true)
+    → count p n ≤ count r n + 1
 unfolding count
 count-except p r zero u h = omega arith
 count-except p r (suc n) u h =
@@ -53,13 +56,16 @@ count-except p r (suc n) u h =
     (true-or-false (p n))
 
 -- from m on, p holds only where r does
-pub count-split : (p r : ℕ → Bool) (m n : ℕ) → m ≤ n → ((i : ℕ) → m ≤ i → i < n → p i ≡ true → r i ≡ true) → count p n ≤ count p m + count r n
+pub count-split : (p r : ℕ → Bool) (m n : ℕ) → m ≤ n → ((i : ℕ) → m ≤ i → i < n → p i ≡ true → r i ≡ true)
+    → count p n ≤ count p m + count r n
 unfolding count
-count-split p r m zero l h = let e : m ≡ 0 = omega arith in subst (λ (a : ℕ). 0 ≤ count p a + count r 0) (sym e) (omega arith)
+count-split p r m zero l h =
+    let e : m ≡ 0 = omega arith in subst (λ (a : ℕ). 0 ≤ count p a + count r 0) (sym e) (omega arith)
 count-split p r m (suc n) l h =
     ⊎-elim (λ e. subst (λ (a : ℕ). count p (suc n) ≤ count p a + count r (suc n)) (sym e) (omega arith))
     (λ k. let o = count-split p r m n (omega arith) (λ i a b. h i a (omega arith)) in
-    ⊎-elim (λ y. let a = sucIf-yes (count p n) y in let b = sucIf-yes (count r n) (h n (omega arith) (le-refl (suc n)) y) in omega arith)
+    ⊎-elim (λ y. let a = sucIf-yes (count p n) y in
+    let b = sucIf-yes (count r n) (h n (omega arith) (le-refl (suc n)) y) in omega arith)
     (λ y. let a = sucIf-no (count p n) y in
     ⊎-elim (λ z. let b = sucIf-yes (count r n) z in omega arith)
     (λ z. let b = sucIf-no (count r n) z in omega arith) (true-or-false (r n)))
@@ -78,12 +84,15 @@ module _ (t : Table) (q : Query) (s hi : ℕ) (x x′ : ℕ → ℕ) (u y : ℕ)
             let a : x u ≤ c = subst (λ (w : ℕ). x w ≤ c) e (low .under v c l h m) in
             let b = enough t q hi s x low v c l h m in
             let b′ : q .k ≤ supporters t x s c u = subst (λ (w : ℕ). q .k ≤ supporters t x s c w) e b in
-            let g : y ≤ c = ⊎-elim (λ z. leb-true y c z) (λ z. let f = L .fewer c a (leb-false y c z) h in absurd (omega arith)) (true-or-false (leb y c)) in
+            let g : y ≤ c = ⊎-elim (λ z. leb-true y c z)
+            (λ z. let f = L .fewer c a (leb-false y c z) h in absurd (omega arith))
+            (true-or-false (leb y c)) in
             subst (λ (w : ℕ). x′ w ≤ c) (sym e) (subst (λ (w : ℕ). w ≤ c) (sym now) g))
             (λ n. subst (λ (w : ℕ). w ≤ c) (sym (else v n)) (low .under v c l h m)) (same-or v u);
       }
 
-  rise-own : ((j : ℕ) → j < size t → firstOf t j < secondOf t j) → (c : ℕ) → supporters t x s c u ≤ supporters t x′ s c u
+  rise-own : ((j : ℕ) → j < size t → firstOf t j < secondOf t j) → (c : ℕ)
+      → supporters t x s c u ≤ supporters t x′ s c u
   unfolding supporters
   rise-own accounts c =
       count-mono (supports t x s c u) (supports t x′ s c u) (names t)
@@ -123,7 +132,9 @@ module _ (t : Table) (q : Query) (s hi : ℕ) (x x′ : ℕ → ℕ) (u y : ℕ)
   -- and not even u, if that was no supporter or is one still
   rise-keeps : (c w : ℕ) → (supports t x s c w u ≡ false) ⊎ (y ≤ c) → supporters t x s c w ≤ supporters t x′ s c w
   unfolding supporters
-  rise-keeps c w o = count-mono (supports t x s c w) (supports t x′ s c w) (names t) (λ v l h. ⊎-elim (λ e. keeps v e h) (λ n. stays c w v n h) (same-or v u))
+  rise-keeps c w o =
+      count-mono (supports t x s c w) (supports t x′ s c w) (names t)
+      (λ v l h. ⊎-elim (λ e. keeps v e h) (λ n. stays c w v n h) (same-or v u))
     where
       keeps : (v : ℕ) → v ≡ u → supports t x s c w v ≡ true → supports t x′ s c w v ≡ true
       keeps v e h =
@@ -174,7 +185,8 @@ module _ (t : Table) (q : Query) (s hi lo : ℕ) (S : Setting t q s hi lo) {xs s
   sp-here = getD-set-same sp u m 0 (let n = Z .long-slack in omega arith)
 
   -- what an account has after the rise, of what it had: u has what the scan found
-  own : (sp″ : List ℕ) → getD sp″ u 0 ≤ m → (estimate xs′ u ≡ never) ⊎ (q .k + getD sp″ u 0 ≤ supporters t (estimate xs′) s (estimate xs′ u) u + 1)
+  own : (sp″ : List ℕ) → getD sp″ u 0 ≤ m
+      → (estimate xs′ u ≡ never) ⊎ (q .k + getD sp″ u 0 ≤ supporters t (estimate xs′) s (estimate xs′ u) u + 1)
   own sp″ h =
       ⊎-elim (λ e. _⊎_.inl (now-is ∙ e))
       (λ k. let o = rise-own t q s hi (estimate xs) (estimate xs′) u y now-is else-is L (S .accounts) y in
@@ -215,10 +227,12 @@ module _ (t : Table) (q : Query) (s hi lo : ℕ) (S : Setting t q s hi lo) {xs s
       (Z .enough w l (omega arith))
     where
       -- w had u for a supporter: the first row of their pair says so too
-      less : (w : ℕ) → (w ≡ u → ⊥) → supports t (estimate xs) s (estimate xs w) w u ≡ true → estimate xs w < y → getD sp″ w 0 ≤ getD (set sp u m) w 0 - 1
+      less : (w : ℕ) → (w ≡ u → ⊥) → supports t (estimate xs) s (estimate xs w) w u ≡ true → estimate xs w < y
+          → getD sp″ w 0 ≤ getD (set sp u m) w 0 - 1
       less w n v h =
           let b = supports-e t (estimate xs) s (estimate xs w) w u v in
-          let f = open-lead t q s hi lo S (b .row) u w (estimate xs w) (b .below) (joins-swap t (b .row) w u (b .join)) (b .opens) in
+          let f = open-lead t q s hi lo S (b .row) u w (estimate xs w) (b .below)
+          (joins-swap t (b .row) w u (b .join)) (b .opens) in
           let below = f .below in
           let tu = joins-touch t (f .row) u w (f .join) .0 in
           let e : otherOf t (f .row) u ≡ w = joins-same t (f .row) u (otherOf t (f .row) u) w
@@ -231,14 +245,20 @@ module _ (t : Table) (q : Query) (s hi lo : ℕ) (S : Setting t q s hi lo) {xs s
           let x₂ = at-place (set sp u m) e in
           let z = O .dropped (f .row) below (f .is-lead) tu (omega arith) (omega arith) (omega arith) in omega arith
 
-  settled : (sp″ : List ℕ) → DroppedSupported t (estimate xs′) lo u (size t) (estimate xs u) y (set sp u m) sp″ → Settling t q hi s xs′ sp″
+  settled : (sp″ : List ℕ) → DroppedSupported t (estimate xs′) lo u (size t) (estimate xs u) y (set sp u m) sp″
+      → Settling t q hi s xs′ sp″
   settled sp″ O =
       record {
         long = long′;
         long-slack = O .long;
         days = days′;
-        lower = rise-lower t q s hi (estimate xs) (estimate xs′) u y now-is else-is L (record { under = Z .lower }) .under;
-        enough = λ w l h. subst (λ (c : ℕ). (c ≡ never) ⊎ (q .k + getD sp″ w 0 ≤ supporters t (estimate xs′) s c w + 1)) (estimate-at xs′ w long′ l)
+        lower =
+            rise-lower t q s hi (estimate xs) (estimate xs′) u y now-is else-is L
+            (record { under = Z .lower }) .under;
+        enough = λ w l h.
+            subst
+            (λ (c : ℕ). (c ≡ never) ⊎ (q .k + getD sp″ w 0 ≤ supporters t (estimate xs′) s c w + 1))
+            (estimate-at xs′ w long′ l)
             (⊎-elim
             (λ e. subst
             (λ (v : ℕ). (estimate xs′ v ≡ never)
@@ -279,7 +299,13 @@ module _ (t : Table) (q : Query) (s hi lo : ℕ) (S : Setting t q s hi lo) {xs s
                 less = λ w. le-refl (getD (set sp u m) w 0);
                 dropped = λ j k f h a b c. absurd (never-less j k f h a c);
               }));
-          waiting = record { long = W .long; ordered = omega arith; waits = behind; small = λ i a b. W .small i (omega arith) b };
+          waiting =
+              record {
+                long = W .long;
+                ordered = omega arith;
+                waits = behind;
+                small = λ i a b. W .small i (omega arith) b;
+              };
           behind = omega arith;
           raised = I;
         }
@@ -346,10 +372,13 @@ module _ (t : Table) (q : Query) (s hi lo : ℕ) (S : Setting t q s hi lo) {xs s
         kept i a b = Q .front i a (omega arith) ∙ (in-list i ew ∙ getD-set-other ws r i u 0 (λ o. omega arith))
 
         before : (i : ℕ) → i < r → getD ws″ i 0 ≡ getD ws i 0
-        before i a = Q .front i (omega arith) (omega arith) ∙ (in-list i ew ∙ getD-set-other ws r i u 0 (λ o. omega arith))
+        before i a =
+            Q .front i (omega arith) (omega arith) ∙ (in-list i ew ∙ getD-set-other ws r i u 0 (λ o. omega arith))
 
         mine : getD ws″ r 0 ≡ u
-        mine = Q .front r (omega arith) (omega arith) ∙ (in-list r ew ∙ getD-set-same ws r u 0 (let a = W .long in omega arith))
+        mine =
+            Q .front r (omega arith) (omega arith)
+            ∙ (in-list r ew ∙ getD-set-same ws r u 0 (let a = W .long in omega arith))
 
         moved : {w : ℕ} → Place ws (head + 1) tail w → Place ws″ (head + 1) end w
         moved p =
@@ -359,4 +388,6 @@ module _ (t : Table) (q : Query) (s hi lo : ℕ) (S : Setting t q s hi lo) {xs s
             record { place = p .place; from = a; below = omega arith; is = kept (p .place) b (omega arith) ∙ p .is }
 
         later : {w : ℕ} → Place ws 0 r w → Place ws″ 0 (r + 1) w
-        later p = let b = p .below in record { place = p .place; from = p .from; below = omega arith; is = before (p .place) b ∙ p .is }
+        later p =
+            let b = p .below in
+            record { place = p .place; from = p .from; below = omega arith; is = before (p .place) b ∙ p .is }

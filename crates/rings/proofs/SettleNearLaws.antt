@@ -1,8 +1,11 @@
 -- Settling one account by the common way (src/settle.rt, `settle_near`), and what stays where nothing changed.
---     behind-rising, same-short, same-rising, same-covered, same-counted     what is written behind the queue changes nothing
+--     behind-rising, same-short, same-rising, same-covered, same-counted     what is written behind the queue changes
+--     nothing
 --     scanned-on, rise-scanned-on, moving-on     a scan, or a move, on a day that has two names
---     account-days, account-now, account-never, account-every, account-counts-before-rise        what the loop over its rows asks of it
---     near-day, near-every, near-short, near-same, near-never, near-asks, near-counts, near-small, near-rise     the common way: one walk is enough
+--     account-days, account-now, account-never, account-every, account-counts-before-rise        what the loop over
+--     its rows asks of it
+--     near-day, near-every, near-short, near-same, near-never, near-asks, near-counts, near-small, near-rise     the
+--     common way: one walk is enough
 -- Assumes nothing.
 use Prim.Native.Nat.{ℕ, _+_, _-_, _≤_, _<_}
 use native.Mathlib.Nat.{le-refl, eq-or-lt-of-le}
@@ -16,14 +19,15 @@ use Rattle.rings.specs.Table.{Table, tableOf, size}
 use Rattle.rings.specs.CoreTimes.{never}
 use Rattle.rings.specs.Inner.Adjacency.{Every, Covered}
 use Rattle.rings.specs.Inner.Peeling.{Setting, estimate, Place}
-use Rattle.rings.specs.Inner.Settling.{moving, Days, DayScanned, Behind, RiseScanned, Short, SlackAbove, DayFound, DroppedListed, Queued, Rising}
+use Rattle.rings.specs.Inner.Settling.{moving, Days, DayScanned, Behind, RiseScanned, Short, SlackAbove}
+use Rattle.rings.specs.Inner.Settling.{DayFound, DroppedListed, Queued, Rising}
 use Rattle.rings.specs.Inner.Counting.{timeBy, Histogram, Moving, CountsBeforeRise, MoveAsks}
 use Rattle.rings.specs.declared.Query.{Query}
 use Rattle.rings.proofs.WordLaws.{same-or}
-use Rattle.rings.proofs.FixpointLaws.{enough}
 use Rattle.rings.proofs.CoreTimeLaws as core-time
 use Rattle.rings.proofs.PeelStateLaws.{estimate-at}
-use Rattle.rings.proofs.FindDayLaws.{few-start, find-day-next, find-day-found, find-day-near, short-start, short-next}
+use Rattle.rings.proofs.FindDayLaws.{few-start, find-day-next, find-day-found, find-day-near, short-start}
+use Rattle.rings.proofs.FindDayLaws.{short-next}
 use Rattle.rings.proofs.SupporterLaws.{in-list}
 use Rattle.rings.proofs.PrunedLaws.{every-rise}
 use Rattle.rings.proofs.MovingLaws.{Moves, moving-asks, moving-hist}
@@ -66,7 +70,8 @@ behind-rising {ws = ws} {ws′ = ws′} {tail = tail} B Z =
     }
   where
     stands : {head u : ℕ} → Place ws head tail u → Place ws′ head tail u
-    stands P = record { place = P .place; from = P .from; below = P .below; is = B .front (P .place) (P .below) ∙ P .is }
+    stands P =
+        record { place = P .place; from = P .from; below = P .below; is = B .front (P .place) (P .below) ∙ P .is }
 
 -- and equal lists are as good
 pub same-short : (t : Table) (s k hi : ℕ) {xs xs′ : List ℕ} {u d : ℕ}
@@ -85,7 +90,8 @@ same-rising {t} {q} {hi} {s} {xs₀} {xs} {xs′} {sp} {sp′} {ws} {ws′} {hea
     subst (λ (ys : List ℕ). Rising t q hi s xs₀ ys sp′ ws′ head tail m) (sym e)
     (subst (λ (ys : List ℕ). Rising t q hi s xs₀ xs ys ws′ head tail m) (sym h) (behind-rising B Z))
 
-pub same-covered : {t : Table} {lo : ℕ} {xs xs′ sc : List ℕ} → xs′ ≡ xs → Covered t (estimate xs) lo sc → Covered t (estimate xs′) lo sc
+pub same-covered : {t : Table} {lo : ℕ} {xs xs′ sc : List ℕ} → xs′ ≡ xs → Covered t (estimate xs) lo sc
+    → Covered t (estimate xs′) lo sc
 same-covered {t} {lo} {sc = sc} e = subst (λ (ys : List ℕ). Covered t (estimate ys) lo sc) (sym e)
 
 pub same-counted : (t : Table) (s hi : ℕ) {n : ℕ} {xs xs′ counts counts′ : List ℕ}
@@ -138,7 +144,8 @@ module _ (xs : List ℕ) {t : Table} {k s hi u y m : ℕ} (fits : hi < never) (l
       (λ n. getD-set-other xs u v y never n ∙ e) (same-or v u)
 
   -- an account that rose had one, so its rows stand in the adjacency, but for those whose other account has none
-  pub account-every : {lo : ℕ} {sc : List ℕ} → (y ≡ getD xs u 0 → ⊥) → Covered t (estimate xs) lo sc → Every t (estimate (set xs u y)) lo u sc
+  pub account-every : {lo : ℕ} {sc : List ℕ} → (y ≡ getD xs u 0 → ⊥) → Covered t (estimate xs) lo sc
+      → Every t (estimate (set xs u y)) lo u sc
   account-every {lo} n C =
       every-rise account-never (le-refl lo)
       (C .rows u small
@@ -188,7 +195,8 @@ module _ (d f g : List ℕ) (q : Query) (s te lo : ℕ) (S : Setting (tableOf d 
   near-here : Short tn (estimate xs) s (q .k) te old u old
   near-here = short-start tn q s te lo S (estimate xs) old u (D u small)
 
-  front-stays : {ws₀ ws : List ℕ} {head tail : ℕ} → Behind tail ws₀ ws → getD ws₀ head 0 ≡ u → head < tail → getD ws head 0 ≡ u
+  front-stays : {ws₀ ws : List ℕ} {head tail : ℕ} → Behind tail ws₀ ws → getD ws₀ head 0 ≡ u → head < tail
+      → getD ws head 0 ≡ u
   front-stays {head = head} B e h = B .front head h ∙ e
 
   module _ {n above more : ℕ} (A : DayScanned tn (estimate xs) lo te old u (length d) (q .k) n above more) where
@@ -220,13 +228,17 @@ module _ (d f g : List ℕ) (q : Query) (s te lo : ℕ) (S : Setting (tableOf d 
       near-day-found = find-day-near tn q s te lo S (estimate xs) A few eb P some
 
       near-step : (old < above) × ((above ≤ te) ⊎ (above ≡ never))
-      near-step = let L = find-day-next tn q s te lo S (estimate xs) (few-start tn q s te lo S (estimate xs) old u) A few in (L .1, L .2)
+      near-step =
+          let L = find-day-next tn q s te lo S (estimate xs) (few-start tn q s te lo S (estimate xs) old u) A few in
+          (L .1, L .2)
 
       pub near-never : (v : ℕ) → estimate xs v ≡ never → estimate (set xs u above) v ≡ never
       near-never = account-never xs (S .fits) len small D near-day-found
 
-      near-moves : Moves (timeBy tn (estimate xs) s te) (timeBy tn (estimate (set xs u above)) s te) (moving tn (estimate xs) lo old u) old above (length d)
-      near-moves = rise-moves tn q s te lo S u old above (set xs u above) small xs len refl refl (near-step .0) near-day G
+      near-moves : Moves (timeBy tn (estimate xs) s te) (timeBy tn (estimate (set xs u above)) s te)
+          (moving tn (estimate xs) lo old u) old above (length d)
+      near-moves =
+          rise-moves tn q s te lo S u old above (set xs u above) small xs len refl refl (near-step .0) near-day G
 
       pub near-asks : {counts : List ℕ}
           → length d ≤ 16384
@@ -250,7 +262,8 @@ module _ (d f g : List ℕ) (q : Query) (s te lo : ℕ) (S : Setting (tableOf d 
       near-list : {ws₁ : List ℕ} {r : ℕ} → ws₁ ≡ set ws r u → r < tail → (i : ℕ) → tail ≤ i → getD ws₁ i 0 ≡ getD ws i 0
       near-list {r = r} e h i a = in-list i e ∙ getD-set-other ws r i u 0 (λ o. omega arith)
 
-      pub near-small : {ws₁ : List ℕ} {r : ℕ} → ws₁ ≡ set ws r u → r < tail → (i : ℕ) → tail ≤ i → i < end → getD ws₁ i 0 < 4096
+      pub near-small : {ws₁ : List ℕ} {r : ℕ} → ws₁ ≡ set ws r u → r < tail → (i : ℕ) → tail ≤ i → i < end
+          → getD ws₁ i 0 < 4096
       near-small e h i a b = subst (λ (c : ℕ). c < 4096) (sym (near-list e h i a)) (G .small i a b)
 
       pub near-rise : {xs₀ sp sp″ ws₀ ws₁ ws″ : List ℕ} {head r e : ℕ}
@@ -266,7 +279,8 @@ module _ (d f g : List ℕ) (q : Query) (s te lo : ℕ) (S : Setting (tableOf d 
           → Rising tn q te s xs₀ (set xs u above) sp″ ws″ (head + 1) e (r + 1)
       near-rise B Z front here room ew Q F top =
           let Y = behind-rising B Z in
-          account-rise tn q s te lo S (Y .settling) small near-day-found (Y .waiting) (front-stays B front here) (Y .behind) (Y .raised) here room ew
+          account-rise tn q s te lo S (Y .settling) small near-day-found (Y .waiting) (front-stays B front here)
+          (Y .behind) (Y .raised) here room ew
           (rise-scanned-dropped-supported tn q s te lo S xs len D
           (let h = S .fits in ⊎-elim (λ y. omega arith) (λ y. omega arith) (near-step .1)) G
           (near-list ew (let h = Y .behind in omega arith)) F)

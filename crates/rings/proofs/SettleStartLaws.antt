@@ -2,7 +2,8 @@
 --     split-rises, core-days, settle-start, settle-end from the core times at s, with those waiting who lost a
 --     supporter, to the core times at the next start, with nobody waiting
 --     core-never                                       who has no core time keeps none
---     slack-ones, all-raised                            after a peel nobody is known to have a supporter to spare, and any time may be another
+--     slack-ones, all-raised                            after a peel nobody is known to have a supporter to spare,
+--                                                       and any time may be another
 --     Filled, filled-start, filled-next                a list that is written from the front
 -- Assumes nothing.
 use Prim.Native.Nat.{ℕ, _+_, _-_, _≤_, _<_}
@@ -51,11 +52,14 @@ module _ (d f g : List ℕ) (q : Query) (s te lo : ℕ) (S : Setting (tableOf d 
   abbrev ts : Table
   ts = tableOf d f g
 
-  at-core : {xs : List ℕ} → CoreTimesAre d f g (frameOf q s te lo) xs → (u : ℕ) → u < 4096 → estimate xs u ≡ accountTime ts q te s u
+  at-core : {xs : List ℕ} → CoreTimesAre d f g (frameOf q s te lo) xs → (u : ℕ) → u < 4096
+      → estimate xs u ≡ accountTime ts q te s u
   at-core {xs} C u l = estimate-at xs u (C .long) l ∙ C .times u l
 
   pub core-days : {xs : List ℕ} → CoreTimesAre d f g (frameOf q s te lo) xs → Days te xs
-  core-days {xs} C v l = subst (λ (c : ℕ). (c ≤ te) ⊎ (c ≡ never)) (sym (C .times v l)) (⊎-elim _⊎_.inr (λ w. _⊎_.inl (w .1)) (account-time ts q te s v))
+  core-days {xs} C v l =
+      subst (λ (c : ℕ). (c ≤ te) ⊎ (c ≡ never)) (sym (C .times v l))
+      (⊎-elim _⊎_.inr (λ w. _⊎_.inl (w .1)) (account-time ts q te s v))
 
   same-supporters : {xs : List ℕ}
       → CoreTimesAre d f g (frameOf q s te lo) xs
@@ -78,7 +82,8 @@ module _ (d f g : List ℕ) (q : Query) (s te lo : ℕ) (S : Setting (tableOf d 
       }))
 
   -- after a peel nobody is known to have a supporter to spare
-  pub slack-ones : {xs sp : List ℕ} → CoreTimesAre d f g (frameOf q s te lo) xs → length sp ≡ 4096 → ((u : ℕ) → u < 4096 → getD sp u 0 ≡ 1) → Slack ts q s xs sp
+  pub slack-ones : {xs sp : List ℕ} → CoreTimesAre d f g (frameOf q s te lo) xs → length sp ≡ 4096
+      → ((u : ℕ) → u < 4096 → getD sp u 0 ≡ 1) → Slack ts q s xs sp
   slack-ones {xs} {sp} C l ones =
       record {
         long = l;
@@ -86,20 +91,24 @@ module _ (d f g : List ℕ) (q : Query) (s te lo : ℕ) (S : Setting (tableOf d 
         enough = λ u h.
             ⊎-elim _⊎_.inl (λ m. let e = ones u h in _⊎_.inr (omega arith))
             (subst (λ (c : ℕ). (c ≡ never) ⊎ (q .k ≤ supporters ts (estimate xs) s c u)) (sym (C .times u h))
-            (⊎-elim _⊎_.inl (λ m. _⊎_.inr (le-trans m (same-supporters C (accountTime ts q te s u) u))) (times-closed ts q te s (S .fits) u .enough-or-never)));
+            (⊎-elim _⊎_.inl (λ m. _⊎_.inr (le-trans m (same-supporters C (accountTime ts q te s u) u)))
+            (times-closed ts q te s (S .fits) u .enough-or-never)));
       }
 
   -- the rows dated s have left
   module _ {next : ℕ} (S′ : Setting (tableOf d f g) q (s + 1) te next) (up : lo ≤ next) (within : next ≤ length d)
       {xs sp₀ sp ws₀ ws : List ℕ} {r : ℕ} (C : CoreTimesAre d f g (frameOf q s te lo) xs)
       (P : Slack ts q s xs sp₀) (F : Leaving ts (estimate xs) lo next sp₀ sp) (Q : Queued 0 sp₀ ws₀ r sp ws) where
-    backing-on : (c u j : ℕ) → next ≤ j → backing ts (estimate xs) lo c u j ≡ true → backing ts (estimate xs) next c u j ≡ true
+    backing-on : (c u j : ℕ) → next ≤ j → backing ts (estimate xs) lo c u j ≡ true
+        → backing ts (estimate xs) next c u j ≡ true
     backing-on c u j h b =
         let e = backing-e ts q s te lo S (estimate xs) c u j b in
         backing-i ts q (s + 1) te next S′ (estimate xs) c u j
         (record { is-lead = lead-on ts up j (counts-here ts next j h) (e .is-lead); touch = e .touch; by = e .by })
 
-    fewer : (c u : ℕ) → supporters ts (estimate xs) s c u ≤ backers ts (estimate xs) lo c u next + supporters ts (estimate xs) (s + 1) c u
+    fewer : (c u : ℕ)
+        → supporters ts (estimate xs) s c u
+        ≤ backers ts (estimate xs) lo c u next + supporters ts (estimate xs) (s + 1) c u
     unfolding backers
     fewer c u =
         let a = backers-are ts q s te lo S (estimate xs) c u in
@@ -119,7 +128,8 @@ module _ (d f g : List ℕ) (q : Query) (s te lo : ℕ) (S : Setting (tableOf d 
                 lower = λ u c h o m.
                     let row = met-e ts (ring ts q (s + 1) c) u m in
                     let l : u < 4096 = touch-small ts q s te lo S (row .row) u (row .below) (row .touch) in
-                    subst (λ (a : ℕ). a ≤ c) (sym (at-core C u l)) (lower-next ts q te s (S .fits) (s + 1) (omega arith) .under u c h o m);
+                    subst (λ (a : ℕ). a ≤ c) (sym (at-core C u l))
+                    (lower-next ts q te s (S .fits) (s + 1) (omega arith) .under u c h o m);
                 enough = λ u l h. ⊎-elim _⊎_.inl (λ m. ⊎-elim (λ e. _⊎_.inl (sym (estimate-at xs u (C .long) l) ∙ e))
                     (λ b. let e = estimate-at xs u (C .long) l in
                     let p = ap (λ (c : ℕ). supporters ts (estimate xs) s c u) e in
@@ -130,11 +140,18 @@ module _ (d f g : List ℕ) (q : Query) (s te lo : ℕ) (S : Setting (tableOf d 
               record {
                 long = Q .long;
                 ordered = omega arith;
-                waits = λ u l z. ⊎-elim (λ o. let a = P .known u l in absurd (omega arith)) (λ p. p) (Q .waits top u l z);
+                waits = λ u l z.
+                    ⊎-elim (λ o. let a = P .known u l in absurd (omega arith)) (λ p. p) (Q .waits top u l z);
                 small = λ i a b. Q .small i a b (omega arith);
               };
           behind = le-refl 0;
-          raised = record { long = Q .long; within = omega arith; small = λ i a. absurd (not-suc-le-zero a); listed = λ u l n. absurd (n refl) };
+          raised =
+              record {
+                long = Q .long;
+                within = omega arith;
+                small = λ i a. absurd (not-suc-le-zero a);
+                listed = λ u l n. absurd (n refl);
+              };
         }
 
   pub settle-end : {xs₀ xs sp ws : List ℕ} {head tail r : ℕ}
@@ -166,7 +183,8 @@ module _ (d f g : List ℕ) (q : Query) (s te lo : ℕ) (S : Setting (tableOf d 
           (true-or-false (leb 1 (getD sp u 0)))
 
       split : (v : ℕ) → (v < 4096) ⊎ (4096 ≤ v)
-      split v = ⊎-elim (λ y. _⊎_.inr (leb-true 4096 v y)) (λ y. _⊎_.inl (leb-false 4096 v y)) (true-or-false (leb 4096 v))
+      split v =
+          ⊎-elim (λ y. _⊎_.inr (leb-true 4096 v y)) (λ y. _⊎_.inl (leb-false 4096 v y)) (true-or-false (leb 4096 v))
 
       closed : (v : ℕ) → Closed ts q s (estimate xs) v
       closed v =
@@ -193,7 +211,8 @@ pub record Filled (g : ℕ → ℕ) (m n : ℕ) (xs : List ℕ) : Type 0 where
 pub filled-start : (g : ℕ → ℕ) {m : ℕ} (xs : List ℕ) → length xs ≡ m → Filled g m 0 xs
 filled-start g xs l = record { long = l; filled = λ i h. absurd (not-suc-le-zero h) }
 
-pub filled-next : {g : ℕ → ℕ} {m n z : ℕ} {xs ys : List ℕ} → Filled g m n xs → n < m → z ≡ g n → ys ≡ set xs n z → Filled g m (n + 1) ys
+pub filled-next : {g : ℕ → ℕ} {m n z : ℕ} {xs ys : List ℕ} → Filled g m n xs → n < m → z ≡ g n → ys ≡ set xs n z
+    → Filled g m (n + 1) ys
 filled-next {g} {m} {n} {z} {xs} F l e h =
     subst (Filled g m (n + 1)) (sym h)
     (record {

@@ -2,7 +2,8 @@
 -- taken off its day, and counted on the new one at last.
 --     mixed, mixed-below, mixed-from
 --                              the times of the rows below b after the rise, of the others before it
---     shift-start, shift-asks, shift-row, shift-all             the rows of u, one after the other: each keeps its time or moves to the new one
+--     shift-start, shift-asks, shift-row, shift-all             the rows of u, one after the other: each keeps its
+--     time or moves to the new one
 --     Shift, rise-start, rise-asks, rise-row, rise-all          the same in the state of the loop
 --     shift-moves, rise-moves                                   all of them at once, where none comes in between
 -- Assumes nothing.
@@ -48,7 +49,9 @@ module _ (g g′ : ℕ → ℕ) where
 
   -- where both times are one, it does not matter which is taken
   mixed-either : (b j : ℕ) → g j ≡ g′ j → mixed g g′ b j ≡ g j
-  mixed-either b j e = ⊎-elim (λ y. mixed-below b j (ltb-true j b y) ∙ sym e) (λ y. mixed-from b j (ltb-false j b y)) (true-or-false (ltb j b))
+  mixed-either b j e =
+      ⊎-elim (λ y. mixed-below b j (ltb-true j b y) ∙ sym e) (λ y. mixed-from b j (ltb-false j b y))
+      (true-or-false (ltb j b))
 
 -- u rises from old to new, and no other account does
 module _ (t : Table) (q : Query) (s hi lo : ℕ) (S : Setting t q s hi lo) (x x′ : ℕ → ℕ) (u old new : ℕ)
@@ -63,8 +66,10 @@ module _ (t : Table) (q : Query) (s hi lo : ℕ) (S : Setting t q s hi lo) (x x�
   not-mine : (j : ℕ) → touches t j u ≡ false → before j ≡ after j
   unfolding timeBy
   not-mine j h =
-      let a : x (firstOf t j) ≡ x′ (firstOf t j) = sym (else (firstOf t j) (λ e. clash (subst (λ (c : ℕ). touches t j c ≡ true) e (touch-first t j)) h)) in
-      let b : x (secondOf t j) ≡ x′ (secondOf t j) = sym (else (secondOf t j) (λ e. clash (subst (λ (c : ℕ). touches t j c ≡ true) e (touch-second t j)) h)) in
+      let a : x (firstOf t j) ≡ x′ (firstOf t j) =
+      sym (else (firstOf t j) (λ e. clash (subst (λ (c : ℕ). touches t j c ≡ true) e (touch-first t j)) h)) in
+      let b : x (secondOf t j) ≡ x′ (secondOf t j) =
+      sym (else (secondOf t j) (λ e. clash (subst (λ (c : ℕ). touches t j c ≡ true) e (touch-second t j)) h)) in
       ap (λ (c : ℕ). elim (opensBy t s hi j) [ true ↦ max (max c (x (secondOf t j))) (openDay t s j) | false ↦ never ]) a
       ∙ ap (λ (c : ℕ). elim (opensBy t s hi j) [ true ↦ max (max (x′ (firstOf t j)) c) (openDay t s j) | false ↦ never ]) b
 
@@ -89,12 +94,17 @@ module _ (t : Table) (q : Query) (s hi lo : ℕ) (S : Setting t q s hi lo) (x x�
       one : firstOf t j ≡ u → Mine j
       one e =
           let v : otherOf t j u ≡ secondOf t j = subst (λ (c : ℕ). otherOf t j c ≡ secondOf t j) e (other-first t j) in
-          let z : x′ (otherOf t j u) ≡ x (secondOf t j) = ap x′ v ∙ else (secondOf t j) (λ y. let p = apart in omega arith) in
+          let z : x′ (otherOf t j u) ≡ x (secondOf t j) =
+          ap x′ v ∙ else (secondOf t j) (λ y. let p = apart in omega arith) in
           let a : x (firstOf t j) ≡ old = ap x e ∙ was in
           let b : x′ (firstOf t j) ≡ new = ap x′ e ∙ now in
           let c : x′ (otherOf t j u) ≡ x′ (secondOf t j) = ap x′ v in
           let m = by-in t x s hi j opens in let n = by-in t x′ s hi j opens in let g = own in
-          record { other = ap x′ v ∙ (else (secondOf t j) (λ y. let p = apart in omega arith) ∙ ap x (sym v)); first = m ∙ omega arith; then = n ∙ omega arith }
+          record {
+            other = ap x′ v ∙ (else (secondOf t j) (λ y. let p = apart in omega arith) ∙ ap x (sym v));
+            first = m ∙ omega arith;
+            then = n ∙ omega arith;
+          }
 
       two : secondOf t j ≡ u → Mine j
       two e =
@@ -104,14 +114,19 @@ module _ (t : Table) (q : Query) (s hi lo : ℕ) (S : Setting t q s hi lo) (x x�
           let b : x′ (secondOf t j) ≡ new = ap x′ e ∙ now in
           let c : x′ (otherOf t j u) ≡ x′ (firstOf t j) = ap x′ v in
           let m = by-in t x s hi j opens in let n = by-in t x′ s hi j opens in let g = own in
-          record { other = ap x′ v ∙ (else (firstOf t j) (λ y. let p = apart in omega arith) ∙ ap x (sym v)); first = m ∙ omega arith; then = n ∙ omega arith }
+          record {
+            other = ap x′ v ∙ (else (firstOf t j) (λ y. let p = apart in omega arith) ∙ ap x (sym v));
+            first = m ∙ omega arith;
+            then = n ∙ omega arith;
+          }
 
   -- a row that has left
   left : {j : ℕ} → j < lo → before j ≡ after j
   left {j} h = let a = S .before-lo j h in by-out t x s hi j (_⊎_.inl a) ∙ sym (by-out t x′ s hi j (_⊎_.inl a))
 
   -- a row of u that keeps its time: it has left, or lies behind the range, or has the new time or a later one already
-  keeps : (j : ℕ) → j < size t → touches t j u ≡ true → (j < lo) ⊎ ((new ≤ x′ (otherOf t j u)) ⊎ ((new ≤ dayOf t j) ⊎ (hi < dayOf t j))) → before j ≡ after j
+  keeps : (j : ℕ) → j < size t → touches t j u ≡ true
+      → (j < lo) ⊎ ((new ≤ x′ (otherOf t j u)) ⊎ ((new ≤ dayOf t j) ⊎ (hi < dayOf t j))) → before j ≡ after j
   keeps j l k o =
       ⊎-elim left
       (λ y. ⊎-elim (λ h. behind (ltb-true hi (dayOf t j) h))
@@ -123,7 +138,8 @@ module _ (t : Table) (q : Query) (s hi lo : ℕ) (S : Setting t q s hi lo) (x x�
       behind : hi < dayOf t j → before j ≡ after j
       behind h = by-out t x s hi j (_⊎_.inr h) ∙ sym (by-out t x′ s hi j (_⊎_.inr h))
 
-      inside : lo ≤ j → dayOf t j ≤ hi → (new ≤ x′ (otherOf t j u)) ⊎ ((new ≤ dayOf t j) ⊎ (hi < dayOf t j)) → before j ≡ after j
+      inside : lo ≤ j → dayOf t j ≤ hi → (new ≤ x′ (otherOf t j u)) ⊎ ((new ≤ dayOf t j) ⊎ (hi < dayOf t j))
+          → before j ≡ after j
       inside m h y =
           let M = mine j l k (counts-here t lo j m) h in
           let a = M .first in
@@ -208,9 +224,11 @@ module _ (t : Table) (q : Query) (s hi lo : ℕ) (S : Setting t q s hi lo) (x x�
       -- but for row j nothing is another by one step
       step-else : (i : ℕ) → (i ≡ j → ⊥) → mixed before after (j + 1) i ≡ mixed before after b i
       step-else i n =
-          ⊎-elim (λ y. mixed-below before after (j + 1) i (let a = ltb-true i b y in omega arith) ∙ sym (mixed-below before after b i (ltb-true i b y)))
+          ⊎-elim (λ y. mixed-below before after (j + 1) i (let a = ltb-true i b y in omega arith)
+          ∙ sym (mixed-below before after b i (ltb-true i b y)))
           (λ y. let a = ltb-false i b y in
-          ⊎-elim (λ z. let e = over i a (ltb-true i j z) in mixed-either before after (j + 1) i e ∙ sym (mixed-either before after b i e))
+          ⊎-elim (λ z. let e = over i a (ltb-true i j z) in
+          mixed-either before after (j + 1) i e ∙ sym (mixed-either before after b i e))
           (λ z. let c = ltb-false i j z in
           mixed-from before after (j + 1) i
           (⊎-elim (λ o. absurd (n (sym o))) (λ o. omega arith) (eq-or-lt-of-le c))
@@ -258,7 +276,8 @@ module _ (t : Table) (q : Query) (s hi lo : ℕ) (S : Setting t q s hi lo) (x x�
                   record { in-days = w; one = pending-has (O .1) l (was-time y) w (λ e. let f = et in omega arith) };
             }
 
-        pub shift-row : old ≤ hi → (z ≤ hi) ⊎ (z ≡ never) → new ≤ never → {m′ : ℕ} {xs′ : List ℕ} → Taking test time m xs xs′ m′ → Shifting (j + 1) m′ xs′
+        pub shift-row : old ≤ hi → (z ≤ hi) ⊎ (z ≡ never) → new ≤ never → {m′ : ℕ} {xs′ : List ℕ}
+            → Taking test time m xs xs′ m′ → Shifting (j + 1) m′ xs′
         shift-row o d n {m′} {xs′} (Taking.none y e f) =
             subst (λ (c : ℕ). Shifting (j + 1) c xs′) (sym f)
             (subst (Shifting (j + 1) m) (sym e)
@@ -285,13 +304,16 @@ pub record Shift (t : Table) (s hi u old new : ℕ) (xs : List ℕ) (b m : ℕ) 
   pub few : m ≤ b
   pub pending : PendingHistogram (mixed (timeBy t (estimate was) s hi) (timeBy t (estimate xs) s hi) b) (size t) new m counts
 
-module _ (t : Table) (q : Query) (s hi lo : ℕ) (S : Setting t q s hi lo) (u old new : ℕ) (xs : List ℕ) (small : u < 4096) where
+module _ (t : Table) (q : Query) (s hi lo : ℕ) (S : Setting t q s hi lo) (u old new : ℕ) (xs : List ℕ)
+    (small : u < 4096) where
   module _ (was : List ℕ) (l : length was ≡ 4096) (e : xs ≡ set was u new) (o : old ≡ getD was u 0) where
     was-is : estimate was u ≡ old
     was-is = estimate-at was u l small ∙ sym o
 
     now-is : estimate xs u ≡ new
-    now-is = estimate-at xs u (ap length e ∙ (length-set was u new ∙ l)) small ∙ (ap (λ (ys : List ℕ). getD ys u 0) e ∙ getD-set-same was u new 0 (omega arith))
+    now-is =
+        estimate-at xs u (ap length e ∙ (length-set was u new ∙ l)) small
+        ∙ (ap (λ (ys : List ℕ). getD ys u 0) e ∙ getD-set-same was u new 0 (omega arith))
 
     else-is : (v : ℕ) → (v ≡ u → ⊥) → estimate xs v ≡ estimate was v
     unfolding estimate
@@ -315,7 +337,17 @@ module _ (t : Table) (q : Query) (s hi lo : ℕ) (S : Setting t q s hi lo) (u ol
       let Z = shift-start t q s hi lo S (estimate (R .was)) (estimate xs) u old new
       (was-is (R .was) (R .long) (R .then) (R .from)) (now-is (R .was) (R .long) (R .then) (R .from))
       (else-is (R .was) (R .long) (R .then) (R .from)) (R .up) (R .counted) in
-      record { was = R .was; long = R .long; then = R .then; from = R .from; up = R .up; day = R .day; top = R .top; few = Z .0; pending = Z .1 }
+      record {
+        was = R .was;
+        long = R .long;
+        then = R .then;
+        from = R .from;
+        up = R .up;
+        day = R .day;
+        top = R .top;
+        few = Z .0;
+        pending = Z .1;
+      }
 
   module _ {b m : ℕ} {counts : List ℕ} (Z : Shift t s hi u old new xs b m counts) where
     a : estimate (Z .was) u ≡ old
@@ -345,8 +377,19 @@ module _ (t : Table) (q : Query) (s hi lo : ℕ) (S : Setting t q s hi lo) (u ol
           shift-asks t q s hi lo S (estimate (Z .was)) (estimate xs) u old new a c n (Z .up)
           (Z .few, Z .pending) from l k gap day soon (Z .top) ez et yes not (Z .day) dz dn
 
-      pub rise-row : {m′ : ℕ} {counts′ : List ℕ} → Taking test time m counts counts′ m′ → Shift t s hi u old new xs (j + 1) m′ counts′
+      pub rise-row : {m′ : ℕ} {counts′ : List ℕ} → Taking test time m counts counts′ m′
+          → Shift t s hi u old new xs (j + 1) m′ counts′
       rise-row T =
           let Y = shift-row t q s hi lo S (estimate (Z .was)) (estimate xs) u old new a c n (Z .up)
           (Z .few, Z .pending) from l k gap day soon (Z .top) ez et yes not (Z .day) dz dn T in
-          record { was = Z .was; long = Z .long; then = Z .then; from = Z .from; up = Z .up; day = Z .day; top = Z .top; few = Y .0; pending = Y .1 }
+          record {
+            was = Z .was;
+            long = Z .long;
+            then = Z .then;
+            from = Z .from;
+            up = Z .up;
+            day = Z .day;
+            top = Z .top;
+            few = Y .0;
+            pending = Y .1;
+          }

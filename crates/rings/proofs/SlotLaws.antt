@@ -3,7 +3,8 @@
 --     Emptying, emptying-start, emptying-next, emptying-end    the loop of `clear_slots`
 --     slot-hit, slot-gap                       the last row with a slot, and that no later one has it
 --     chain-start, chain-last, chain-next, chain-end       the loop of `chain_rows`
---     pairing-start, Seeking, seek-start, seek-row, seek-place, seek-less, seek-found, seek-next, seek-none, pairing-end     the search of `find_pairs`
+--     pairing-start, Seeking, seek-start, seek-row, seek-place, seek-less, seek-found, seek-next, seek-none,
+--     pairing-end     the search of `find_pairs`
 --     row-slot     what the code reads of a row
 -- Assumes nothing.
 use Prim.Native.Nat.{ℕ, zero, suc, _+_, _-_, _*_, _%_, _≤_, _<_}
@@ -22,7 +23,8 @@ use Rattle.rings.specs.Words.{at}
 use Rattle.rings.specs.Table.{Table, tableOf, firstOf, secondOf}
 use Rattle.rings.specs.Ring.{joins}
 use Rattle.rings.specs.Sound.{Sound}
-use Rattle.rings.specs.Inner.Adjacency.{pairBefore, earlier, slot, slotOf, slotBefore, Emptied, Chained, Pairing, SlotFound}
+use Rattle.rings.specs.Inner.Adjacency.{pairBefore, earlier, slot, slotOf, slotBefore, Emptied, Chained}
+use Rattle.rings.specs.Inner.Adjacency.{Pairing, SlotFound}
 use Rattle.rings.proofs.WordLaws.{true-or-false, clash, same-or}
 use Rattle.rings.proofs.RingLaws.{joins-cases}
 use Rattle.rings.proofs.PairLaws.{joins-ends, before-yes, before-no}
@@ -37,7 +39,8 @@ pub record Emptying (h : ℕ) (sc₀ sc : List ℕ) : Type 0 where
 pub emptying-start : (sc : List ℕ) → Emptying 0 sc sc
 emptying-start sc = record { long = refl; low = λ p h. absurd (not-suc-le-zero h); high = λ p h. refl }
 
-pub emptying-next : {h : ℕ} {sc₀ sc sc′ : List ℕ} → Emptying h sc₀ sc → h < 8192 → 8192 ≤ length sc₀ → sc′ ≡ set sc h 0 → Emptying (h + 1) sc₀ sc′
+pub emptying-next : {h : ℕ} {sc₀ sc sc′ : List ℕ} → Emptying h sc₀ sc → h < 8192 → 8192 ≤ length sc₀
+    → sc′ ≡ set sc h 0 → Emptying (h + 1) sc₀ sc′
 emptying-next {h} {sc₀} {sc} {sc′} E l n e =
     record {
       long = ap length e ∙ (length-set sc h 0 ∙ E .long);
@@ -55,17 +58,20 @@ emptying-end E l = record { long = E .long; low = λ p k. E .low p (omega arith)
 
 slot-yes : (t : Table) (h n : ℕ) → slotOf t n ≡ h → slotBefore t h (suc n) ≡ suc n
 unfolding slotBefore
-slot-yes t h n e = ap (λ (x : Bool). elim x as (λ _. ℕ) [ true ↦ suc n | false ↦ slotBefore t h n ]) (eq-eqb (slotOf t n) h e)
+slot-yes t h n e =
+    ap (λ (x : Bool). elim x as (λ _. ℕ) [ true ↦ suc n | false ↦ slotBefore t h n ]) (eq-eqb (slotOf t n) h e)
 
 slot-no : (t : Table) (h n : ℕ) → (slotOf t n ≡ h → ⊥) → slotBefore t h (suc n) ≡ slotBefore t h n
 unfolding slotBefore
-slot-no t h n e = ap (λ (x : Bool). elim x as (λ _. ℕ) [ true ↦ suc n | false ↦ slotBefore t h n ]) (ne-eqb (slotOf t n) h e)
+slot-no t h n e =
+    ap (λ (x : Bool). elim x as (λ _. ℕ) [ true ↦ suc n | false ↦ slotBefore t h n ]) (ne-eqb (slotOf t n) h e)
 
 slot-le : (t : Table) (h n : ℕ) → slotBefore t h n ≤ n
 unfolding slotBefore
 slot-le t h zero = le-refl 0
 slot-le t h (suc n) =
-    ⊎-elim (λ y. let e = slot-yes t h n y in omega arith) (λ y. let e = slot-no t h n y in let k = slot-le t h n in omega arith)
+    ⊎-elim (λ y. let e = slot-yes t h n y in omega arith)
+    (λ y. let e = slot-no t h n y in let k = slot-le t h n in omega arith)
     (same-or (slotOf t n) h)
 
 slot-hit : (t : Table) (h n m : ℕ) → slotBefore t h n ≡ suc m → slotOf t m ≡ h
@@ -90,7 +96,8 @@ pub record Seeking (d f s : List ℕ) (j p : ℕ) (sc : List ℕ) : Type 0 where
   pub row : j < length d
   pub low : p ≤ j
   pub hit : (i : ℕ) → p ≡ suc i → slotOf (tableOf d f s) i ≡ slotOf (tableOf d f s) j
-  pub none : (i : ℕ) → p ≤ i → i < j → joins (tableOf d f s) i (firstOf (tableOf d f s) j) (secondOf (tableOf d f s) j) ≡ false
+  pub none : (i : ℕ) → p ≤ i → i < j
+      → joins (tableOf d f s) i (firstOf (tableOf d f s) j) (secondOf (tableOf d f s) j) ≡ false
 
 pub slot-is : (a b : ℕ) → SlotFound a b ((a * 1301 + b) % 8192)
 unfolding slot
@@ -115,15 +122,20 @@ module _ (d f s : List ℕ) (S : Sound d f s) where
         chain = λ r l. absurd (not-suc-le-zero l);
       }
 
-  pub chain-next : {j h last : ℕ} {sc sc₁ sc₂ : List ℕ} → Chained t j sc → j < length d → h < 8192 → h ≡ slotOf t j → last ≡ getD sc h 0
+  pub chain-next : {j h last : ℕ} {sc sc₁ sc₂ : List ℕ} → Chained t j sc → j < length d → h < 8192
+      → h ≡ slotOf t j → last ≡ getD sc h 0
       → sc₁ ≡ set sc (8192 + 2 * length d + j) last → sc₂ ≡ set sc₁ h (j + 1) → Chained t (j + 1) sc₂
   chain-next {j} {h} {last} {sc} {sc₁} {sc₂} C l small eh el e₁ e₂ =
       record {
-        long = subst (λ (m : ℕ). 8192 + 4 * length d ≤ m) (sym (ap length e₂ ∙ (length-set sc₁ h (j + 1) ∙ len₁))) (C .long);
+        long =
+            subst (λ (m : ℕ). 8192 + 4 * length d ≤ m) (sym (ap length e₂ ∙ (length-set sc₁ h (j + 1) ∙ len₁)))
+            (C .long);
         lasts = λ g k.
             rw (add-one j)
             (⊎-elim (λ y. here g y)
-            (λ n. off₂ g n ∙ (off₁ g (λ z. omega arith) ∙ (C .lasts g k ∙ sym (slot-no t g j (λ z. n (sym z ∙ sym eh)))))) (same-or g h));
+            (λ n. off₂ g n
+            ∙ (off₁ g (λ z. omega arith) ∙ (C .lasts g k ∙ sym (slot-no t g j (λ z. n (sym z ∙ sym eh))))))
+            (same-or g h));
         chain = λ r k.
             off₂ (8192 + 2 * length d + r) (λ z. omega arith) ∙ ⊎-elim (λ y. new r y)
             (λ y. off₁ (8192 + 2 * length d + r) (λ z. omega arith) ∙ C .chain r y) (eq-or-lt-of-le (omega arith));
@@ -150,7 +162,9 @@ module _ (d f s : List ℕ) (S : Sound d f s) where
           ap (λ (c : ℕ). getD sc₁ (8192 + 2 * length d + c) 0) y
           ∙ (ap (λ (x : List ℕ). getD x (8192 + 2 * length d + j) 0) e₁
           ∙ (getD-set-same sc (8192 + 2 * length d + j) last 0 (let o = C .long in omega arith)
-          ∙ (el ∙ (C .lasts h small ∙ (ap (λ (c : ℕ). slotBefore t c j) eh ∙ ap (λ (c : ℕ). slotBefore t (slotOf t c) c) (sym y))))))
+          ∙ (el
+          ∙ (C .lasts h small
+          ∙ (ap (λ (c : ℕ). slotBefore t c j) eh ∙ ap (λ (c : ℕ). slotBefore t (slotOf t c) c) (sym y))))))
 
   pub chain-last : {j h last : ℕ} {sc : List ℕ} → Chained t j sc → h < 8192 → last ≡ getD sc h 0 → last ≤ j
   chain-last {j} {h} C l e = let a = C .lasts h l in let b = slot-le t h j in omega arith
@@ -164,7 +178,8 @@ module _ (d f s : List ℕ) (S : Sound d f s) where
   pairing-start C = record { long = C .long; chain = C .chain; pairs = λ r a l. absurd (omega arith) }
 
   -- the last row below n that joins a pair
-  before-last : (a b n i : ℕ) → i < n → joins t i a b ≡ true → ((m : ℕ) → i < m → m < n → joins t m a b ≡ false) → pairBefore t a b n ≡ suc i
+  before-last : (a b n i : ℕ) → i < n → joins t i a b ≡ true → ((m : ℕ) → i < m → m < n → joins t m a b ≡ false)
+      → pairBefore t a b n ≡ suc i
   before-last a b zero i l h g = absurd (not-suc-le-zero l)
   before-last a b (suc n) i l h g =
       ⊎-elim (λ y. before-yes t a b n (subst (λ (c : ℕ). joins t c a b ≡ true) y h) ∙ ap suc (sym y))
@@ -177,28 +192,37 @@ module _ (d f s : List ℕ) (S : Sound d f s) where
   before-none a b (suc n) g = before-no t a b n (g n (le-refl (suc n))) ∙ before-none a b n (λ m o. g m (omega arith))
 
   -- rows of one pair have its accounts in the same order, and one slot
-  joined : (i j : ℕ) → i < length d → j < length d → joins t i (firstOf t j) (secondOf t j) ≡ true → (firstOf t i ≡ firstOf t j) × (secondOf t i ≡ secondOf t j)
+  joined : (i j : ℕ) → i < length d → j < length d → joins t i (firstOf t j) (secondOf t j) ≡ true
+      → (firstOf t i ≡ firstOf t j) × (secondOf t i ≡ secondOf t j)
   unfolding firstOf secondOf at
   joined i j k l h =
       ⊎-elim (λ e. e)
-      (λ e. let x = S .rows i k .accounts in let y = S .rows j l .accounts in let a = e .0 in let b = e .1 in absurd (omega arith))
+      (λ e. let x = S .rows i k .accounts in let y = S .rows j l .accounts in let a = e .0 in let b = e .1 in
+      absurd (omega arith))
       (joins-cases t i (firstOf t j) (secondOf t j) h)
 
-  joined-slot : (i j : ℕ) → i < length d → j < length d → joins t i (firstOf t j) (secondOf t j) ≡ true → slotOf t i ≡ slotOf t j
+  joined-slot : (i j : ℕ) → i < length d → j < length d → joins t i (firstOf t j) (secondOf t j) ≡ true
+      → slotOf t i ≡ slotOf t j
   unfolding slotOf
-  joined-slot i j k l h = let e = joined i j k l h in ap (λ (x : ℕ). slot x (secondOf t i)) (e .0) ∙ ap (slot (firstOf t j)) (e .1)
+  joined-slot i j k l h =
+      let e = joined i j k l h in ap (λ (x : ℕ). slot x (secondOf t i)) (e .0) ∙ ap (slot (firstOf t j)) (e .1)
 
-  pair-first : (i j : ℕ) → j < length d → i < length d → joins t i (firstOf t j) (secondOf t j) ≡ true → getD f i 0 ≡ getD f j 0
+  pair-first : (i j : ℕ) → j < length d → i < length d → joins t i (firstOf t j) (secondOf t j) ≡ true
+      → getD f i 0 ≡ getD f j 0
   unfolding firstOf at
   pair-first i j l k h = joined i j k l h .0
 
-  pair-second : (i j : ℕ) → j < length d → i < length d → joins t i (firstOf t j) (secondOf t j) ≡ true → getD s i 0 ≡ getD s j 0
+  pair-second : (i j : ℕ) → j < length d → i < length d → joins t i (firstOf t j) (secondOf t j) ≡ true
+      → getD s i 0 ≡ getD s j 0
   unfolding secondOf at
   pair-second i j l k h = joined i j k l h .1
 
-  same-pair : (i j : ℕ) → getD f i 0 ≡ getD f j 0 → getD s i 0 ≡ getD s j 0 → joins t i (firstOf t j) (secondOf t j) ≡ true
+  same-pair : (i j : ℕ) → getD f i 0 ≡ getD f j 0 → getD s i 0 ≡ getD s j 0
+      → joins t i (firstOf t j) (secondOf t j) ≡ true
   unfolding firstOf secondOf at
-  same-pair i j e g = subst (λ (a : ℕ). joins t i a (getD s j 0) ≡ true) e (subst (λ (b : ℕ). joins t i (getD f i 0) b ≡ true) g (joins-ends t i))
+  same-pair i j e g =
+      subst (λ (a : ℕ). joins t i a (getD s j 0) ≡ true) e
+      (subst (λ (b : ℕ). joins t i (getD f i 0) b ≡ true) g (joins-ends t i))
 
   pub seek-start : {left j p : ℕ} {sc : List ℕ} → Pairing t left sc → 0 < left → left ≤ length d → j ≡ left - 1
       → p ≡ getD sc (8192 + 2 * length d + j) 0 → Seeking d f s j p sc
@@ -211,15 +235,21 @@ module _ (d f s : List ℕ) (S : Sound d f s) where
         low = let m = slot-le t (slotOf t j) j in omega arith;
         hit = λ i y. slot-hit t (slotOf t j) j i (sym at-j ∙ y);
         none = λ i a b.
-            ⊎-elim (λ y. absurd (slot-gap t (slotOf t j) j i (omega arith) b (joined-slot i j (omega arith) (omega arith) y))) (λ y. y)
+            ⊎-elim
+            (λ y. absurd
+            (slot-gap t (slotOf t j) j i (omega arith) b (joined-slot i j (omega arith) (omega arith) y)))
+            (λ y. y)
             (true-or-false (joins t i (firstOf t j) (secondOf t j)));
       }
 
   -- the earlier row of row j is stored
-  stored : {j p e : ℕ} {sc sc′ : List ℕ} → Seeking d f s j p sc → earlier t j ≡ e → sc′ ≡ set sc (8192 + 2 * length d + j) e → Pairing t j sc′
+  stored : {j p e : ℕ} {sc sc′ : List ℕ} → Seeking d f s j p sc → earlier t j ≡ e
+      → sc′ ≡ set sc (8192 + 2 * length d + j) e → Pairing t j sc′
   stored {j} {p} {e} {sc} {sc′} X is es =
       record {
-        long = subst (λ (m : ℕ). 8192 + 4 * length d ≤ m) (sym (ap length es ∙ length-set sc (8192 + 2 * length d + j) e)) (X .made .long);
+        long =
+            subst (λ (m : ℕ). 8192 + 4 * length d ≤ m)
+            (sym (ap length es ∙ length-set sc (8192 + 2 * length d + j) e)) (X .made .long);
         chain = λ r l. off (8192 + 2 * length d + r) (λ z. omega arith) ∙ X .made .chain r (omega arith);
         pairs = λ r a l.
             ⊎-elim
@@ -245,14 +275,18 @@ module _ (d f s : List ℕ) (S : Sound d f s) where
     seek-place = let a = seek-row in let b = X .made .long in omega arith
 
     pub seek-less : {p′ : ℕ} → p′ ≡ getD sc (8192 + 2 * length d + i) 0 → p′ < p
-    seek-less ep = let a = X .made .chain i (let m = X .low in omega arith) in let b = slot-le t (slotOf t i) i in omega arith
+    seek-less ep =
+        let a = X .made .chain i (let m = X .low in omega arith) in let b = slot-le t (slotOf t i) i in omega arith
 
-    module _ {a b : ℕ} {y : Bool} (ea : a ≡ getD f j 0) (eb : b ≡ getD s j 0) (ey : y ≡ (eqb (getD f i 0) a && eqb (getD s i 0) b)) where
+    module _ {a b : ℕ} {y : Bool} (ea : a ≡ getD f j 0) (eb : b ≡ getD s j 0)
+        (ey : y ≡ (eqb (getD f i 0) a && eqb (getD s i 0) b)) where
       pub seek-found : {sc′ : List ℕ} → y ≡ true → sc′ ≡ set sc (8192 + 2 * length d + j) p → Pairing t j sc′
       unfolding earlier
       seek-found {sc′} h es =
           stored X
-          (before-last (firstOf t j) (secondOf t j) j i (let m = X .low in omega arith) same (λ m k o. X .none m (omega arith) o) ∙ sym
+          (before-last (firstOf t j) (secondOf t j) j i (let m = X .low in omega arith) same
+          (λ m k o. X .none m (omega arith) o)
+          ∙ sym
           is-suc)
           es
         where
@@ -262,7 +296,8 @@ module _ (d f s : List ℕ) (S : Sound d f s) where
 
           same : joins t i (firstOf t j) (secondOf t j) ≡ true
           same =
-              same-pair i j (eqb-true (getD f i 0) a (both (eqb (getD f i 0) a) (eqb (getD s i 0) b) (sym ey ∙ h) .0) ∙ ea)
+              same-pair i j
+              (eqb-true (getD f i 0) a (both (eqb (getD f i 0) a) (eqb (getD s i 0) b) (sym ey ∙ h) .0) ∙ ea)
               (eqb-true (getD s i 0) b (both (eqb (getD f i 0) a) (eqb (getD s i 0) b) (sym ey ∙ h) .1) ∙ eb)
 
       pub seek-next : {p′ : ℕ} → y ≡ false → p′ ≡ getD sc (8192 + 2 * length d + i) 0 → Seeking d f s j p′ sc
@@ -303,12 +338,15 @@ module _ (d f s : List ℕ) (S : Sound d f s) where
               ⊎-elim
               (λ z.
               clash
-              (ey ∙ both (eqb (getD f i 0) a) (eqb (getD s i 0) b) (eq-eqb (getD f i 0) a (pair-first i j (X .row) seek-row z ∙ sym ea))
+              (ey
+              ∙ both (eqb (getD f i 0) a) (eqb (getD s i 0) b)
+              (eq-eqb (getD f i 0) a (pair-first i j (X .row) seek-row z ∙ sym ea))
               (eq-eqb (getD s i 0) b (pair-second i j (X .row) seek-row z ∙ sym eb)))
               h)
               (λ z. z) (true-or-false (joins t i (firstOf t j) (secondOf t j)))
 
-  pub seek-none : {j p : ℕ} {sc sc′ : List ℕ} → Seeking d f s j p sc → p ≤ 0 → sc′ ≡ set sc (8192 + 2 * length d + j) 0 → Pairing t j sc′
+  pub seek-none : {j p : ℕ} {sc sc′ : List ℕ} → Seeking d f s j p sc → p ≤ 0
+      → sc′ ≡ set sc (8192 + 2 * length d + j) 0 → Pairing t j sc′
   unfolding earlier
   seek-none {j} X h es = stored X (before-none (firstOf t j) (secondOf t j) j (λ m o. X .none m (omega arith) o)) es
 

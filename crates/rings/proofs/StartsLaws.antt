@@ -1,4 +1,5 @@
--- The starts of a range (specs/Starts.antt): what a part above knows of a state that stays shut, and the loop of `first_time`.
+-- The starts of a range (specs/Starts.antt): what a part above knows of a state that stays shut, and the loop of
+-- `first_time`.
 --     start-sound, start-prepared, start-times, start-counts    what a start has: an accepted table, a scratch that
 --     is ready, the accounts' times, the rows' day counts
 --     times-long, slack-long                        how long its arrays are
@@ -29,7 +30,8 @@ use Rattle.rings.proofs.DayLaws.{framed-of, ready-pruned-framed, pruned
 
 -- ---- the state at a start
 
-module _ {t : Table} {q : Query} {hi s lo : ℕ} {sc times slack counts : List ℕ} (A : AtStart t q hi s lo sc times slack counts) where
+module _ {t : Table} {q : Query} {hi s lo : ℕ} {sc times slack counts : List ℕ}
+    (A : AtStart t q hi s lo sc times slack counts) where
   pub start-sound : Sound (t .days) (t .first) (t .second)
   start-sound = A .inside .opened .sound
 
@@ -61,7 +63,8 @@ pub record Least (f : ℕ → ℕ) (lo j r : ℕ) : Type 0 where
 pub least-start : (f : ℕ → ℕ) (lo : ℕ) → Least f lo lo never
 least-start f lo = record { top = le-refl never; lower = λ i a b. absurd (omega arith); reached = _⊎_.inl refl }
 
-pub least-next : {f : ℕ → ℕ} {lo j r time r′ : ℕ} → lo ≤ j → Least f lo j r → time ≡ f j → r′ ≡ min r time → Least f lo (j + 1) r′
+pub least-next : {f : ℕ → ℕ} {lo j r time r′ : ℕ} → lo ≤ j → Least f lo j r → time ≡ f j → r′ ≡ min r time
+    → Least f lo (j + 1) r′
 least-next {f} {lo} {j} {r} {time} {r′} o L et er =
     record {
       top = let a = L .top in omega arith;
@@ -71,7 +74,8 @@ least-next {f} {lo} {j} {r} {time} {r′} o L et er =
       reached = which (true-or-false (leb r time));
     }
   where
-    old : r′ ≡ r → (r ≡ never) ⊎ ((i : ℕ) × (lo ≤ i) × (i < j) × (f i ≡ r)) → (r′ ≡ never) ⊎ ((i : ℕ) × (lo ≤ i) × (i < j + 1) × (f i ≡ r′))
+    old : r′ ≡ r → (r ≡ never) ⊎ ((i : ℕ) × (lo ≤ i) × (i < j) × (f i ≡ r))
+        → (r′ ≡ never) ⊎ ((i : ℕ) × (lo ≤ i) × (i < j + 1) × (f i ≡ r′))
     old e (_⊎_.inl n) = _⊎_.inl (e ∙ n)
     old e (_⊎_.inr w) = let a = w .2 in _⊎_.inr (w .0, w .1, omega arith, w .3 ∙ sym e)
 
@@ -91,7 +95,9 @@ least-end {d} {f} {s} {p} {j} {next} {r} R N a b L = record { lower = lower; rea
   where
     lower : (i : ℕ) → getD d i 0 ≡ p .start → r ≤ rowTime (tableOf d f s) (p .query) (p .stop) (p .start) i
     lower i e =
-        ⊎-elim (λ y. let z = row-past (tableOf d f s) (p .query) (p .stop) (p .start) i (leb-true (length d) i y) in let w = L .top in omega arith)
+        ⊎-elim (λ y.
+        let z = row-past (tableOf d f s) (p .query) (p .stop) (p .start) i (leb-true (length d) i y) in
+        let w = L .top in omega arith)
         (λ y.
         let k = leb-false (length d) i y in
         ⊎-elim (λ x. let z = R .setting .before-lo i (ltb-true i (p .lo) x) in absurd (omega arith))

@@ -2,7 +2,8 @@
 --     at-place, in-list         equal places, equal lists
 --     under, dropped-supporter, dropped-supporter-on, dropped-supporter-less, queued-start, queued-dropped-supporter,
 --     queued-then     a loss, and the queue after it
---     DroppingSupported, dropping-start, dropping-out, dropping-late, dropping-stop, dropping-next      the walk of `drop_supported` in the adjacency
+--     DroppingSupported, dropping-start, dropping-out, dropping-late, dropping-stop, dropping-next      the walk of
+--     `drop_supported` in the adjacency
 --     OneLess     v has one to spare less where y says so; nobody has more
 --     new-most     a time is never at most
 -- Assumes nothing.
@@ -89,7 +90,8 @@ under y n A =
     none true h = h
     none false h = refl
 
-pub dropped-supporter-on : {y : Bool} {v tail r : ℕ} {sp ws sp′ ws′ : List ℕ} → DroppedSupporter y v tail sp ws sp′ ws′ r → r ≤ tail + 1
+pub dropped-supporter-on : {y : Bool} {v tail r : ℕ} {sp ws sp′ ws′ : List ℕ}
+    → DroppedSupporter y v tail sp ws sp′ ws′ r → r ≤ tail + 1
 dropped-supporter-on L = ⊎-elim (λ e. let h = e .0 in omega arith) (λ e. omega arith) (L .ended)
 
 pub dropped-supporter : (y : Bool) (v tail : ℕ) (sp ws : List ℕ) {a b m : ℕ} {sp′ ws′ : List ℕ}
@@ -149,7 +151,9 @@ queued-dropped-supporter {y} {v} {tail} {r} {r′} {sp₀} {ws₀} {sp} {ws} {sp
       long = ap length (L .queued) ∙ (length-set ws r v ∙ Q .long);
       grows = λ h. let a = up in let o = on .0 in omega arith;
       front = λ i h o. kept i (λ e. let a = up in omega arith) ∙ Q .front i h o;
-      waits = λ h u k w. ⊎-elim (λ e. at-v (sym (at-place sp′ e) ∙ w) u e) (λ n. before u k (sym (dropped-supporter-else L u n) ∙ w)) (same-or u v);
+      waits = λ h u k w.
+          ⊎-elim (λ e. at-v (sym (at-place sp′ e) ∙ w) u e) (λ n. before u k (sym (dropped-supporter-else L u n) ∙ w))
+          (same-or u v);
       small = λ i a b c.
           ⊎-elim (λ e. let m = at-place ws′ e in let n = there in omega arith)
           (λ n. subst (λ (m : ℕ). m < 4096) (sym (kept i n)) (Q .small i a (apart i n b) c)) (same-or i r);
@@ -189,7 +193,8 @@ queued-dropped-supporter {y} {v} {tail} {r} {r′} {sp₀} {ws₀} {sp} {ws} {sp
         ⊎-elim (λ h. before u (omega arith) (at-place sp e ∙ h .1 (sym (dropped-supporter-at small len L) ∙ w)))
         (λ h. _⊎_.inr (record { place = r; from = up; below = omega arith; is = there ∙ sym e })) (L .ended)
 
-pub queued-then : {a b c : ℕ} {sp ws sp₁ ws₁ sp₂ ws₂ : List ℕ} → Queued a sp ws b sp₁ ws₁ → Queued b sp₁ ws₁ c sp₂ ws₂ → Queued a sp ws c sp₂ ws₂
+pub queued-then : {a b c : ℕ} {sp ws sp₁ ws₁ sp₂ ws₂ : List ℕ} → Queued a sp ws b sp₁ ws₁
+    → Queued b sp₁ ws₁ c sp₂ ws₂ → Queued a sp ws c sp₂ ws₂
 queued-then {a} {b} {c} {sp} {ws} {sp₁} {ws₁} {sp₂} {ws₂} P Q =
     record {
       long = Q .long;
@@ -212,7 +217,9 @@ queued-then {a} {b} {c} {sp} {ws} {sp₁} {ws₁} {sp₂} {ws₂} P Q =
             is = Q .front (p .place) k (omega arith) ∙ p .is;
           }))
           (P .waits (omega arith) u l y))
-          (λ p. let k = p .from in _⊎_.inr (record { place = p .place; from = omega arith; below = p .below; is = p .is })) (Q .waits h u l z);
+          (λ p. let k = p .from in
+          _⊎_.inr (record { place = p .place; from = omega arith; below = p .below; is = p .is }))
+          (Q .waits h u l z);
       small = λ i h k o.
           ⊎-elim (λ y. Q .small i (leb-true b i y) k o)
           (λ y. let l = leb-false b i y in subst (λ (m : ℕ). m < 4096) (sym (Q .front i l o)) (P .small i h l o))
@@ -223,7 +230,12 @@ queued-then {a} {b} {c} {sp} {ws} {sp₁} {ws₁} {sp₂} {ws₂} P Q =
 
 module _ (t : Table) (x : ℕ → ℕ) (lo u old new : ℕ) (sp₀ : List ℕ) where
   dropped-supported-start : length sp₀ ≡ 4096 → DroppedSupported t x lo u lo old new sp₀ sp₀
-  dropped-supported-start l = record { long = l; less = λ w. le-refl (getD sp₀ w 0); dropped = λ j a f. let y = lead-from t lo j f in absurd (omega arith) }
+  dropped-supported-start l =
+      record {
+        long = l;
+        less = λ w. le-refl (getD sp₀ w 0);
+        dropped = λ j a f. let y = lead-from t lo j f in absurd (omega arith);
+      }
 
   module _ {b : ℕ} {sp : List ℕ} (O : DroppedSupported t x lo u b old new sp₀ sp) where
     -- what is left takes nothing
@@ -252,8 +264,11 @@ module _ (t : Table) (x : ℕ → ℕ) (lo u old new : ℕ) (sp₀ : List ℕ) w
           long = D .long;
           less = λ w. le-trans (D .down w) (O .less w);
           dropped = λ i k f h p o n.
-              ⊎-elim (λ z. ⊎-elim (λ q. here i q f p o n) (λ q. absurd (none i (leb-true b i z) q f h n)) (eq-or-lt-of-le (omega arith)))
-              (λ z. let m = O .dropped i (leb-false b i z) f h p o n in let d = D .down (otherOf t i u) in omega arith) (true-or-false (leb b i));
+              ⊎-elim (λ z. ⊎-elim (λ q. here i q f p o n) (λ q. absurd (none i (leb-true b i z) q f h n))
+              (eq-or-lt-of-le (omega arith)))
+              (λ z. let m = O .dropped i (leb-false b i z) f h p o n in let d = D .down (otherOf t i u) in
+              omega arith)
+              (true-or-false (leb b i));
         }
       where
         here : (i : ℕ)
@@ -289,7 +304,8 @@ module _ (d f g scratch : List ℕ) (r : Frame) (R : ReadyPruned d f g scratch r
   new-most = let h = R .setting .fits in ⊎-elim (λ y. omega arith) (λ y. omega arith) (D u small)
 
   -- a first row of u that the walk passed over takes nobody away
-  over : {i : ℕ} → (i < r .lo) ⊎ (estimate xs (otherOf tw i u) ≡ never) → leads tw (r .lo) i ≡ true → estimate xs (otherOf tw i u) < new → ⊥
+  over : {i : ℕ} → (i < r .lo) ⊎ (estimate xs (otherOf tw i u) ≡ never) → leads tw (r .lo) i ≡ true
+      → estimate xs (otherOf tw i u) < new → ⊥
   over {i} o f h = let a = lead-from tw (r .lo) i f in let m = new-most in ⊎-elim (λ z. omega arith) (λ z. omega arith) o
 
   pub dropping-start : {p : ℕ}
@@ -297,12 +313,18 @@ module _ (d f g scratch : List ℕ) (r : Frame) (R : ReadyPruned d f g scratch r
       → length ws₀ ≡ 4352
       → Reading scratch u (r .lo) p
       → DroppingSupported d f g scratch r xs u old new tail sp₀ ws₀ (r .lo) p tail sp₀ ws₀
-  dropping-start l m A = record { reading = A; done = dropped-supported-start tw (estimate xs) (r .lo) u old new sp₀ l; queued = queued-start tail sp₀ ws₀ m }
+  dropping-start l m A =
+      record {
+        reading = A;
+        done = dropped-supported-start tw (estimate xs) (r .lo) u old new sp₀ l;
+        queued = queued-start tail sp₀ ws₀ m;
+      }
 
   module _ {b p end last : ℕ} {sp ws : List ℕ}
       (W : DroppingSupported d f g scratch r xs u old new tail sp₀ ws₀ b p end sp ws)
       (ee : last ≡ getD scratch u 0) where
-    pub dropping-out : last ≤ p → DroppedSupported tw (estimate xs) (r .lo) u (length d) old new sp₀ sp × Queued tail sp₀ ws₀ end sp ws
+    pub dropping-out : last ≤ p
+        → DroppedSupported tw (estimate xs) (r .lo) u (length d) old new sp₀ sp × Queued tail sp₀ ws₀ end sp ws
     dropping-out h = (
       dropped-supported-all tw (estimate xs) (r .lo) u old new sp₀ (W .done) (length d)
           (λ i a k z y p o. over
@@ -315,7 +337,8 @@ module _ (d f g scratch : List ℕ) (r : Frame) (R : ReadyPruned d f g scratch r
       w-gap = reading-gap d f g scratch (R .sound) (R .pruned) small (W .reading) ee more (I .row) E
 
       -- a row of u from there on takes none: it was passed over, or is dated on the new time or later, or behind the range
-      pub dropping-late : {until : ℕ} → until ≡ min new (r .stop + 1) → until ≤ it .day → (i : ℕ) → b ≤ i → i < length d → touches tw i u ≡ true
+      pub dropping-late : {until : ℕ} → until ≡ min new (r .stop + 1) → until ≤ it .day → (i : ℕ) → b ≤ i
+          → i < length d → touches tw i u ≡ true
           → ((i < r .lo) ⊎ (estimate xs (otherOf tw i u) ≡ never)) ⊎ ((new ≤ dayOf tw i) ⊎ (r .stop < dayOf tw i))
       dropping-late eu h i a k y =
           ⊎-elim
@@ -323,7 +346,8 @@ module _ (d f g scratch : List ℕ) (r : Frame) (R : ReadyPruned d f g scratch r
           let o = R .setting .rising (it .row) i (leb-true (it .row) i z) k in
           let e = I .day in
           _⊎_.inr
-          (⊎-elim (λ m. let c = leb-true new (dayOf tw i) m in _⊎_.inl c) (λ m. let c = leb-false new (dayOf tw i) m in _⊎_.inr (omega arith))
+          (⊎-elim (λ m. let c = leb-true new (dayOf tw i) m in _⊎_.inl c)
+          (λ m. let c = leb-false new (dayOf tw i) m in _⊎_.inr (omega arith))
           (true-or-false (leb new (dayOf tw i)))))
           (λ z. _⊎_.inl (w-gap i a (leb-false (it .row) i z) y)) (true-or-false (leb (it .row) i))
 
@@ -369,4 +393,5 @@ module _ (d f g scratch : List ℕ) (r : Frame) (R : ReadyPruned d f g scratch r
           dropped h a c n =
               let t = time in
               let e = I .day in
-              both (I .leads (lead-from tw (r .lo) (it .row) h) ∙ h) (ew ∙ both (le-leb own z (omega arith)) (lt-ltb z new (omega arith)))
+              both (I .leads (lead-from tw (r .lo) (it .row) h) ∙ h)
+              (ew ∙ both (le-leb own z (omega arith)) (lt-ltb z new (omega arith)))

@@ -21,11 +21,13 @@ use Rattle.rings.specs.Sound.{Sound}
 use Rattle.rings.specs.Checks.{_when_, _then_, inOrder}
 use Rattle.rings.specs.TableCheck.{dayBefore, rowFaults, rowCheck, tableCheck}
 use Rattle.rings.specs.declared.refusal.Refusal.{Refusal}
-use Rattle.rings.specs.declared.refusal.Refusal.the-variants.{ColumnsDiffer, TooLarge, BadDay, BadAccounts, DayFalls}
+use Rattle.rings.specs.declared.refusal.Refusal.the-variants.{ColumnsDiffer, TooLarge, BadDay, BadAccounts}
+use Rattle.rings.specs.declared.refusal.Refusal.the-variants.{DayFalls}
 use Rattle.rings.specs.declared.refusal.Verdict.{Verdict}
 use Rattle.rings.specs.declared.refusal.Verdict.the-variants.{Accepted, Refused}
 use Rattle.rings.proofs.WordLaws.{true-or-false, clash, and-l, and-r, or-l, or-r, not-no}
-use Rattle.rings.proofs.CheckLaws.{accepted-left, accepted-right, when-accepted, order-accepted, order-refused, all-accepted}
+use Rattle.rings.proofs.CheckLaws.{accepted-left, accepted-right, when-accepted, order-accepted, order-refused}
+use Rattle.rings.proofs.CheckLaws.{all-accepted}
 
 pub record Passed (d f s : List ℕ) (before j : ℕ) : Type 0 where
   pub inside : j ≤ length d
@@ -37,7 +39,8 @@ module _ (d f s : List ℕ) where
   unfolding dayBefore
   pass-start = record { inside = omega arith; day-before = refl; passed = λ l h. absurd (not-suc-le-zero h) }
 
-  pub row-here : (before j : ℕ) {v : Verdict} → Passed d f s before j → v ≡ rowFaults j before (getD d j 0) (getD f j 0) (getD s j 0)
+  pub row-here : (before j : ℕ) {v : Verdict} → Passed d f s before j
+      → v ≡ rowFaults j before (getD d j 0) (getD f j 0) (getD s j 0)
       → rowCheck (tableOf d f s) j ≡ v
   unfolding rowCheck dayOf firstOf secondOf at
   row-here before j p e = sym (rw (← (p .day-before)) e)
@@ -50,7 +53,9 @@ module _ (d f s : List ℕ) where
         inside = omega arith;
         day-before = ap (dayBefore (tableOf d f s)) (sym (add-one j));
         passed = λ i h.
-            ⊎-elim (λ q. subst (λ (x : ℕ). rowCheck (tableOf d f s) x ≡ Accepted) (sym q) (row-here before j p e)) (λ q. p .passed i q)
+            ⊎-elim
+            (λ q. subst (λ (x : ℕ). rowCheck (tableOf d f s) x ≡ Accepted) (sym q) (row-here before j p e))
+            (λ q. p .passed i q)
             (eq-or-lt-of-le (le-of-suc-le-suc (rw (add-one j) at h)));
       }
 
@@ -59,14 +64,18 @@ module _ (d f s : List ℕ) where
       → Refused r ≡ inOrder (tabulate (rowCheck (tableOf d f s)) 0 (length d))
   pass-refused before j r p l e =
       sym
-      (order-refused (rowCheck (tableOf d f s)) 0 (length d) j (omega arith) (omega arith) (λ i a b. p .passed i b) (row-here before j p e))
+      (order-refused (rowCheck (tableOf d f s)) 0 (length d) j (omega arith) (omega arith)
+      (λ i a b. p .passed i b) (row-here before j p e))
 
-  pub pass-end : (before j : ℕ) → Passed d f s before j → length d ≤ j → Accepted ≡ inOrder (tabulate (rowCheck (tableOf d f s)) 0 (length d))
-  pass-end before j p l = sym (order-accepted (rowCheck (tableOf d f s)) 0 (length d) (λ i a b. p .passed i (omega arith)))
+  pub pass-end : (before j : ℕ) → Passed d f s before j → length d ≤ j
+      → Accepted ≡ inOrder (tabulate (rowCheck (tableOf d f s)) 0 (length d))
+  pass-end before j p l =
+      sym (order-accepted (rowCheck (tableOf d f s)) 0 (length d) (λ i a b. p .passed i (omega arith)))
 
 -- ---- an accepted table
 
-faults-none : (j before day a b : ℕ) → rowFaults j before day a b ≡ Accepted → (1 ≤ day) × (day ≤ 1024) × (a < b) × (b ≤ 4095) × (before ≤ day)
+faults-none : (j before day a b : ℕ) → rowFaults j before day a b ≡ Accepted
+    → (1 ≤ day) × (day ≤ 1024) × (a < b) × (b ≤ 4095) × (before ≤ day)
 unfolding rowFaults
 faults-none j before day a b e =
     let p = no (leb 1 day and leb day 1024) in
@@ -92,7 +101,8 @@ faults-none j before day a b e =
     right-false x y h = ⊎-elim (λ z. clash (or-r x y z) h) (λ z. z) (true-or-false y)
 
 row-sound : (d f s : List ℕ) (j : ℕ) → rowCheck (tableOf d f s) j ≡ Accepted
-    → (1 ≤ getD d j 0) × (getD d j 0 ≤ 1024) × (getD f j 0 < getD s j 0) × (getD s j 0 ≤ 4095) × (dayBefore (tableOf d f s) j ≤ getD d j 0)
+    → (1 ≤ getD d j 0) × (getD d j 0 ≤ 1024) × (getD f j 0 < getD s j 0) × (getD s j 0 ≤ 4095)
+    × (dayBefore (tableOf d f s) j ≤ getD d j 0)
 unfolding rowCheck dayOf firstOf secondOf at
 row-sound d f s j e = faults-none j (dayBefore (tableOf d f s) j) (getD d j 0) (getD f j 0) (getD s j 0) e
 
@@ -116,5 +126,6 @@ table-sound d f s e =
     }
   where
     row : inOrder (tabulate (rowCheck (tableOf d f s)) 0 (length d)) ≡ Accepted → (j : ℕ) → j < length d
-        → (1 ≤ getD d j 0) × (getD d j 0 ≤ 1024) × (getD f j 0 < getD s j 0) × (getD s j 0 ≤ 4095) × (dayBefore (tableOf d f s) j ≤ getD d j 0)
+        → (1 ≤ getD d j 0) × (getD d j 0 ≤ 1024) × (getD f j 0 < getD s j 0) × (getD s j 0 ≤ 4095)
+        × (dayBefore (tableOf d f s) j ≤ getD d j 0)
     row h j l = row-sound d f s j (all-accepted (rowCheck (tableOf d f s)) 0 (length d) h j (omega arith) (omega arith))

@@ -1,6 +1,7 @@
 -- Minimal windows by core times, 001's Lemma 3, the list, and recall.
 --     minimal-e, minimal-i          the test `minimal` says what `IsMinimal` says
---     times-of-minimal, minimal-of-times    [s, e] is a minimal window of a row exactly if e is the row's time at s and not its time at s + 1 (001, Lemma 2)
+--     times-of-minimal, minimal-of-times    [s, e] is a minimal window of a row exactly if e is the row's time at s
+--                                           and not its time at s + 1 (001, Lemma 2)
 --     inner-minimal, minimal-inner          a row is in the ring of [s, e] exactly if a minimal window of it lies inside (001, Lemma 3)
 --     before-strict, of-row-e, of-row-i, row-order    the minimal windows of one row, and their order
 --     ends-rise                     of two entries of one row the later start has the later end: what 14 asks beyond the order
@@ -150,10 +151,15 @@ module _ (t : Table) (q : Query) where
         inside : (s′ e′ : ℕ) → s ≤ s′ → s′ ≤ e′ → e′ ≤ e → ((s ≡ s′) × (e ≡ e′) → ⊥) → inRing t q s′ e′ j ≡ true → ⊥
         inside s′ e′ a b c d y =
             ⊎-elim (λ x.
-            let r : rowTime t q hi s j ≤ e′ = row-reach-i t q hi s j e′ (omega arith) (omega arith) (in-grows t q j a (le-refl e′) y) in d (x, omega arith))
+            let r : rowTime t q hi s j ≤ e′ =
+            row-reach-i t q hi s j e′ (omega arith) (omega arith) (in-grows t q j a (le-refl e′) y) in
+            d (x, omega arith))
             (λ x.
-            let r : rowTime t q hi (suc s) j ≤ e′ = row-reach-i t q hi (suc s) j e′ (le-trans x b) (omega arith) (in-grows t q j x (le-refl e′) y) in
-            let g : rowTime t q hi s j ≤ rowTime t q hi (suc s) j = row-later t q hi fits (omega arith) j in later (omega arith)) (eq-or-lt-of-le a)
+            let r : rowTime t q hi (suc s) j ≤ e′ =
+            row-reach-i t q hi (suc s) j e′ (le-trans x b) (omega arith) (in-grows t q j x (le-refl e′) y) in
+            let g : rowTime t q hi s j ≤ rowTime t q hi (suc s) j = row-later t q hi fits (omega arith) j in
+            later (omega arith))
+            (eq-or-lt-of-le a)
 
   -- ---- 001, Lemma 3
 
@@ -180,11 +186,22 @@ module _ (t : Table) (q : Query) where
             from = le-refl a;
             order = d .0;
             to = r;
-            is-minimal = minimal-of-times e fits j a (rowTime t q e a j) r refl (λ x. clash (row-reach-e t q e (suc a) fits j e (le-refl e) (omega arith)) n);
+            is-minimal =
+                minimal-of-times e fits j a (rowTime t q e a j) r refl
+                (λ x. clash (row-reach-e t q e (suc a) fits j e (le-refl e) (omega arith)) n);
           }
 
       wider : (a : ℕ) → Inner j (suc a) e → Inner j a e
-      wider a w = let f = w .from in record { start = w .start; end = w .end; from = omega arith; order = w .order; to = w .to; is-minimal = w .is-minimal }
+      wider a w =
+          let f = w .from in
+          record {
+            start = w .start;
+            end = w .end;
+            from = omega arith;
+            order = w .order;
+            to = w .to;
+            is-minimal = w .is-minimal;
+          }
 
       go : (n a : ℕ) → e - a ≤ n → inRing t q a e j ≡ true → Inner j a e
       go zero a l y =
@@ -231,7 +248,8 @@ pub recalled-i : (es : List Entry) (s e j : ℕ) → ListedInside es s e j → r
 unfolding recalled
 recalled-i es s e j w =
     let x = w .it in
-    any-i (inside s e j) es x (w .member) (and-i (eq-eqb (x .row) j (w .of-row)) (and-i (le-leb s (x .start) (w .from)) (le-leb (x .end) e (w .to))))
+    any-i (inside s e j) es x (w .member)
+    (and-i (eq-eqb (x .row) j (w .of-row)) (and-i (le-leb s (x .start) (w .from)) (le-leb (x .end) e (w .to))))
 
 -- ---- the list of a range
 
@@ -284,7 +302,8 @@ module _ (t : Table) (q : Query) (lo hi : ℕ) where
   pub ends-rise : (x y : Entry) → Listed t q lo hi x → Listed t q lo hi y → x .row ≡ y .row → x .start < y .start → x .end < y .end
   ends-rise x y a b e l =
       ⊎-elim (λ h. clash (subst (λ (j : ℕ). inRing t q (y .start) (y .end) j ≡ true) (sym e) (b .is-minimal .has))
-      (a .is-minimal .none-smaller (y .start) (y .end) (omega arith) (b .order) (leb-true (y .end) (x .end) h) (λ z. let u = z .0 in omega arith)))
+      (a .is-minimal .none-smaller (y .start) (y .end) (omega arith) (b .order) (leb-true (y .end) (x .end) h)
+      (λ z. let u = z .0 in omega arith)))
       (λ h. leb-false (y .end) (x .end) h) (true-or-false (leb (y .end) (x .end)))
 
   pub row-order : (j : ℕ) → Pairwise Before (minimalOf t q lo hi j)
@@ -358,7 +377,15 @@ module _ (t : Table) (q : Query) (lo hi : ℕ) where
         let row = in-window t q s e j y .row in
         record {
           it = x;
-          member = L .whole x (record { in-table = row; from = omega arith; order = w .order; to = omega arith; is-minimal = w .is-minimal });
+          member =
+              L .whole x
+              (record {
+                in-table = row;
+                from = omega arith;
+                order = w .order;
+                to = omega arith;
+                is-minimal = w .is-minimal;
+              });
           of-row = refl;
           from = a;
           to = b;
@@ -367,4 +394,5 @@ module _ (t : Table) (q : Query) (lo hi : ℕ) where
     -- so recall from such a list marks the ring of every window inside the range
     pub recall-ring : e < never → lo ≤ s → e ≤ hi → recalled es s e j ≡ inRing t q s e j
     recall-ring fits h k =
-        same-truth (recalled es s e j) (inRing t q s e j) (λ y. inside-ring (recalled-e es s e j y)) (λ y. recalled-i es s e j (ring-inside fits h k y))
+        same-truth (recalled es s e j) (inRing t q s e j) (λ y. inside-ring (recalled-e es s e j y))
+        (λ y. recalled-i es s e j (ring-inside fits h k y))

@@ -4,11 +4,13 @@
 --     some-i, some-e, some-none, Witness, every-i, every-e     a number that has p; each number has it
 --     sucIf-yes, sucIf-no     the definition, by cases
 --     count-le, count-mono, count-less, count-same, count-none, count-pos, count-some     how many numbers have p
---     length-tabulate, getD-tabulate, marked-tabulate, marked-tabulate-e, marked-tabulate-i     a list made by `tabulate`
+--     length-tabulate, getD-tabulate, marked-tabulate, marked-tabulate-e, marked-tabulate-i     a list made by
+--     `tabulate`
 --     marked-below, same-marks     row sets
 -- Assumes nothing.
 use Prim.Native.Nat.{ℕ, zero, suc, _+_, _≤_, _<_, zero-le}
-use native.Mathlib.Nat.{le-refl, not-suc-le-zero, le-of-suc-le-suc, eq-or-lt-of-le, add-zero, add-suc, suc-add, zero-add}
+use native.Mathlib.Nat.{le-refl, not-suc-le-zero, le-of-suc-le-suc, eq-or-lt-of-le, add-zero, add-suc, suc-add}
+use native.Mathlib.Nat.{zero-add}
 use native.Mathlib.Omega.{arith}
 use mathlib.Core.Path.{_≡_, refl, sym, _∙_, ap, subst}
 use mathlib.Core.Logic.{_⊎_, ⊎-elim}
@@ -85,7 +87,9 @@ same-truth false false f g = refl
 pub some-i : (p : ℕ → Bool) (n j : ℕ) → j < n → p j ≡ true → some p n ≡ true
 unfolding some
 some-i p zero j h e = absurd (not-suc-le-zero h)
-some-i p (suc n) j h e = ⊎-elim (λ q. or-l (p n) (some p n) (rw q at e)) (λ l. or-r (p n) (some p n) (some-i p n j l e)) (eq-or-lt-of-le (le-of-suc-le-suc h))
+some-i p (suc n) j h e =
+    ⊎-elim (λ q. or-l (p n) (some p n) (rw q at e)) (λ l. or-r (p n) (some p n) (some-i p n j l e))
+    (eq-or-lt-of-le (le-of-suc-le-suc h))
 
 pub record Witness (p : ℕ → Bool) (n : ℕ) : Type 0 where
   pub it : ℕ
@@ -97,7 +101,8 @@ unfolding some
 some-e p zero h = clash refl (sym h)
 some-e p (suc n) h =
     ⊎-elim (λ q. record { it = n; below = le-refl (suc n); has = q })
-    (λ q. let w = some-e p n q in record { it = w .it; below = omega (arith, w .below); has = w .has }) (or-e (p n) (some p n) h)
+    (λ q. let w = some-e p n q in record { it = w .it; below = omega (arith, w .below); has = w .has })
+    (or-e (p n) (some p n) h)
 
 pub some-none : (p : ℕ → Bool) (n : ℕ) → some p n ≡ false → (j : ℕ) → j < n → p j ≡ false
 some-none p n h j l = ⊎-elim (λ e. clash (some-i p n j l e) h) (λ e. e) (true-or-false (p j))
@@ -111,7 +116,8 @@ pub every-e : (p : ℕ → Bool) (n : ℕ) → every p n ≡ true → (j : ℕ) 
 unfolding every
 every-e p zero h j l = absurd (not-suc-le-zero l)
 every-e p (suc n) h j l =
-    ⊎-elim (λ q. rw q (and-l (p n) (every p n) h)) (λ q. every-e p n (and-r (p n) (every p n) h) j q) (eq-or-lt-of-le (le-of-suc-le-suc l))
+    ⊎-elim (λ q. rw q (and-l (p n) (every p n) h)) (λ q. every-e p n (and-r (p n) (every p n) h) j q)
+    (eq-or-lt-of-le (le-of-suc-le-suc l))
 
 pub sucIf-yes : {b : Bool} (n : ℕ) → b ≡ true → sucIf b n ≡ suc n
 unfolding sucIf
@@ -124,23 +130,29 @@ sucIf-no n h = rw h
 sucIf-le : (a b : Bool) (m n : ℕ) → (a ≡ true → b ≡ true) → m ≤ n → sucIf a m ≤ sucIf b n
 sucIf-le a b m n f h =
     ⊎-elim (λ p. rw (sucIf-yes m p, sucIf-yes n (f p)) (omega arith))
-    (λ p. ⊎-elim (λ q. rw (sucIf-no m p, sucIf-yes n q) (omega arith)) (λ q. rw (sucIf-no m p, sucIf-no n q) h) (true-or-false b)) (true-or-false a)
+    (λ p. ⊎-elim (λ q. rw (sucIf-no m p, sucIf-yes n q) (omega arith)) (λ q. rw (sucIf-no m p, sucIf-no n q) h)
+    (true-or-false b))
+    (true-or-false a)
 
 pub count-le : (p : ℕ → Bool) (n : ℕ) → count p n ≤ n
 unfolding count
 count-le p zero = le-refl 0
 count-le p (suc n) =
     let h : count p n ≤ n = count-le p n in
-    ⊎-elim (λ e. rw (sucIf-yes (count p n) e) (omega arith)) (λ e. rw (sucIf-no (count p n) e) (omega arith)) (true-or-false (p n))
+    ⊎-elim (λ e. rw (sucIf-yes (count p n) e) (omega arith)) (λ e. rw (sucIf-no (count p n) e) (omega arith))
+    (true-or-false (p n))
 
 -- more pass a weaker test
 pub count-mono : (p r : ℕ → Bool) (n : ℕ) → ((i : ℕ) → i < n → p i ≡ true → r i ≡ true) → count p n ≤ count r n
 unfolding count
 count-mono p r zero h = zero-le
-count-mono p r (suc n) h = sucIf-le (p n) (r n) (count p n) (count r n) (h n (le-refl (suc n))) (count-mono p r n (λ i l. h i (omega (arith, l))))
+count-mono p r (suc n) h =
+    sucIf-le (p n) (r n) (count p n) (count r n) (h n (le-refl (suc n)))
+    (count-mono p r n (λ i l. h i (omega (arith, l))))
 
 -- and one more where one number passes the weaker test alone
-pub count-less : (p r : ℕ → Bool) (n j : ℕ) → ((i : ℕ) → i < n → p i ≡ true → r i ≡ true) → j < n → p j ≡ false → r j ≡ true → count p n < count r n
+pub count-less : (p r : ℕ → Bool) (n j : ℕ) → ((i : ℕ) → i < n → p i ≡ true → r i ≡ true) → j < n → p j ≡ false
+    → r j ≡ true → count p n < count r n
 unfolding count
 count-less p r zero j h l f g = absurd (not-suc-le-zero l)
 count-less p r (suc n) j h l f g =
@@ -169,11 +181,14 @@ count-none p (suc n) h = sucIf-no (count p n) (h n (le-refl (suc n))) ∙ count-
 -- where some number passes, the count is not 0, and the other way round
 pub count-pos : (p : ℕ → Bool) (n j : ℕ) → j < n → p j ≡ true → 0 < count p n
 count-pos p n j l h =
-    subst (λ (k : ℕ). k < count p n) (count-none (λ i. false) n (λ i o. refl)) (count-less (λ i. false) p n j (λ i o e. clash refl (sym e)) l refl h)
+    subst (λ (k : ℕ). k < count p n) (count-none (λ i. false) n (λ i o. refl))
+    (count-less (λ i. false) p n j (λ i o e. clash refl (sym e)) l refl h)
 
 pub count-some : (p : ℕ → Bool) (n : ℕ) → 0 < count p n → Witness p n
 count-some p n h =
-    ⊎-elim (λ e. some-e p n e) (λ e. let z : count p n ≡ 0 = count-none p n (some-none p n e) in absurd (omega arith)) (true-or-false (some p n))
+    ⊎-elim (λ e. some-e p n e)
+    (λ e. let z : count p n ≡ 0 = count-none p n (some-none p n e) in absurd (omega arith))
+    (true-or-false (some p n))
 
 -- ---- lists by their entries
 
@@ -186,7 +201,8 @@ pub getD-tabulate : {A : Type 0} (f : ℕ → A) (i n j : ℕ) (d : A) → j < n
 unfolding tabulate
 getD-tabulate f i zero j d h = absurd (not-suc-le-zero h)
 getD-tabulate f i (suc n) zero d h = rw add-zero
-getD-tabulate f i (suc n) (suc j) d h = getD-tabulate f (suc i) n j d (le-of-suc-le-suc h) ∙ ap f (suc-add i j ∙ sym (add-suc i j))
+getD-tabulate f i (suc n) (suc j) d h =
+    getD-tabulate f (suc i) n j d (le-of-suc-le-suc h) ∙ ap f (suc-add i j ∙ sym (add-suc i j))
 
 pub marked-tabulate : (f : ℕ → Bool) (n j : ℕ) → j < n → marked (tabulate f 0 n) j ≡ f j
 unfolding marked

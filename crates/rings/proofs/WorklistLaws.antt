@@ -1,4 +1,5 @@
--- From one account of the worklist to the next, in the terms of specs/Inner/Worklist.antt: what the functions of src/settle.rt hand on.
+-- From one account of the worklist to the next, in the terms of specs/Inner/Worklist.antt: what the functions of
+-- src/settle.rt hand on.
 --     unmoved-none       nothing was done for an account
 --     unmoved-working    an account that one walk leaves open can be worked on further
 --     unmoved-attempt    what the long way makes of it is what both ways make
@@ -43,7 +44,8 @@ unmoved-none A =
       few = omega arith;
     }
 
-pub unmoved-working : {d f g scratch : List ℕ} {p : Frame} {counting : Bool} {list : Worklist} {s : Scan} {a a′ : Arrays} {walked day : ℕ}
+pub unmoved-working : {d f g scratch : List ℕ} {p : Frame} {counting : Bool} {list : Worklist} {s : Scan}
+    {a a′ : Arrays} {walked day : ℕ}
     → Unmoved (tableOf d f g) p list s a a′ walked day → Working d f g scratch p counting list 65536 a
     → Working d f g scratch p counting (walkedTo list walked) 98304 a′
 unmoved-working {d} {f} {g} {p = p} U w =
@@ -60,7 +62,9 @@ unmoved-working {d} {f} {g} {p = p} U w =
       days = subst (λ (ys : List ℕ). Days (p .stop) ys) (sym (U .same-times)) (w .days);
       counted = λ y. record {
         in-days = w .counted y .in-days;
-        counts-are = same-counted (tableOf d f g) (p .start) (p .stop) (U .same-times) (U .same-counts) (w .counted y .counts-are);
+        counts-are =
+            same-counted (tableOf d f g) (p .start) (p .stop) (U .same-times) (U .same-counts)
+            (w .counted y .counts-are);
       };
     }
 
@@ -76,7 +80,8 @@ moved-more h M =
       counted = M .counted;
     }
 
-pub unmoved-attempt : {t : Table} {p : Frame} (counting : Bool) {list : Worklist} {s : Scan} {a a′ : Arrays} (a″ : Arrays) {walked day : ℕ} (r : Attempt)
+pub unmoved-attempt : {t : Table} {p : Frame} (counting : Bool) {list : Worklist} {s : Scan} {a a′ : Arrays}
+    (a″ : Arrays) {walked day : ℕ} (r : Attempt)
     → Unmoved t p list s a a′ walked day → AttemptIs r t p counting (walkedTo list walked) 98304 a′ a″
     → AttemptIs r t p counting list 131072 a a″
 unmoved-attempt counting a″ (Attempt.Settled list′) U M =
@@ -91,16 +96,20 @@ unmoved-attempt counting a″ (Attempt.Settled list′) U M =
 unmoved-attempt counting a″ Attempt.GaveUp U K = record { same = λ y. K .same y ∙ U .same-counts }
 
 -- a₀ are the arrays as they were lent
-pub record Settles (d f g scratch : List ℕ) (p : Frame) (counting : Bool) (budget : ℕ) (a₀ : Arrays) (list : Worklist) (a : Arrays) : Type 0 where
+pub record Settles (d f g scratch : List ℕ) (p : Frame) (counting : Bool) (budget : ℕ) (a₀ : Arrays)
+    (list : Worklist) (a : Arrays) : Type 0 where
   pub covered : Covered (tableOf d f g) (estimate (a .times)) (p .lo) scratch
   pub within : list .tail ≤ 4352
   pub few : list .walked ≤ budget + 131072
-  pub rising : Rising (tableOf d f g) (p .query) (p .stop) (p .start) (a₀ .times) (a .times) (a .slack) (a .queue) (list .head) (list .tail) (list .raised)
+  pub rising : Rising (tableOf d f g) (p .query) (p .stop) (p .start) (a₀ .times) (a .times) (a .slack) (a .queue)
+      (list .head) (list .tail) (list .raised)
   pub long-counts : length (a .counts) ≡ length (a₀ .counts)
-  pub counted : WhereCounted counting (CountsBy d f g (p .start) (p .stop) (a .times) (a .counts)) (a₀ .counts) (a .counts)
+  pub counted : WhereCounted counting (CountsBy d f g (p .start) (p .stop) (a .times) (a .counts)) (a₀ .counts)
+      (a .counts)
 
 -- a step is asked at the start after: its table, scratch and query are those of the start that it leaves
 pub step-placed : {d f g scratch : List ℕ} {p : Frame} {counting : Bool} {next end : ℕ} {a : Arrays}
     → StepAsks d f g scratch p counting next end a → ReadyPairs d f g scratch p
 step-placed A =
-    let o = A .opened in ready-pairs-of (o .sound) (pruned-paired (o .pruned)) (o .setting .some-k) (A .in-days) (A .starts)
+    let o = A .opened in
+    ready-pairs-of (o .sound) (pruned-paired (o .pruned)) (o .setting .some-k) (A .in-days) (A .starts)

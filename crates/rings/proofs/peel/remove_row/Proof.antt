@@ -27,16 +27,18 @@ times-to-start c =
     entry-to-start (c .before .before .before .before .before .before .before .before .before .before .before
     .before)
 
+abbrev left-to-entry2 : tie.After-left → tie.After-entry2
+left-to-entry2 c =
+    c .before .before .before .before .before .before .before .before .before .before .before .before .before
+
 abbrev queue-to-else3 : tie.After-queue → tie.Else3
 queue-to-else3 c = c .before .before .before .before .before .before .before .before .before
 
-abbrev drop-neighbour-arg6-to-entry2 : tie.After-drop-neighbour-arg6 → tie.After-entry2
-drop-neighbour-arg6-to-entry2 c =
-    c .before .before .before .before .before .before .before .before .before .before .before .before .before
-    .before .before .before .before .before .before
-
 abbrev times2-to-drop-neighbour : tie.After-times2 → tie.After-drop-neighbour
 times2-to-drop-neighbour c = c .before .before .before .before .before .before .before .before .before .before .before
+
+abbrev left2-to-entry2 : tie.After-left2 → tie.After-entry2
+left2-to-entry2 c = left-to-entry2 (c .before .before .before .before .before .before .before .before .before .before)
 
 abbrev left2-to-else3 : tie.After-left2 → tie.Else3
 left2-to-else3 c = queue-to-else3 (c .before .before .before .before .before .before .before .before)
@@ -45,9 +47,6 @@ abbrev queue2-to-start : tie.After-queue2 → tie.Start
 queue2-to-start c =
     times-to-start (c .before .before .before .before .before .before .before .before .before .before .before
     .before .before .before)
-
-abbrev queue2-to-entry2 : tie.After-queue2 → tie.After-entry2
-queue2-to-entry2 c = drop-neighbour-arg6-to-entry2 (c .before .before .before .before .before .before)
 
 sub-j : tie.Need-sub-j
 sub-j c =
@@ -138,10 +137,10 @@ drop-neighbour-requires-2 c κs =
     let entry4 = queue-to-else3 (c .before .before .before .before) .before .entry4 in
     let if2 = queue-to-else3 (c .before .before .before .before) .before .before .before .if2 in
     let entry3 = queue-to-else3 (c .before .before .before .before) .before .before .before .before .entry3 in
-    let entry2 = drop-neighbour-arg6-to-entry2 c .entry2 in
-    let entry = drop-neighbour-arg6-to-entry2 c .before .entry in
-    let if1 = drop-neighbour-arg6-to-entry2 c .before .before .if1 in
-    let leads = drop-neighbour-arg6-to-entry2 c .before .before .before .leads in
+    let entry2 = left-to-entry2 (c .before .before .before .before .before .before) .entry2 in
+    let entry = left-to-entry2 (c .before .before .before .before .before .before) .before .entry in
+    let if1 = left-to-entry2 (c .before .before .before .before .before .before) .before .before .if1 in
+    let leads = left-to-entry2 (c .before .before .before .before .before .before) .before .before .before .leads in
     let pre = times-to-start (c .before .before .before .before .before .before .before .before) .pre in
     remove-row-room-b _ _ _ _ _ (pre .0) (pre .1) refl (leads .ensures) (if1 .taken) (entry .ensures) (entry2 .ensures)
     (entry3 .ensures) (entry4 .ensures) (if2 .left) (if3 .left) (drop-neighbour .ensures)
@@ -156,10 +155,10 @@ remove-queued-requires c κs =
     let if2 = left2-to-else3 (c .before .before .before .before .before .before) .before .before .before .if2 in
     let entry3 =
     left2-to-else3 (c .before .before .before .before .before .before) .before .before .before .before .entry3 in
-    let entry2 = queue2-to-entry2 (c .before .before .before .before) .entry2 in
-    let entry = queue2-to-entry2 (c .before .before .before .before) .before .entry in
-    let if1 = queue2-to-entry2 (c .before .before .before .before) .before .before .if1 in
-    let leads = queue2-to-entry2 (c .before .before .before .before) .before .before .before .leads in
+    let entry2 = left2-to-entry2 (c .before .before .before .before .before .before) .entry2 in
+    let entry = left2-to-entry2 (c .before .before .before .before .before .before) .before .entry in
+    let if1 = left2-to-entry2 (c .before .before .before .before .before .before) .before .before .if1 in
+    let leads = left2-to-entry2 (c .before .before .before .before .before .before) .before .before .before .leads in
     let pre =
     queue2-to-start (c .before .before .before .before) .pre in (
       pre .0,

@@ -22,15 +22,11 @@ use Rattle.rings.proofs.table.rows_before.Reads as rows-before-reads
 abbrev marks-to-start : tie.After-marks → tie.Start
 marks-to-start c = c .before .before .before .before .before .before .before .before .before .before
 
-abbrev mark-part-arg2-to-start : tie.After-mark-part-arg2 → tie.Start
-mark-part-arg2-to-start c = marks-to-start (c .before .before .before)
+abbrev marks2-to-start : tie.After-marks2 → tie.Start
+marks2-to-start c = marks-to-start (c .before .before .before .before .before .before .before .before)
 
 abbrev scratch-to-clear-marks : tie.After-scratch → tie.After-clear-marks
 scratch-to-clear-marks c = c .before .before .before .before .before .before .before .before .before .before .before
-
-abbrev clear-to-start : tie.After-clear → tie.Start
-clear-to-start c =
-    mark-part-arg2-to-start (c .before .before .before .before .before .before .before .before .before .before)
 
 rows-before-requires : tie.Need-rows-before-requires
 rows-before-requires c κs = search needs
@@ -108,7 +104,7 @@ sub-mark-part-3 : tie.Need-sub-mark-part-3
 sub-mark-part-3 c =
     let rows-before2 = c .before .before .before .before .before .before .rows-before2 in
     let rows-before = c .before .before .before .before .before .before .before .rows-before in
-    let pre = mark-part-arg2-to-start c .pre in
+    let pre = marks-to-start (c .before .before .before) .pre in
     let asked = pre .1 .0 in
     span-of (asked .ordered) (rows-before .ensures) (rows-before2 .ensures) .ordered
 
@@ -116,7 +112,7 @@ part-mark-part-start-3 : tie.Need-part-mark-part-start-3
 part-mark-part-start-3 c =
     let rows-before2 = c .before .before .before .before .before .before .rows-before2 in
     let rows-before = c .before .before .before .before .before .before .before .rows-before in
-    let pre = mark-part-arg2-to-start c .pre in
+    let pre = marks-to-start (c .before .before .before) .pre in
     let asked = pre .1 .0 in
     span-of (asked .ordered) (rows-before .ensures) (rows-before2 .ensures) .ordered
 
@@ -127,7 +123,7 @@ sub-mark-part-4 : tie.Need-sub-mark-part-4
 sub-mark-part-4 c =
     let rows-before2 = c .before .before .before .before .before .before .before .rows-before2 in
     let rows-before = c .before .before .before .before .before .before .before .before .rows-before in
-    let pre = mark-part-arg2-to-start (c .before) .pre in
+    let pre = marks-to-start (c .before .before .before .before) .pre in
     let asked = pre .1 .0 in
     span-of (asked .ordered) (rows-before .ensures) (rows-before2 .ensures) .ordered
 
@@ -135,7 +131,7 @@ part-mark-part-start-4 : tie.Need-part-mark-part-start-4
 part-mark-part-start-4 c =
     let rows-before2 = c .before .before .before .before .before .before .before .rows-before2 in
     let rows-before = c .before .before .before .before .before .before .before .before .rows-before in
-    let pre = mark-part-arg2-to-start (c .before) .pre in
+    let pre = marks-to-start (c .before .before .before .before) .pre in
     let asked = pre .1 .0 in
     span-of (asked .ordered) (rows-before .ensures) (rows-before2 .ensures) .ordered
 
@@ -149,8 +145,8 @@ slice-aggregate-mark-part : tie.Need-slice-aggregate-mark-part
 slice-aggregate-mark-part c =
     let rows-before2 = c .before .before .before .before .before .before .before .before .before .rows-before2 in
     let rows-before = c .before .before .before .before .before .before .before .before .before .before .rows-before in
-    let args = mark-part-arg2-to-start (c .before .before .before) .args in
-    let pre = mark-part-arg2-to-start (c .before .before .before) .pre in
+    let args = marks-to-start (c .before .before .before .before .before .before) .args in
+    let pre = marks-to-start (c .before .before .before .before .before .before) .pre in
     let asked = pre .1 .0 in
     let buffers = pre .1 .1 in
     let a = args in
@@ -162,8 +158,8 @@ mark-part-requires c κs =
     let clear-marks = c .before .before .before .before .before .before .before .clear-marks in
     let rows-before2 = c .before .before .before .before .before .before .before .before .before .rows-before2 in
     let rows-before = c .before .before .before .before .before .before .before .before .before .before .rows-before in
-    let args = mark-part-arg2-to-start (c .before .before .before) .args in
-    let pre = mark-part-arg2-to-start (c .before .before .before) .pre in
+    let args = marks-to-start (c .before .before .before .before .before .before) .args in
+    let pre = marks-to-start (c .before .before .before .before .before .before) .pre in
     let sound = pre .0 in
     let asked = pre .1 .0 in
     let buffers = pre .1 .1 in
@@ -207,8 +203,8 @@ returns c =
     scratch-to-clear-marks (c .before .before .before .before .before) .before .before .rows-before2 in
     let rows-before =
     scratch-to-clear-marks (c .before .before .before .before .before) .before .before .before .rows-before in
-    let args = clear-to-start (c .before .before) .args in
-    let pre = clear-to-start (c .before .before) .pre in
+    let args = marks2-to-start (c .before .before .before .before .before .before .before) .args in
+    let pre = marks2-to-start (c .before .before .before .before .before .before .before) .pre in
     let asked = pre .1 .0 in
     let buffers = pre .1 .1 in
     let a = args in

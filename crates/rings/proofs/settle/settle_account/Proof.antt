@@ -17,14 +17,18 @@ use Rattle.rings.proofs.settle.settle_near.Reads as settle-near-reads
 abbrev entry-to-start : tie.After-entry → tie.Start
 entry-to-start c = c .before .before .before .before .before .before .before .before .before .before
 
+abbrev queue-to-start : tie.After-queue → tie.Start
+queue-to-start c =
+    entry-to-start (c .before .before .before .before .before .before .before .before .before .before .before
+    .before)
+
 abbrev counts-to-first-from : tie.After-counts → tie.After-first-from
 counts-to-first-from c =
     c .before .before .before .before .before .before .before .before .before .before .before .before .before
 
-abbrev settle-far-arg4-to-start : tie.After-settle-far-arg4 → tie.Start
-settle-far-arg4-to-start c =
-    entry-to-start (c .before .before .before .before .before .before .before .before .before .before .before
-    .before .before .before .before .before .before .before .before .before .before .before)
+abbrev settle-far-to-start : tie.After-settle-far → tie.Start
+settle-far-to-start c =
+    queue-to-start (c .before .before .before .before .before .before .before .before .before .before .before)
 
 entry-requires : tie.Need-entry-requires
 entry-requires c κs = search needs
@@ -78,7 +82,7 @@ settle-far-requires c κs =
     counts-to-first-from (c .before .before .before .before .before .before .before .before) .first-from in
     let entry =
     counts-to-first-from (c .before .before .before .before .before .before .before .before) .before .entry in
-    let pre = settle-far-arg4-to-start c .pre in
+    let pre = queue-to-start (c .before .before .before .before .before .before .before .before .before .before) .pre in
     record {
       working = unmoved-working unmoved (pre .working);
       at-head = record {
@@ -129,8 +133,7 @@ returns-2 c =
     let settle-near = c .before .before .before .before .before .before .before .before .before .before .before
     .before .before .before .before .before .before .before .before .before .before .before
     .before .before .settle-near in
-    let args =
-    settle-far-arg4-to-start (c .before .before .before .before .before .before .before .before .before) .args in
+    let args = settle-far-to-start (c .before .before .before .before .before .before .before .before) .args in
     unmoved-attempt (args .counting) _ (settle-far .result) (rw (near2 .given .1) at (settle-near .ensures))
     (settle-far .ensures)
 

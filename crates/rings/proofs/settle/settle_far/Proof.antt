@@ -23,12 +23,13 @@ abbrev outcome-to-start : tie.After-outcome → tie.Start
 outcome-to-start c =
     c .before .before .before .before .before .before .before .before .before .before .before .before .before
 
-abbrev drop-supported-arg4-to-start : tie.After-drop-supported-arg4 → tie.Start
-drop-supported-arg4-to-start c =
-    outcome-to-start (c .before .before .before .before .before .before .before .before .before .before)
+abbrev slack-to-start : tie.After-slack → tie.Start
+slack-to-start c =
+    outcome-to-start (c .before .before .before .before .before .before .before .before .before .before .before
+    .before)
 
 abbrev else2-to-start : tie.Else2 → tie.Start
-else2-to-start c = drop-supported-arg4-to-start (c .before .before .before .before .before .before .before .before)
+else2-to-start c = slack-to-start (c .before .before .before .before .before .before)
 
 abbrev else2-to-put : tie.Else2 → tie.After-put
 else2-to-put c =
@@ -158,9 +159,11 @@ drop-supported-requires : tie.Need-drop-supported-requires
 drop-supported-requires c κs =
     let put = c .before .before .before .before .before .before .put in
     let if1 = c .before .before .before .before .before .before .before .before .if1 in
-    let args = drop-supported-arg4-to-start c .args in
+    let args =
+    outcome-to-start (c .before .before .before .before .before .before .before .before .before .before) .args in
     let found-day = found-day-at (c .before .before .before .before .before .before .before .before .before .before) in
-    let pre = drop-supported-arg4-to-start c .pre in
+    let pre =
+    outcome-to-start (c .before .before .before .before .before .before .before .before .before .before) .pre in
     let w = pre .working in
     let h = pre .at-head in
     record {

@@ -22,18 +22,18 @@ use Rattle.rings.proofs.supporters.drop_listed_supporters.Reads as drop
 abbrev else1-to-start : tie.Else1 → tie.Start
 else1-to-start c = c .before .before .before .before .before .before .before .before .before .before
 
-abbrev struct-known5-to-start : tie.After-struct-known5 → tie.Start
-struct-known5-to-start c =
-    else1-to-start (c .before .before .before .before .before .before .before .before .before .before .before)
+abbrev queue-to-start : tie.After-queue → tie.Start
+queue-to-start c = else1-to-start (c .before .before .before .before .before .before .before .before)
 
 abbrev else3-to-else1 : tie.Else3 → tie.Else1
 else3-to-else1 c = c .before .before .before .before .before .before .before .before .before .before .before .before
 
-abbrev else4-to-start : tie.Else4 → tie.Start
-else4-to-start c = struct-known5-to-start (c .before .before .before .before)
+abbrev slack-above-to-start : tie.After-slack-above → tie.Start
+slack-above-to-start c = queue-to-start (c .before .before .before .before .before .before)
 
 abbrev queue3-to-start : tie.After-queue3 → tie.Start
-queue3-to-start c = else4-to-start (c .before .before .before .before .before .before .before .before .before .before)
+queue3-to-start c =
+    slack-above-to-start (c .before .before .before .before .before .before .before .before .before .before .before)
 
 abbrev queue3-to-entry : tie.After-queue3 → tie.After-entry
 queue3-to-entry c =
@@ -128,22 +128,22 @@ sub-slack c =
 
 mul-slack : tie.Need-mul-slack
 mul-slack c =
-    let pre = struct-known5-to-start (c .before .before .before) .pre in
+    let pre = queue-to-start (c .before .before .before .before .before .before) .pre in
     omega (arith, pre .at-head .small)
 
 slice-write-slack : tie.Need-slice-write-slack
 slice-write-slack c =
-    let pre = struct-known5-to-start (c .before .before .before) .pre in
+    let pre = queue-to-start (c .before .before .before .before .before .before) .pre in
     omega (arith, pre .at-head .small, pre .working .slack-long)
 
 add-t28 : tie.Need-add-t28
 add-t28 c =
-    let pre = struct-known5-to-start (c .before .before .before .before) .pre in
+    let pre = queue-to-start (c .before .before .before .before .before .before .before) .pre in
     omega (arith, pre .working .waits, pre .working .within)
 
 add-t30 : tie.Need-add-t30
 add-t30 c =
-    let pre = struct-known5-to-start (c .before .before .before .before .before .before) .pre in
+    let pre = queue-to-start (c .before .before .before .before .before .before .before .before .before) .pre in
     let scan-for-rise =
     c .before .before .before .before .before .before .before .before .before .before .scan-for-rise in
     omega (arith, pre .working .few, scan-for-rise .ensures .found .short-walk)
@@ -164,8 +164,8 @@ returns-3 c =
     c .before .before .before .before .before .before .before .before .before .before .scan-for-rise in
     let if1 = c .before .before .before .before .before .before .before .before .before .before .before .before
     .before .before .before .before .before .if1 in
-    let args = struct-known5-to-start (c .before .before .before .before .before .before) .args in
-    let pre = struct-known5-to-start (c .before .before .before .before .before .before) .pre in
+    let args = queue-to-start (c .before .before .before .before .before .before .before .before .before) .args in
+    let pre = queue-to-start (c .before .before .before .before .before .before .before .before .before) .pre in
     let w = pre .working in
     let h = pre .at-head in
     record {
@@ -193,7 +193,7 @@ slack-above-requires c κs =
 
 add-t33 : tie.Need-add-t33
 add-t33 c =
-    let pre = struct-known5-to-start (c .before .before .before .before .before .before) .pre in
+    let pre = slack-above-to-start (c .before .before .before) .pre in
     let scan-for-rise =
     c .before .before .before .before .before .before .before .before .before .before .scan-for-rise in
     omega (arith, pre .working .few, scan-for-rise .ensures .found .short-walk)
@@ -210,8 +210,8 @@ returns-4 c =
     let scan-for-rise =
     c .before .before .before .before .before .before .before .before .before .before .scan-for-rise in
     let if1 = else3-to-else1 (c .before .before .before .before .before) .if1 in
-    let args = struct-known5-to-start (c .before .before .before .before .before .before) .args in
-    let pre = struct-known5-to-start (c .before .before .before .before .before .before) .pre in
+    let args = slack-above-to-start (c .before .before .before) .args in
+    let pre = slack-above-to-start (c .before .before .before) .pre in
     let w = pre .working in
     let h = pre .at-head in
     record {
@@ -227,28 +227,28 @@ returns-4 c =
 
 mul-slack-2 : tie.Need-mul-slack-2
 mul-slack-2 c =
-    let pre = else4-to-start c .pre in
+    let pre = slack-above-to-start (c .before) .pre in
     omega (arith, pre .at-head .small)
 
 slice-write-slack-2 : tie.Need-slice-write-slack-2
 slice-write-slack-2 c =
-    let pre = else4-to-start c .pre in
+    let pre = slack-above-to-start (c .before) .pre in
     omega (arith, pre .at-head .small, pre .working .slack-long)
 
 mul-times : tie.Need-mul-times
 mul-times c =
-    let pre = else4-to-start c .pre in
+    let pre = slack-above-to-start (c .before) .pre in
     omega (arith, pre .at-head .small)
 
 slice-write-times : tie.Need-slice-write-times
 slice-write-times c =
-    let pre = else4-to-start c .pre in
+    let pre = slack-above-to-start (c .before) .pre in
     omega (arith, pre .at-head .small, pre .working .times-long)
 
 put-requires : tie.Need-put-requires
 put-requires c κs =
     let scan-for-rise = c .before .before .before .before .before .before .before .before .before .scan-for-rise in
-    let pre = else4-to-start (c .before) .pre in
+    let pre = slack-above-to-start (c .before .before) .pre in
     let w = pre .working in
     record {
       place = omega (arith, (scan-for-rise .ensures .behind) .long, w .waits, w .within, w .behind);
@@ -264,8 +264,8 @@ drop-listed-supporters-requires c κs =
     let scan-for-rise = c .before .before .before .before .before .before .before .before .before .before .before
     .before .before .before .scan-for-rise in
     let if1 = else3-to-else1 (c .before .before .before .before .before .before .before .before .before) .if1 in
-    let args = else4-to-start (c .before .before .before .before .before .before) .args in
-    let pre = else4-to-start (c .before .before .before .before .before .before) .pre in
+    let args = slack-above-to-start (c .before .before .before .before .before .before .before) .args in
+    let pre = slack-above-to-start (c .before .before .before .before .before .before .before) .pre in
     let w = pre .working in
     let h = pre .at-head in
     let outcome = scanned-on (pre .its-time) (scan-for-rise .ensures .found .scanned) in

@@ -20,27 +20,25 @@ use Rattle.rings.proofs.starts.first_start.Reads as first-start-reads
 abbrev counts-to-start : tie.After-counts → tie.Start
 counts-to-start c = c .before .before .before .before .before .before .before .before .before .before .before .before
 
-abbrev slack-to-pass-heads : tie.After-slack → tie.After-pass-heads
-slack-to-pass-heads c = c .before .before .before .before .before .before .before .before .before .before .before
-
 abbrev counts2-to-start : tie.After-counts2 → tie.Start
 counts2-to-start c =
     counts-to-start (c .before .before .before .before .before .before .before .before .before .before .before
     .before .before .before .before .before .before .before)
 
-abbrev first-start-arg5-to-pass-heads : tie.After-first-start-arg5 → tie.After-pass-heads
-first-start-arg5-to-pass-heads c =
-    slack-to-pass-heads (c .before .before .before .before .before .before .before .before .before .before .before
-    .before .before)
+abbrev counts2-to-pass-heads : tie.After-counts2 → tie.After-pass-heads
+counts2-to-pass-heads c =
+    c .before .before .before .before .before .before .before .before .before .before .before .before .before
+    .before .before
 
 abbrev scratch2-to-step : tie.After-scratch2 → tie.After-step
 scratch2-to-step c =
     c .before .before .before .before .before .before .before .before .before .before .before .before .before
     .before .before .before .before .before
 
-abbrev queue2-to-pass-heads : tie.After-queue2 → tie.After-pass-heads
-queue2-to-pass-heads c =
-    first-start-arg5-to-pass-heads (c .before .before .before .before .before .before .before .before)
+abbrev slack2-to-pass-heads : tie.After-slack2 → tie.After-pass-heads
+slack2-to-pass-heads c =
+    counts2-to-pass-heads (c .before .before .before .before .before .before .before .before .before .before .before
+    .before .before .before .before)
 
 drop-rows-requires : tie.Need-drop-rows-requires
 drop-rows-requires c κs =
@@ -108,8 +106,10 @@ first-start-requires c κs =
     let next = c .before .before .before .before .before .next-frame in
     let step = c .before .before .before .before .before .before .before .before .before .before .before .before
     .before .before .before .before .step in
-    let pass-heads = first-start-arg5-to-pass-heads c .pass-heads in
-    let drop-rows = first-start-arg5-to-pass-heads c .before .before .before .before .drop-rows in
+    let pass-heads = counts2-to-pass-heads (c .before .before .before .before .before .before .before .before
+    .before) .pass-heads in
+    let drop-rows = counts2-to-pass-heads (c .before .before .before .before .before .before .before .before
+    .before) .before .before .before .before .drop-rows in
     let pre = counts2-to-start (c .before .before .before .before .before .before .before .before .before) .pre in
     let here = pre .0 .inside in
     rw (next .ensures) (
@@ -155,7 +155,7 @@ returns : tie.Need-returns
 returns c =
     let enum-told = c .enum-told in
     let step = c .before .before .before .before .before .before .before .before .before .before .step in
-    let pass-heads = slack-to-pass-heads (c .before .before .before .before .before .before .before) .pass-heads in
+    let pass-heads = counts2-to-pass-heads (c .before .before .before) .pass-heads in
     let pre = counts2-to-start (c .before .before .before) .pre in
     let here = pre .0 .inside in
     let done = rw (enum-told .given .1) at (step .ensures) in
@@ -176,7 +176,7 @@ returns c =
 same-length-6 : tie.Need-same-length-6
 same-length-6 c =
     let first-start = c .before .before .before .before .before .before .before .before .before .before .first-start in
-    let pass-heads = queue2-to-pass-heads (c .before .before .before) .pass-heads in
+    let pass-heads = slack2-to-pass-heads (c .before .before .before .before .before) .pass-heads in
     first-start .kept .1 .1 .1 .0 ∙ pass-heads .kept .1 .1 .1 .0
 
 same-length-7 : tie.Need-same-length-7
@@ -192,7 +192,8 @@ same-length-10 : tie.Need-same-length-10
 same-length-10 c =
     let first-start = c .before .before .before .before .before .before .before .before .before .before .first-start in
     let step = scratch2-to-step (c .before .before .before .before .before .before .before .before .before) .step in
-    let drop-rows = queue2-to-pass-heads (c .before .before .before) .before .before .before .before .drop-rows in
+    let drop-rows =
+    slack2-to-pass-heads (c .before .before .before .before .before) .before .before .before .before .drop-rows in
     first-start .kept .1 .1 .1 .1 .1 .1 .1 .1 .1 .0
     ∙ (step .kept .1 .1 .1 .1 .1 .1 .1 .1 .1 .1 .1 .0 ∙ drop-rows .kept .1 .1 .1 .1 .1 .1 .1 .0)
 
