@@ -17,13 +17,13 @@ same-length c = search needs
 
 returns : tie.Need-returns
 returns c =
-    let print′ = c .before .before .print in
+    let print = c .before .before .print in
     let args = c .before .before .before .before .before .before .before .args in
-    let pre′ = c .before .before .before .before .before .before .before .pre in
-    let a = args in
-    let pre = pre′ in
-    let print = print′ in
-    (print .ensures .0, λ input b. print .ensures .1 ∙ brought-text input (a .buffer .now) (a .read) (pre .1 .0) b)
+    let pre = c .before .before .before .before .before .before .before .pre in
+    let buffer-long = pre .1 .0 in (
+      print .ensures .0,
+      λ input b. print .ensures .1 ∙ brought-text input (args .buffer .now) (args .read) buffer-long b,
+    )
 
 pub answer-spec : {M : Type 1} → statement M
 answer-spec = tie.close (tie.spec slice-aggregate-print print-requires same-length returns)

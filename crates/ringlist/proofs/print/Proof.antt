@@ -20,15 +20,12 @@ same-length c = search needs
 returns : tie.Need-returns
 returns c =
     let printed = c .before .printed in
-    let list-text′ = c .before .before .before .before .before .list-text in
+    let list-text = c .before .before .before .before .before .list-text in
     let args = c .before .before .before .before .before .before .before .before .before .args in
-    let pre′ = c .before .before .before .before .before .before .before .before .before .pre in
-    let a = args in
-    let pre = pre′ in
-    let list-text = list-text′ in
-    prints-found (a .input .now)
+    let pre = c .before .before .before .before .before .before .before .before .before .pre in
+    prints-found (args .input .now)
     (
-    text-answer (a .input .now) (a .output .now) pre (list-text .ensures .0) (list-text .ensures .1)
+    text-answer (args .input .now) (args .output .now) pre (list-text .ensures .0) (list-text .ensures .1)
     (printed .given .1)
     )
 
@@ -38,35 +35,27 @@ enum-known-printed-2 c = search needs
 refuse-requires : tie.Need-refuse-requires
 refuse-requires c κs =
     let printed2 = c .before .before .printed2 in
-    let list-text′ = c .before .before .before .before .before .before .list-text in
+    let list-text = c .before .before .before .before .before .before .list-text in
     let args = c .before .before .before .before .before .before .before .before .before .before .args in
-    let pre′ = c .before .before .before .before .before .before .before .before .before .before .pre in
-    let a = args in
-    let pre = pre′ in
-    let list-text = list-text′ in
-    let a = refused-answer (a .input .now) (a .output .now) pre (list-text .ensures .0) (list-text .ensures .1)
-    (printed2 .given .1) in (a .number, a .place, ap length (a .kept) ∙ pre)
+    let pre = c .before .before .before .before .before .before .before .before .before .before .pre in
+    let told = refused-answer (args .input .now) (args .output .now) pre (list-text .ensures .0) (list-text .ensures .1)
+    (printed2 .given .1) in (told .number, told .place, ap length (told .kept) ∙ pre)
 
 same-length-2 : tie.Need-same-length-2
 same-length-2 c = search needs
 
 returns-2 : tie.Need-returns-2
 returns-2 c =
-    let refuse′ = c .before .before .refuse in
-    let printed2′ = c .before .before .before .before .before .printed2 in
-    let list-text′ = c .before .before .before .before .before .before .before .before .before .list-text in
+    let refuse = c .before .before .refuse in
+    let printed2 = c .before .before .before .before .before .printed2 in
+    let list-text = c .before .before .before .before .before .before .before .before .before .list-text in
     let args = c .before .before .before .before .before .before .before .before .before .before .before .before
     .before .args in
-    let pre′ = c .before .before .before .before .before .before .before .before .before .before .before .before
+    let pre = c .before .before .before .before .before .before .before .before .before .before .before .before
     .before .pre in
-    let a = args in
-    let refuse = refuse′ in
-    let pre = pre′ in
-    let list-text = list-text′ in
-    let printed2 = printed2′ in
-    prints-stopped (a .input .now) (refuse .result) (refuse .last .1 .1 .0)
+    prints-stopped (args .input .now) (refuse .result) (refuse .last .1 .1 .0)
     (
-    refused-answer (a .input .now) (a .output .now) pre (list-text .ensures .0) (list-text .ensures .1)
+    refused-answer (args .input .now) (args .output .now) pre (list-text .ensures .0) (list-text .ensures .1)
     (printed2 .given .1)
     ) (refuse .ensures)
 

@@ -19,13 +19,11 @@ same-length c = search needs
 
 returns : tie.Need-returns
 returns c =
-    let put-refused′ = c .before .before .put-refused in
+    let put-refused = c .before .before .put-refused in
     let args = c .before .before .before .before .before .args in
-    let pre′ = c .before .before .before .before .before .pre in
-    let a = args in
-    let pre = pre′ in
-    let put-refused = put-refused′ in
-    prints-refused (a .output .now) (a .number) (a .line) (pre .2) (put-refused .ensures .answers)
+    let pre = c .before .before .before .before .before .pre in
+    let output-long = pre .2 in
+    prints-refused (args .output .now) (args .number) (args .line) output-long (put-refused .ensures .answers)
     (put-refused .ensures .holds)
 
 pub refuse-spec : {M : Type 1} → statement M

@@ -41,15 +41,12 @@ slice-aggregate-write-listing-3 c = search needs
 
 write-listing-requires : tie.Need-write-listing-requires
 write-listing-requires c κs =
-    let rings′ = c .before .before .before .before .before .rings in
-    let list-rings′ =
+    let rings = c .before .before .before .before .before .rings in
+    let list-rings =
     c .before .before .before .before .before .before .before .before .before .before .before .list-rings in
     let args = c .before .before .before .before .before .before .before .before .before
     .before .before .before .before .before .before .before .before .before .before .before .args in
-    let a = args in
-    let list-rings = list-rings′ in
-    let rings = rings′ in
-    rings-rise (tableOf (a .days .now) (a .first .now) (a .second .now)) (a .query) (a .ts) (a .te)
+    rings-rise (tableOf (args .days .now) (args .first .now) (args .second .now)) (args .query) (args .ts) (args .te)
     (list-rings .ensures .0) (each (replicate mostListed 0)) (list-rings .ensures .1 .0) (rings .given .1)
 
 same-length : tie.Need-same-length
@@ -58,23 +55,20 @@ same-length c = search needs
 returns : tie.Need-returns
 returns c =
     let write-listing = c .before .before .write-listing in
-    let rings′ = c .before .before .before .before .before .before .before .before .rings in
-    let list-rings′ = c .before .before .before .before .before .before .before .before .before .before .before
+    let rings = c .before .before .before .before .before .before .before .before .rings in
+    let list-rings = c .before .before .before .before .before .before .before .before .before .before .before
     .before .before .before .list-rings in
     let args = c .before .before .before .before .before .before .before .before .before
     .before .before .before .before .before .before .before .before .before .before .before .before .before
     .before .args in
-    let a = args in
-    let list-rings = list-rings′ in
-    let rings = rings′ in
     answer-as
     (
-    listed-rings (tableOf (a .days .now) (a .first .now) (a .second .now)) (a .query) (a .ts) (a .te)
+    listed-rings (tableOf (args .days .now) (args .first .now) (args .second .now)) (args .query) (args .ts) (args .te)
     (list-rings .ensures .0) (rings .given .1) ∙ ap found
     (
     sym
     (
-    rings-are (tableOf (a .days .now) (a .first .now) (a .second .now)) (a .query) (a .ts) (a .te)
+    rings-are (tableOf (args .days .now) (args .first .now) (args .second .now)) (args .query) (args .ts) (args .te)
     (list-rings .ensures .0) (each (replicate mostListed 0)) (list-rings .ensures .1 .0) (rings .given .1)
     )
     )
@@ -86,35 +80,31 @@ enum-known-rings-2 c = search needs
 refused-requires : tie.Need-refused-requires
 refused-requires c κs =
     let rings2 = c .before .rings2 in
-    let list-rings′ = c .before .before .before .before .before .before .before .list-rings in
+    let list-rings = c .before .before .before .before .before .before .before .list-rings in
     let args = c .before .before .before .before .before .before .before .before .before .before .before .before
     .before .before .before .before .args in
-    let pre′ = c .before .before .before .before .before .before .before .before .before .before .before .before
+    let pre = c .before .before .before .before .before .before .before .before .before .before .before .before
     .before .before .before .before .pre in
-    let pre = pre′ in
-    let a = args in
-    let list-rings = list-rings′ in
     omega (
       arith,
       pre,
-      refused-place (tableOf (a .days .now) (a .first .now) (a .second .now)) (a .query) (a .ts) (a .te)
+      refused-place (tableOf (args .days .now) (args .first .now) (args .second .now)) (args .query) (args .ts)
+          (args .te)
           (each mostListed)
           programScratch (sym (list-rings .ensures .0) ∙ rings2 .given .1),
     )
 
 returns-2 : tie.Need-returns-2
 returns-2 c =
-    let rings2′ = c .before .before .rings2 in
-    let list-rings′ = c .before .before .before .before .before .before .before .before .list-rings in
+    let rings2 = c .before .before .rings2 in
+    let list-rings = c .before .before .before .before .before .before .before .before .list-rings in
     let args = c .before .before .before .before .before .before .before .before .before
     .before .before .before .before .before .before .before .before .args in
-    let a = args in
-    let rings2 = rings2′ in
-    let list-rings = list-rings′ in
-    answer-refused (listed (tableOf (a .days .now) (a .first .now) (a .second .now)) (a .query) (a .ts) (a .te))
-    (a .output .now) (rings2 .given .0 .0)
+    answer-refused (listed (tableOf (args .days .now) (args .first .now) (args .second .now)) (args .query)
+    (args .ts) (args .te))
+    (args .output .now) (rings2 .given .0 .0)
     (
-    listed-none (tableOf (a .days .now) (a .first .now) (a .second .now)) (a .query) (a .ts) (a .te)
+    listed-none (tableOf (args .days .now) (args .first .now) (args .second .now)) (args .query) (args .ts) (args .te)
     (list-rings .ensures .0) (rings2 .given .1)
     ) (c .refused .ensures)
 

@@ -12,18 +12,15 @@ read-table-requires c κs = search needs
 
 asked-by-requires : tie.Need-asked-by-requires
 asked-by-requires c κs =
-    let read-table′ = c .before .before .before .before .before .before .read-table in
+    let read-table = c .before .before .before .before .before .before .read-table in
     let args = c .before .before .before .before .before .before .before .before .before .before .before .before
     .before .before .args in
-    let pre′ = c .before .before .before .before .before .before .before .before .before .before .before .before
+    let pre = c .before .before .before .before .before .before .before .before .before .before .before .before
     .before .before .pre in
-    let pre = pre′ in
-    let a = args in
-    let read-table = read-table′ in
     omega (
       arith,
       pre .short,
-      place-lines (a .text .now) (length (a .days .now)) (length (a .first .now)) (length (a .second .now))
+      place-lines (args .text .now) (length (args .days .now)) (length (args .first .now)) (length (args .second .now))
           (read-table .ensures .answers),
     )
 
@@ -38,15 +35,13 @@ same-length-3 c = search needs
 
 returns : tie.Need-returns
 returns c =
-    let read-table′ = c .before .before .before .before .before .before .before .read-table in
+    let read-table = c .before .before .before .before .before .before .before .read-table in
     let args = c .before .before .before .before .before .before .before .before .before .before .before .before
     .before .before .before .args in
-    let pre′ = c .before .before .before .before .before .before .before .before .before .before .before .before
+    let pre = c .before .before .before .before .before .before .before .before .before .before .before .before
     .before .before .before .pre in
-    let a = args in
-    let read-table = read-table′ in
-    let pre = pre′ in
-    rows-asked (a .text .now) (a .query) (a .ts) (a .te) (a .days .now) (a .first .now) (a .second .now)
+    rows-asked (args .text .now) (args .query) (args .ts) (args .te) (args .days .now) (args .first .now)
+    (args .second .now)
     (read-table .result) (read-table .ensures .answers) pre (read-table .ensures .days-hold)
     (read-table .ensures .first-hold) (read-table .ensures .second-hold) (c .asked-by .ensures)
 

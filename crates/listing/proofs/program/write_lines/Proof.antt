@@ -19,92 +19,85 @@ abbrev μ-loop : tie.MeasureT-loop
 loop-holds : tie.Need-loop-holds Inv-loop μ-loop
 loop-holds c =
     let args = c .before .before .before .before .args in
-    let a = args in
-    (omega arith, print-start (columnsOf (a .starts .now) (a .ends .now) (a .rows .now)) (a .output .now))
+    (omega arith, print-start (columnsOf (args .starts .now) (args .ends .now) (args .rows .now)) (args .output .now))
 
 mul-start : tie.Need-mul-start Inv-loop μ-loop
 mul-start c =
-    let pre′ = c .before .before .before .before .before .before .pre in
-    let pre = pre′ in omega (arith, c .loop-test .taken, pre .rising .most)
+    let pre = c .before .before .before .before .before .before .pre in
+    omega (arith, c .loop-test .taken, pre .rising .most)
 
 shared-slice-read-start : tie.Need-shared-slice-read-start Inv-loop μ-loop
 shared-slice-read-start c =
     let loop-test = c .before .loop-test in
-    let pre′ = c .before .before .before .before .before .before .before .pre in
-    let pre = pre′ in omega (arith, loop-test .taken, pre .rising .in-starts)
+    let pre = c .before .before .before .before .before .before .before .pre in
+    omega (arith, loop-test .taken, pre .rising .in-starts)
 
 mul-end : tie.Need-mul-end Inv-loop μ-loop
 mul-end c =
     let loop-test = c .before .loop-test in
-    let pre′ = c .before .before .before .before .before .before .before .pre in
-    let pre = pre′ in omega (arith, loop-test .taken, pre .rising .most)
+    let pre = c .before .before .before .before .before .before .before .pre in
+    omega (arith, loop-test .taken, pre .rising .most)
 
 shared-slice-read-end : tie.Need-shared-slice-read-end Inv-loop μ-loop
 shared-slice-read-end c =
     let loop-test = c .before .before .loop-test in
-    let pre′ = c .before .before .before .before .before .before .before .before .pre in
-    let pre = pre′ in omega (arith, loop-test .taken, pre .rising .in-ends)
+    let pre = c .before .before .before .before .before .before .before .before .pre in
+    omega (arith, loop-test .taken, pre .rising .in-ends)
 
 sub-put-line : tie.Need-sub-put-line Inv-loop μ-loop
 sub-put-line c =
     let loop-test = c .before .before .before .loop-test in
-    let loop′ = c .before .before .before .before .loop in
-    let pre′ = c .before .before .before .before .before .before .before .before .before .pre in
-    let pre = pre′ in let loop = loop′ in omega (arith, pre .rising .order (loop .i) (loop-test .taken))
+    let loop = c .before .before .before .before .loop in
+    let pre = c .before .before .before .before .before .before .before .before .before .pre in
+    omega (arith, pre .rising .order (loop .i) (loop-test .taken))
 
 mul-put-line : tie.Need-mul-put-line Inv-loop μ-loop
 mul-put-line c =
     let loop-test = c .before .before .before .loop-test in
-    let pre′ = c .before .before .before .before .before .before .before .before .before .pre in
-    let pre = pre′ in omega (arith, loop-test .taken, pre .rising .most)
+    let pre = c .before .before .before .before .before .before .before .before .before .pre in
+    omega (arith, loop-test .taken, pre .rising .most)
 
 shared-slice-read-put-line : tie.Need-shared-slice-read-put-line Inv-loop μ-loop
 shared-slice-read-put-line c =
-    let loop-test′ = c .before .before .before .before .loop-test in
-    let pre′ = c .before .before .before .before .before .before .before .before .before .before .pre in
-    let loop-test = loop-test′ in let pre = pre′ in omega (arith, loop-test .taken, pre .rising .in-rows)
+    let loop-test = c .before .before .before .before .loop-test in
+    let pre = c .before .before .before .before .before .before .before .before .before .before .pre in
+    omega (arith, loop-test .taken, pre .rising .in-rows)
 
 put-line-requires : tie.Need-put-line-requires Inv-loop μ-loop
 put-line-requires c κs = tt
 
 add-at : tie.Need-add-at Inv-loop μ-loop
 add-at c =
-    let loop-test′ = c .before .before .before .before .before .before .before .loop-test in
-    let loop′ = c .before .before .before .before .before .before .before .before .loop in
-    let pre′ = c .before .before .before .before .before .before .before .before .before .before .before .before
+    let loop-test = c .before .before .before .before .before .before .before .loop-test in
+    let loop = c .before .before .before .before .before .before .before .before .loop in
+    let pre = c .before .before .before .before .before .before .before .before .before .before .before .before
     .before .pre in
-    let loop-test = loop-test′ in
-    let pre = pre′ in let loop = loop′ in omega (arith, loop-test .taken, pre .rising .most, loop .inv .1 .next)
+    omega (arith, loop-test .taken, pre .rising .most, loop .inv .1 .next)
 
 add-i : tie.Need-add-i Inv-loop μ-loop
 add-i c =
-    let loop-test′ = c .before .before .before .before .before .before .before .loop-test in
-    let pre′ = c .before .before .before .before .before .before .before .before .before .before .before .before
+    let loop-test = c .before .before .before .before .before .before .before .loop-test in
+    let pre = c .before .before .before .before .before .before .before .before .before .before .before .before
     .before .pre in
-    let loop-test = loop-test′ in let pre = pre′ in omega (arith, loop-test .taken, pre .rising .most)
+    omega (arith, loop-test .taken, pre .rising .most)
 
 loop-less : tie.Need-loop-less Inv-loop μ-loop
 loop-less c =
-    let loop-test′ = c .before .before .before .before .before .before .before .loop-test in
-    let loop-test = loop-test′ in omega (arith, loop-test .taken)
+    let loop-test = c .before .before .before .before .before .before .before .loop-test in
+    omega (arith, loop-test .taken)
 
 loop-again : tie.Need-loop-again Inv-loop μ-loop
 unfolding span entryAt
 loop-again c =
-    let put-line′ = c .before .before .put-line in
-    let loop-test′ = c .before .before .before .before .before .before .before .loop-test in
-    let loop′ = c .before .before .before .before .before .before .before .before .loop in
+    let put-line = c .before .before .put-line in
+    let loop-test = c .before .before .before .before .before .before .before .loop-test in
+    let loop = c .before .before .before .before .before .before .before .before .loop in
     let args = c .before .before .before .before .before .before .before .before .before .before .before .before
     .before .args in
-    let pre′ = c .before .before .before .before .before .before .before .before .before .before .before .before
-    .before .pre in
-    let loop-test = loop-test′ in
-    let a = args in
-    let loop = loop′ in
-    let pre = pre′ in
-    let put-line = put-line′ in (
+    let pre = c .before .before .before .before .before .before .before .before .before .before .before .before
+    .before .pre in (
       omega (arith, loop-test .taken),
-      print-next (columnsOf (a .starts .now) (a .ends .now) (a .rows .now)) (loop .inv .1) (loop-test .taken)
+      print-next (columnsOf (args .starts .now) (args .ends .now) (args .rows .now)) (loop .inv .1) (loop-test .taken)
           (pre .room)
           (put-line .ensures .answers) (put-line .ensures .holds),
     )
@@ -116,11 +109,9 @@ same-length c =
 
 returns : tie.Need-returns Inv-loop μ-loop
 returns c =
-    let loop′ = c .before .loop in
+    let loop = c .before .loop in
     let args = c .before .before .before .before .before .before .args in
-    let a = args in
-    let loop = loop′ in
-    print-end (columnsOf (a .starts .now) (a .ends .now) (a .rows .now)) (loop .inv .1) (loop .inv .0)
+    print-end (columnsOf (args .starts .now) (args .ends .now) (args .rows .now)) (loop .inv .1) (loop .inv .0)
     (c .loop-test .left)
 
 pub write-lines-spec : {M : Type 1} → statement M

@@ -35,17 +35,20 @@ clear-requires c κs = search needs
 loop-holds : tie.Need-loop-holds Inv-loop μ-loop
 loop-holds c =
     let clear = c .before .before .clear in
-    let pre = c .before .before .before .before .before .before .before .before .before .pre in (
+    let pre = c .before .before .before .before .before .before .before .before .before .pre in
+    let count-asks = pre .0 in
+    let counts-long = pre .1 in (
       omega arith,
-      pre .0 .known .span .ordered,
-      hist-start _ _ _ (pre .1) (clear .ensures)
-          (λ j h. row-before _ _ _ _ j (pre .0 .known .framed .setting .before-lo j h)),
+      count-asks .known .span .ordered,
+      hist-start _ _ _ counts-long (clear .ensures)
+          (λ j h. row-before _ _ _ _ j (count-asks .known .framed .setting .before-lo j h)),
     )
 
 row-time-requires : tie.Need-row-time-requires Inv-loop μ-loop
 row-time-requires c κs =
     let pre = loop-to-start (c .before) .pre in
-    (pre .0 .known, omega (arith, c .loop-test .taken, pre .0 .known .span .within))
+    let count-asks = pre .0 in
+    (count-asks .known, omega (arith, c .loop-test .taken, count-asks .known .span .within))
 
 add-count-requires : tie.Need-add-count-requires Inv-loop μ-loop
 add-count-requires c κs =
@@ -53,15 +56,17 @@ add-count-requires c κs =
     let loop-test = c .before .before .loop-test in
     let loop = c .before .before .before .loop in
     let pre = loop-to-start (c .before .before .before) .pre in
+    let count-asks = pre .0 in
     hist-few _ (loop .inv .2)
-    (omega (arith, loop-test .taken, pre .0 .known .span .within, pre .0 .known .framed .sound .most))
-    (is-time _ _ _ _ _ (pre .0 .in-days) (row-time .ensures))
+    (omega (arith, loop-test .taken, count-asks .known .span .within, count-asks .known .framed .sound .most))
+    (is-time _ _ _ _ _ (count-asks .in-days) (row-time .ensures))
 
 add-j : tie.Need-add-j Inv-loop μ-loop
 add-j c =
     let loop-test = c .before .before .before .before .before .loop-test in
     let pre = loop-to-start (c .before .before .before .before .before .before) .pre in
-    omega (arith, loop-test .taken, pre .0 .known .span .within, pre .0 .known .framed .sound .most)
+    let count-asks = pre .0 in
+    omega (arith, loop-test .taken, count-asks .known .span .within, count-asks .known .framed .sound .most)
 
 loop-less : tie.Need-loop-less Inv-loop μ-loop
 loop-less c =
@@ -83,14 +88,16 @@ same-length : tie.Need-same-length Inv-loop μ-loop
 same-length c =
     let loop = c .before .loop in
     let pre = loop-to-start (c .before) .pre in
-    loop .inv .2 .long ∙ sym (pre .1)
+    let counts-long = pre .1 in
+    loop .inv .2 .long ∙ sym counts-long
 
 returns : tie.Need-returns Inv-loop μ-loop
 returns c =
     let loop = c .before .loop in
     let pre = loop-to-start (c .before) .pre in
-    hist-past _ (loop .inv .2) (omega (arith, loop .inv .1, pre .0 .known .span .within))
-    (λ j a b. sym (row-late _ _ _ _ (pre .0 .known) b (omega (arith, a, c .loop-test .left))))
+    let count-asks = pre .0 in
+    hist-past _ (loop .inv .2) (omega (arith, loop .inv .1, count-asks .known .span .within))
+    (λ j a b. sym (row-late _ _ _ _ (count-asks .known) b (omega (arith, a, c .loop-test .left))))
 
 pub count-times-spec : {M : Type 1} → statement M
 count-times-spec =

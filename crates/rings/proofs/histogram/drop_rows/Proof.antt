@@ -28,21 +28,26 @@ abbrev μ-loop : tie.MeasureT-loop
 
 loop-holds : tie.Need-loop-holds Inv-loop μ-loop
 loop-holds c =
-    let pre = c .before .before .before .before .before .pre in (
+    let pre = c .before .before .before .before .before .pre in
+    let count-asks = pre .0 in
+    let drop-ready = pre .1 in (
       omega arith,
-      drop-from _ _ _ _ _ _ _ (pre .0 .known .framed .setting) (pre .0 .known .times-are) (pre .1 .follows)
-          (omega (arith, pre .0 .known .span .ordered, pre .0 .known .span .within)),
-      drop-start _ _ _ _ _ _ _ (pre .0 .known .framed .setting) (pre .0 .known .times-are) (pre .1 .follows)
+      drop-from _ _ _ _ _ _ _ (count-asks .known .framed .setting) (count-asks .known .times-are) (drop-ready .follows)
+          (omega (arith, count-asks .known .span .ordered, count-asks .known .span .within)),
+      drop-start _ _ _ _ _ _ _ (count-asks .known .framed .setting) (count-asks .known .times-are) (drop-ready .follows)
           (
-          drop-from _ _ _ _ _ _ _ (pre .0 .known .framed .setting) (pre .0 .known .times-are) (pre .1 .follows)
-          (omega (arith, pre .0 .known .span .ordered, pre .0 .known .span .within))
-          ) (pre .1 .timed),
+          drop-from _ _ _ _ _ _ _ (count-asks .known .framed .setting) (count-asks .known .times-are)
+          (drop-ready .follows)
+          (omega (arith, count-asks .known .span .ordered, count-asks .known .span .within))
+          ) (drop-ready .timed),
     )
 
 row-time-requires : tie.Need-row-time-requires Inv-loop μ-loop
 row-time-requires c κs =
     let pre = c .before .before .before .before .before .before .before .pre in
-    (pre .0 .known, omega (arith, c .loop-test .taken, pre .1 .follows .within))
+    let count-asks = pre .0 in
+    let drop-ready = pre .1 in
+    (count-asks .known, omega (arith, c .loop-test .taken, drop-ready .follows .within))
 
 drop-count-requires : tie.Need-drop-count-requires Inv-loop μ-loop
 drop-count-requires c κs =
@@ -50,15 +55,19 @@ drop-count-requires c κs =
     let loop-test = c .before .before .loop-test in
     let loop = c .before .before .before .loop in
     let pre = c .before .before .before .before .before .before .before .before .before .pre in
-    drop-asks _ _ _ _ _ _ _ (pre .0 .known .framed .setting) (pre .0 .known .times-are) (pre .1 .follows)
-    (loop-test .taken) (pre .0 .in-days)
+    let count-asks = pre .0 in
+    let drop-ready = pre .1 in
+    drop-asks _ _ _ _ _ _ _ (count-asks .known .framed .setting) (count-asks .known .times-are) (drop-ready .follows)
+    (loop-test .taken) (count-asks .in-days)
     (row-time .ensures) (loop .inv .2)
 
 add-j : tie.Need-add-j Inv-loop μ-loop
 add-j c =
     let loop-test = c .before .before .before .before .before .loop-test in
     let pre = c .before .before .before .before .before .before .before .before .before .before .before .before .pre in
-    omega (arith, loop-test .taken, pre .1 .follows .within, pre .0 .known .framed .sound .most)
+    let count-asks = pre .0 in
+    let drop-ready = pre .1 in
+    omega (arith, loop-test .taken, drop-ready .follows .within, count-asks .known .framed .sound .most)
 
 loop-less : tie.Need-loop-less Inv-loop μ-loop
 loop-less c =
@@ -72,11 +81,13 @@ loop-again c =
     let loop-test = c .before .before .before .before .before .loop-test in
     let loop = c .before .before .before .before .before .before .loop in
     let pre =
-    c .before .before .before .before .before .before .before .before .before .before .before .before .pre in (
+    c .before .before .before .before .before .before .before .before .before .before .before .before .pre in
+    let count-asks = pre .0 in
+    let drop-ready = pre .1 in (
       omega (arith, loop .inv .0),
       omega (arith, loop-test .taken),
-      drop-next _ _ _ _ _ _ _ (pre .0 .known .framed .setting) (pre .0 .known .times-are) (pre .1 .follows)
-          (loop-test .taken) (pre .0 .in-days)
+      drop-next _ _ _ _ _ _ _ (count-asks .known .framed .setting) (count-asks .known .times-are) (drop-ready .follows)
+          (loop-test .taken) (count-asks .in-days)
           (row-time .ensures) (loop .inv .2) (drop-count .ensures),
     )
 
@@ -84,13 +95,16 @@ same-length : tie.Need-same-length Inv-loop μ-loop
 same-length c =
     let loop = c .before .loop in
     let pre = c .before .before .before .before .before .before .before .pre in
-    loop .inv .2 .long ∙ sym (pre .1 .timed .long)
+    let drop-ready = pre .1 in
+    loop .inv .2 .long ∙ sym (drop-ready .timed .long)
 
 returns : tie.Need-returns Inv-loop μ-loop
 returns c =
     let loop = c .before .loop in
     let pre = c .before .before .before .before .before .before .before .pre in
-    drop-end _ _ _ _ _ _ _ (pre .0 .known .framed .setting) (pre .0 .known .times-are) (pre .1 .follows)
+    let count-asks = pre .0 in
+    let drop-ready = pre .1 in
+    drop-end _ _ _ _ _ _ _ (count-asks .known .framed .setting) (count-asks .known .times-are) (drop-ready .follows)
     (c .loop-test .left) (loop .inv .2)
 
 pub drop-rows-spec : {M : Type 1} → statement M

@@ -37,7 +37,9 @@ entry4-to-entry c = c .before .before .before .before .before .before .before .b
 row-below : (c : tie.In-loop Inv-loop μ-loop) → c .before .loop .j < length (in-loop-to-start c .args .days .now)
 row-below c =
     let pre = in-loop-to-start c .pre in
-    count-below _ _ _ _ _ (pre .0) (c .before .loop .inv) (c .loop-test .taken) (pre .1 .0)
+    let ready = pre .0 in
+    let span = pre .1 .0 in
+    count-below _ _ _ _ _ ready (c .before .loop .inv) (c .loop-test .taken) span
 
 -- the numbers of its two accounts have a place, and one more fits
 first-at : (c : tie.After-entry3 Inv-loop μ-loop)
@@ -49,7 +51,9 @@ first-at c =
     let loop-test = c .before .before .before .before .before .before .loop-test in
     let loop = c .before .before .before .before .before .before .before .loop in
     let pre = entry3-to-start c .pre in
-    count-first _ _ _ _ _ (pre .0) (loop .inv) (loop-test .taken) (pre .1 .0) (entry .ensures) (c .entry3 .ensures)
+    let ready = pre .0 in
+    let span = pre .1 .0 in
+    count-first _ _ _ _ _ ready (loop .inv) (loop-test .taken) span (entry .ensures) (c .entry3 .ensures)
 
 second-at : (c : tie.After-entry4 Inv-loop μ-loop)
     → (c .before .before .before .before .before .before .before .before .entry2 .result
@@ -63,7 +67,9 @@ second-at c =
     let loop-test = entry4-to-entry c .before .before .before .loop-test in
     let loop = entry4-to-entry c .before .before .before .before .loop in
     let pre = entry3-to-start (c .before .before .before .before .before .before) .pre in
-    count-second _ _ _ _ _ (pre .0) (loop .inv) (loop-test .taken) (pre .1 .0) (entry .ensures) (entry2 .ensures)
+    let ready = pre .0 in
+    let span = pre .1 .0 in
+    count-second _ _ _ _ _ ready (loop .inv) (loop-test .taken) span (entry .ensures) (entry2 .ensures)
     (entry3 .ensures) (put .ensures) (c .entry4 .ensures)
 
 loop-holds : tie.Need-loop-holds Inv-loop μ-loop
@@ -85,12 +91,14 @@ leads-requires c κs =
 entry-requires : tie.Need-entry-requires Inv-loop μ-loop
 entry-requires c κs =
     let pre = in-loop-to-start (c .before .before) .pre in
-    omega (arith, row-below (c .before .before), pre .0 .sound .firsts)
+    let ready = pre .0 in
+    omega (arith, row-below (c .before .before), ready .sound .firsts)
 
 entry-requires-2 : tie.Need-entry-requires-2 Inv-loop μ-loop
 entry-requires-2 c κs =
     let pre = in-loop-to-start (c .before .before .before) .pre in
-    omega (arith, row-below (c .before .before .before), pre .0 .sound .seconds)
+    let ready = pre .0 in
+    omega (arith, row-below (c .before .before .before), ready .sound .seconds)
 
 entry-requires-3 : tie.Need-entry-requires-3 Inv-loop μ-loop
 entry-requires-3 c κs =
@@ -142,10 +150,11 @@ add-j : tie.Need-add-j Inv-loop μ-loop
 add-j c =
     let pre =
     entry3-to-start (c .before .before .before .before .before .before .before .before .before .before) .pre in
+    let ready = pre .0 in
     omega (
       arith,
       row-below (entry4-to-entry (c .before .before .before .before) .before .before .before),
-      pre .0 .sound .most,
+      ready .sound .most,
     )
 
 loop-less : tie.Need-loop-less Inv-loop μ-loop
@@ -176,7 +185,8 @@ loop-again c =
 add-j-2 : tie.Need-add-j-2 Inv-loop μ-loop
 add-j-2 c =
     let pre = in-loop-to-start (c .before .before) .pre in
-    omega (arith, row-below (c .before .before), pre .0 .sound .most)
+    let ready = pre .0 in
+    omega (arith, row-below (c .before .before), ready .sound .most)
 
 loop-less-2 : tie.Need-loop-less-2 Inv-loop μ-loop
 loop-less-2 c =

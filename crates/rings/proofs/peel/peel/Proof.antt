@@ -18,7 +18,9 @@ remove-rows-from-the-end-requires c κs =
     let pre =
     c .before .before .before .before .before .before .before .before .before .before .before .before .before
     .before .before .before .before .before .before .before .pre in
-    (pre .0, remove-rows-start _ _ _ _ _ (pre .0) (pre .1 .0) (core .ensures))
+    let ready = pre .0 in
+    let span = pre .1 .0 in
+    (ready, remove-rows-start _ _ _ _ _ ready span (core .ensures))
 
 same-length : tie.Need-same-length
 same-length c = search needs

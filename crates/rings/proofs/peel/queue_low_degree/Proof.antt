@@ -32,7 +32,9 @@ queue-to-in-loop c = c .before .before .before .before .before .before .before .
 loop-holds : tie.Need-loop-holds Inv-loop μ-loop
 loop-holds c =
     let pre = c .before .before .before .before .before .before .before .pre in
-    low-degree-start _ _ _ _ _ (pre .0) (pre .1)
+    let ready = pre .0 in
+    let peel-state = pre .1 in
+    low-degree-start _ _ _ _ _ ready peel-state
 
 mul-if1 : tie.Need-mul-if1 Inv-loop μ-loop
 mul-if1 c =
@@ -44,7 +46,8 @@ slice-read-if1 c =
     let loop-test = c .before .loop-test in
     let loop = c .before .before .loop in
     let pre = c .before .before .before .before .before .before .before .before .before .before .pre in
-    low-degree-left _ _ _ _ _ (pre .0) (loop .inv) (loop-test .taken)
+    let ready = pre .0 in
+    low-degree-left _ _ _ _ _ ready (loop .inv) (loop-test .taken)
 
 cast-put : tie.Need-cast-put Inv-loop μ-loop
 cast-put c = omega arith
@@ -54,15 +57,17 @@ put-requires c κs =
     let loop-test = c .before .before .before .before .loop-test in
     let loop = c .before .before .before .before .before .loop in
     let pre = then1-to-start (c .before) .pre in
-    record { place = low-degree-room _ _ _ _ _ (pre .0) (loop .inv) (loop-test .taken) .1; number = omega arith }
+    let ready = pre .0 in
+    record { place = low-degree-room _ _ _ _ _ ready (loop .inv) (loop-test .taken) .1; number = omega arith }
 
 put-requires-2 : tie.Need-put-requires-2 Inv-loop μ-loop
 put-requires-2 c κs =
     let loop-test = c .before .before .before .before .before .before .before .before .loop-test in
     let loop = c .before .before .before .before .before .before .before .before .before .loop in
     let pre = then1-to-start (c .before .before .before .before .before) .pre in
+    let ready = pre .0 in
     record {
-      place = low-degree-room _ _ _ _ _ (pre .0) (loop .inv) (loop-test .taken) .0;
+      place = low-degree-room _ _ _ _ _ ready (loop .inv) (loop-test .taken) .0;
       number = omega (arith, loop-test .taken);
     }
 
@@ -71,7 +76,8 @@ add-tail c =
     let loop-test = queue-to-in-loop (c .before) .loop-test in
     let loop = queue-to-in-loop (c .before) .before .loop in
     let pre = then1-to-start (c .before .before .before .before .before .before .before .before) .pre in
-    let small = low-degree-small _ _ _ _ _ (pre .0) (loop .inv) (loop-test .taken) in omega (arith, small)
+    let ready = pre .0 in
+    let small = low-degree-small _ _ _ _ _ ready (loop .inv) (loop-test .taken) in omega (arith, small)
 
 add-u : tie.Need-add-u Inv-loop μ-loop
 add-u c =
@@ -91,7 +97,8 @@ loop-again c =
     let loop-test = queue-to-in-loop (c .before) .loop-test in
     let loop = queue-to-in-loop (c .before) .before .loop in
     let pre = then1-to-start (c .before .before .before .before .before .before .before .before) .pre in
-    low-degree-removal _ _ _ _ _ (pre .0) (loop .inv) (loop-test .taken) (if1 .taken) (put .ensures) (put2 .ensures)
+    let ready = pre .0 in
+    low-degree-removal _ _ _ _ _ ready (loop .inv) (loop-test .taken) (if1 .taken) (put .ensures) (put2 .ensures)
 
 add-u-2 : tie.Need-add-u-2 Inv-loop μ-loop
 add-u-2 c =
@@ -108,7 +115,8 @@ loop-again-2 c =
     let loop-test = c .before .before .before .loop-test in
     let loop = c .before .before .before .before .loop in
     let pre = c .before .before .before .before .before .before .before .before .before .before .before .before .pre in
-    let if1 = c .if1 in low-degree-keep _ _ _ _ _ (pre .0) (loop .inv) (loop-test .taken) (if1 .left)
+    let ready = pre .0 in
+    let if1 = c .if1 in low-degree-keep _ _ _ _ _ ready (loop .inv) (loop-test .taken) (if1 .left)
 
 same-length : tie.Need-same-length Inv-loop μ-loop
 same-length c =
@@ -124,7 +132,8 @@ returns : tie.Need-returns Inv-loop μ-loop
 returns c =
     let loop = c .before .loop in
     let pre = c .before .before .before .before .before .before .before .before .before .pre in
-    let loop-test = c .loop-test in low-degree-end _ _ _ _ _ (pre .0) (loop .inv) (loop-test .left)
+    let ready = pre .0 in
+    let loop-test = c .loop-test in low-degree-end _ _ _ _ _ ready (loop .inv) (loop-test .left)
 
 pub queue-low-degree-spec : {M : Type 1} → statement M
 queue-low-degree-spec =

@@ -36,45 +36,58 @@ queue-to-else1 c = c .before .before .before .before .before .before .before .be
 entry-requires : tie.Need-entry-requires Inv-loop μ-loop
 entry-requires c κs =
     let pre = c .before .before .before .before .before .before .before .before .pre in
-    head-place _ _ _ _ _ (pre .0) (pre .1)
+    let ready = pre .0 in
+    let head-waits = pre .1 in
+    head-place _ _ _ _ _ ready head-waits
 
 entry-requires-2 : tie.Need-entry-requires-2 Inv-loop μ-loop
 entry-requires-2 c κs =
     let pre = c .before .before .before .before .before .before .before .before .before .pre in
+    let ready = pre .0 in
+    let head-waits = pre .1 in
     let entry = c .entry in
-    omega (arith, removing-small _ _ _ _ _ (pre .0) (pre .1) (entry .ensures), pre .0 .adjacency .long)
+    omega (arith, removing-small _ _ _ _ _ ready head-waits (entry .ensures), ready .adjacency .long)
 
 add-entry : tie.Need-add-entry Inv-loop μ-loop
 add-entry c =
     let pre = entry2-to-start c .pre in
+    let ready = pre .0 in
+    let head-waits = pre .1 in
     let entry = c .before .entry in
-    omega (arith, removing-small _ _ _ _ _ (pre .0) (pre .1) (entry .ensures))
+    omega (arith, removing-small _ _ _ _ _ ready head-waits (entry .ensures))
 
 entry-requires-3 : tie.Need-entry-requires-3 Inv-loop μ-loop
 entry-requires-3 c κs =
     let pre = entry2-to-start c .pre in
+    let ready = pre .0 in
+    let head-waits = pre .1 in
     let entry = c .before .entry in
-    omega (arith, removing-small _ _ _ _ _ (pre .0) (pre .1) (entry .ensures), pre .0 .adjacency .long)
+    omega (arith, removing-small _ _ _ _ _ ready head-waits (entry .ensures), ready .adjacency .long)
 
 loop-holds : tie.Need-loop-holds Inv-loop μ-loop
 loop-holds c =
     let pre = entry2-to-start (c .before) .pre in
+    let ready = pre .0 in
+    let head-waits = pre .1 in
     let entry = c .before .before .entry in
     let entry2 = c .before .entry2 in
     let entry3 = c .entry3 in
-    removing-start _ _ _ _ _ (pre .0) (pre .1) (entry .ensures) (entry2 .ensures) (entry3 .ensures)
+    removing-start _ _ _ _ _ ready head-waits (entry .ensures) (entry2 .ensures) (entry3 .ensures)
 
 row-at-requires : tie.Need-row-at-requires Inv-loop μ-loop
 row-at-requires c κs =
     let pre = entry2-to-start (c .before .before .before) .pre in
+    let ready = pre .0 in
     let loop = c .before .loop in
     let loop-test = c .loop-test in
-    removing-stands _ _ _ _ _ (pre .0) (loop .inv) (loop-test .taken)
+    removing-stands _ _ _ _ _ ready (loop .inv) (loop-test .taken)
 
 add-t21 : tie.Need-add-t21 Inv-loop μ-loop
 add-t21 c =
     let pre = entry2-to-start (c .before .before .before .before .before .before .before) .pre in
-    omega (arith, head-small _ _ _ _ _ (pre .0) (pre .1))
+    let ready = pre .0 in
+    let head-waits = pre .1 in
+    omega (arith, head-small _ _ _ _ _ ready head-waits)
 
 same-length : tie.Need-same-length Inv-loop μ-loop
 same-length c =
@@ -94,28 +107,31 @@ same-length-3 c =
 returns : tie.Need-returns Inv-loop μ-loop
 returns c =
     let pre = entry2-to-start (c .before .before .before .before .before .before .before) .pre in
+    let ready = pre .0 in
     let loop = c .before .before .before .before .before .loop in
     let loop-test = c .before .before .before .before .loop-test in
     let row-at = c .before .before .before .row-at in
     let if1 = c .before .if1 in
-    removing-stop _ _ _ _ _ (pre .0) (loop .inv) (loop-test .taken) (row-at .ensures) (if1 .taken)
+    removing-stop _ _ _ _ _ ready (loop .inv) (loop-test .taken) (row-at .ensures) (if1 .taken)
 
 add-p : tie.Need-add-p Inv-loop μ-loop
 add-p c =
     let pre = entry2-to-start (c .before .before .before .before .before .before) .pre in
+    let ready = pre .0 in
     let loop = c .before .before .before .before .loop in
     let loop-test = c .before .before .before .loop-test in
-    omega (arith, removing-few _ _ _ _ _ (pre .0) (loop .inv) (loop-test .taken))
+    omega (arith, removing-few _ _ _ _ _ ready (loop .inv) (loop-test .taken))
 
 drop-neighbour-requires : tie.Need-drop-neighbour-requires Inv-loop μ-loop
 drop-neighbour-requires c κs =
     let pre = then2-to-start (c .before .before .before) .pre in
+    let ready = pre .0 in
     let loop = c .before .before .before .before .before .before .before .before .before .before .loop in
     let loop-test = c .before .before .before .before .before .before .before .before .before .loop-test in
     let row-at = c .before .before .before .before .before .before .before .before .row-at in
     let if1 = c .before .before .before .before .before .before .if1 in
     let if2 = c .before .before .before .if2 in
-    removing-room _ _ _ _ _ (pre .0) (loop .inv) (loop-test .taken) (row-at .ensures) (if1 .left) (if2 .taken)
+    removing-room _ _ _ _ _ ready (loop .inv) (loop-test .taken) (row-at .ensures) (if1 .left) (if2 .taken)
 
 loop-less : tie.Need-loop-less Inv-loop μ-loop
 loop-less c =
@@ -126,13 +142,14 @@ loop-again : tie.Need-loop-again Inv-loop μ-loop
 loop-again c =
     let pre =
     then2-to-start (c .before .before .before .before .before .before .before .before .before .before) .pre in
+    let ready = pre .0 in
     let loop = queue-to-else1 (c .before) .before .before .before .before .loop in
     let loop-test = queue-to-else1 (c .before) .before .before .before .loop-test in
     let row-at = queue-to-else1 (c .before) .before .before .row-at in
     let if1 = queue-to-else1 (c .before) .if1 in
     let if2 = c .before .before .before .before .before .before .before .before .before .before .if2 in
     let drop-neighbour = c .before .before .before .before .before .before .drop-neighbour in
-    removing-drop _ _ _ _ _ (pre .0) (loop .inv) (loop-test .taken) (row-at .ensures) (if1 .left) (if2 .taken)
+    removing-drop _ _ _ _ _ ready (loop .inv) (loop-test .taken) (row-at .ensures) (if1 .left) (if2 .taken)
     (drop-neighbour .kept .1 .1 .1 .1 .0) (drop-neighbour .kept .1 .1 .1 .1 .1 .0)
     (drop-neighbour .kept .1 .1 .1 .1 .1 .1 .0) (drop-neighbour .ensures)
 
@@ -144,16 +161,19 @@ loop-less-2 c =
 loop-again-2 : tie.Need-loop-again-2 Inv-loop μ-loop
 loop-again-2 c =
     let pre = entry2-to-start (c .before .before .before .before .before .before .before .before .before) .pre in
+    let ready = pre .0 in
     let loop = c .before .before .before .before .before .before .before .loop in
     let loop-test = c .before .before .before .before .before .before .loop-test in
     let row-at = c .before .before .before .before .before .row-at in
     let if2 = c .if2 in
-    removing-skip _ _ _ _ _ (pre .0) (loop .inv) (loop-test .taken) (row-at .ensures) (if2 .left)
+    removing-skip _ _ _ _ _ ready (loop .inv) (loop-test .taken) (row-at .ensures) (if2 .left)
 
 add-t19 : tie.Need-add-t19 Inv-loop μ-loop
 add-t19 c =
     let pre = entry2-to-start (c .before .before .before .before) .pre in
-    omega (arith, head-small _ _ _ _ _ (pre .0) (pre .1))
+    let ready = pre .0 in
+    let head-waits = pre .1 in
+    omega (arith, head-small _ _ _ _ _ ready head-waits)
 
 same-length-4 : tie.Need-same-length-4 Inv-loop μ-loop
 same-length-4 c =
@@ -173,9 +193,10 @@ same-length-6 c =
 returns-2 : tie.Need-returns-2 Inv-loop μ-loop
 returns-2 c =
     let pre = entry2-to-start (c .before .before .before .before) .pre in
+    let ready = pre .0 in
     let loop = c .before .before .loop in
     let loop-test = c .before .loop-test in
-    removing-out _ _ _ _ _ (pre .0) (loop .inv) (loop-test .left)
+    removing-out _ _ _ _ _ ready (loop .inv) (loop-test .left)
 
 pub remove-account-spec : {M : Type 1} → statement M
 remove-account-spec =

@@ -21,7 +21,9 @@ abbrev μ-loop : tie.MeasureT-loop
 loop-holds : tie.Need-loop-holds Inv-loop μ-loop
 loop-holds c =
     let pre = c .before .before .before .before .before .before .before .pre in
-    remove-queued-start _ _ _ _ _ (pre .0) (pre .1)
+    let ready = pre .0 in
+    let peel-state = pre .1 in
+    remove-queued-start _ _ _ _ _ ready peel-state
 
 remove-account-requires : tie.Need-remove-account-requires Inv-loop μ-loop
 remove-account-requires c κs =
@@ -30,7 +32,8 @@ remove-account-requires c κs =
     let pre =
     c .before .before .before .before .before .before .before .before .before .before .before .before
     .before .pre in
-    (pre .0, record { state = loop .inv .goes-on .state; some = if1 .taken })
+    let ready = pre .0 in
+    (ready, record { state = loop .inv .goes-on .state; some = if1 .taken })
 
 loop-less : tie.Need-loop-less Inv-loop μ-loop
 loop-less c =
@@ -41,7 +44,8 @@ loop-less c =
     let pre =
     c .before .before .before .before .before .before .before .before .before .before .before .before .before
     .before .before .before .before .before .before .before .pre in
-    omega (arith, if1 .taken, tail-most _ _ _ _ _ (pre .0) (loop .inv .goes-on .state), remove-account .ensures .head)
+    let ready = pre .0 in
+    omega (arith, if1 .taken, tail-most _ _ _ _ _ ready (loop .inv .goes-on .state), remove-account .ensures .head)
 
 loop-again : tie.Need-loop-again Inv-loop μ-loop
 loop-again c =
@@ -51,7 +55,8 @@ loop-again c =
     let pre =
     c .before .before .before .before .before .before .before .before .before .before .before .before .before
     .before .before .before .before .before .before .before .pre in
-    remove-queued-next _ _ _ _ _ (pre .0) (loop .inv) (remove-account .kept .1 .1 .1 .1 .1 .1 .0)
+    let ready = pre .0 in
+    remove-queued-next _ _ _ _ _ ready (loop .inv) (remove-account .kept .1 .1 .1 .1 .1 .1 .0)
     (remove-account .kept .1 .1 .1 .1 .1 .1 .1 .0)
     (remove-account .kept .1 .1 .1 .1 .1 .1 .1 .1 .0) (remove-account .ensures)
 
@@ -74,7 +79,8 @@ returns : tie.Need-returns Inv-loop μ-loop
 returns c =
     let loop = c .before .before .loop in
     let pre = c .before .before .before .before .before .before .before .before .before .before .pre in
-    let if1 = c .if1 in remove-queued-end _ _ _ _ _ (pre .0) (loop .inv) (if1 .left)
+    let ready = pre .0 in
+    let if1 = c .if1 in remove-queued-end _ _ _ _ _ ready (loop .inv) (if1 .left)
 
 pub remove-queued-spec : {M : Type 1} → statement M
 remove-queued-spec =

@@ -51,39 +51,52 @@ queue2-to-start c =
 sub-j : tie.Need-sub-j
 sub-j c =
     let pre = c .before .before .before .before .before .before .before .pre in
-    omega (arith, pre .1 .some)
+    let row-removable = pre .1 in
+    omega (arith, row-removable .some)
 
 mul-e : tie.Need-mul-e
 mul-e c =
     let pre = c .before .before .before .before .before .before .before .pre in
-    omega (arith, remove-row-below _ _ _ _ _ (pre .0) (pre .1), pre .0 .sound .most)
+    let ready = pre .0 in
+    let row-removable = pre .1 in
+    omega (arith, remove-row-below _ _ _ _ _ ready (row-removable), ready .sound .most)
 
 shared-slice-read-e : tie.Need-shared-slice-read-e
 shared-slice-read-e c =
     let pre = c .before .before .before .before .before .before .before .before .pre in
-    remove-row-below _ _ _ _ _ (pre .0) (pre .1)
+    let ready = pre .0 in
+    let row-removable = pre .1 in
+    remove-row-below _ _ _ _ _ ready row-removable
 
 leads-requires : tie.Need-leads-requires
 leads-requires c κs =
     let pre = c .before .before .before .before .before .before .before .before .pre in
-    remove-row-place _ _ _ _ _ (pre .0) (pre .1) refl
+    let ready = pre .0 in
+    let row-removable = pre .1 in
+    remove-row-place _ _ _ _ _ ready row-removable refl
 
 entry-requires : tie.Need-entry-requires
 entry-requires c κs =
     let pre = c .before .before .before .before .before .before .before .before .before .before .pre in
-    omega (arith, remove-row-below _ _ _ _ _ (pre .0) (pre .1), pre .0 .sound .firsts)
+    let ready = pre .0 in
+    let row-removable = pre .1 in
+    omega (arith, remove-row-below _ _ _ _ _ ready (row-removable), ready .sound .firsts)
 
 entry-requires-2 : tie.Need-entry-requires-2
 entry-requires-2 c κs =
     let pre = entry-to-start c .pre in
-    omega (arith, remove-row-below _ _ _ _ _ (pre .0) (pre .1), pre .0 .sound .seconds)
+    let ready = pre .0 in
+    let row-removable = pre .1 in
+    omega (arith, remove-row-below _ _ _ _ _ ready (row-removable), ready .sound .seconds)
 
 entry-requires-3 : tie.Need-entry-requires-3
 entry-requires-3 c κs =
     let entry2 = c .before .entry2 in
     let entry = c .before .before .entry in
     let pre = entry-to-start (c .before .before) .pre in
-    remove-row-accounts _ _ _ _ _ (pre .0) (pre .1) refl (entry .ensures) (entry2 .ensures) .0
+    let ready = pre .0 in
+    let row-removable = pre .1 in
+    remove-row-accounts _ _ _ _ _ ready row-removable refl (entry .ensures) (entry2 .ensures) .0
 
 same-length : tie.Need-same-length
 same-length c = search needs
@@ -93,15 +106,19 @@ returns c =
     let entry3 = c .before .entry3 in
     let entry = c .before .before .before .before .entry in
     let pre = entry-to-start (c .before .before .before .before) .pre in
+    let ready = pre .0 in
+    let row-removable = pre .1 in
     let if2 = c .if2 in
-    remove-row-a-removed _ _ _ _ _ (pre .0) (pre .1) refl (entry .ensures) (entry3 .ensures) (if2 .taken)
+    remove-row-a-removed _ _ _ _ _ ready row-removable refl (entry .ensures) (entry3 .ensures) (if2 .taken)
 
 entry-requires-4 : tie.Need-entry-requires-4
 entry-requires-4 c κs =
     let entry2 = c .before .before .before .before .entry2 in
     let entry = c .before .before .before .before .before .entry in
     let pre = entry-to-start (c .before .before .before .before .before) .pre in
-    remove-row-accounts _ _ _ _ _ (pre .0) (pre .1) refl (entry .ensures) (entry2 .ensures) .1
+    let ready = pre .0 in
+    let row-removable = pre .1 in
+    remove-row-accounts _ _ _ _ _ ready row-removable refl (entry .ensures) (entry2 .ensures) .1
 
 same-length-2 : tie.Need-same-length-2
 same-length-2 c = search needs
@@ -111,8 +128,10 @@ returns-2 c =
     let entry4 = c .before .entry4 in
     let entry2 = c .before .before .before .before .before .before .entry2 in
     let pre = entry-to-start (c .before .before .before .before .before .before .before) .pre in
+    let ready = pre .0 in
+    let row-removable = pre .1 in
     let if3 = c .if3 in
-    remove-row-b-removed _ _ _ _ _ (pre .0) (pre .1) refl (entry2 .ensures) (entry4 .ensures) (if3 .taken)
+    remove-row-b-removed _ _ _ _ _ ready row-removable refl (entry2 .ensures) (entry4 .ensures) (if3 .taken)
 
 drop-neighbour-requires : tie.Need-drop-neighbour-requires
 drop-neighbour-requires c κs =
@@ -127,7 +146,10 @@ drop-neighbour-requires c κs =
     c .before .before .before .before .before .before .before .before .before .before .before .before .leads in
     let pre =
     entry-to-start (c .before .before .before .before .before .before .before .before .before .before) .pre in
-    remove-row-room-a _ _ _ _ _ (pre .0) (pre .1) refl (leads .ensures) (if1 .taken) (entry .ensures) (entry2 .ensures)
+    let ready = pre .0 in
+    let row-removable = pre .1 in
+    remove-row-room-a _ _ _ _ _ ready row-removable refl (leads .ensures) (if1 .taken) (entry .ensures)
+    (entry2 .ensures)
     (entry3 .ensures) (entry4 .ensures) (if2 .left) (if3 .left)
 
 drop-neighbour-requires-2 : tie.Need-drop-neighbour-requires-2
@@ -142,7 +164,10 @@ drop-neighbour-requires-2 c κs =
     let if1 = left-to-entry2 (c .before .before .before .before .before .before) .before .before .if1 in
     let leads = left-to-entry2 (c .before .before .before .before .before .before) .before .before .before .leads in
     let pre = times-to-start (c .before .before .before .before .before .before .before .before) .pre in
-    remove-row-room-b _ _ _ _ _ (pre .0) (pre .1) refl (leads .ensures) (if1 .taken) (entry .ensures) (entry2 .ensures)
+    let ready = pre .0 in
+    let row-removable = pre .1 in
+    remove-row-room-b _ _ _ _ _ ready row-removable refl (leads .ensures) (if1 .taken) (entry .ensures)
+    (entry2 .ensures)
     (entry3 .ensures) (entry4 .ensures) (if2 .left) (if3 .left) (drop-neighbour .ensures)
 
 remove-queued-requires : tie.Need-remove-queued-requires
@@ -160,9 +185,11 @@ remove-queued-requires c κs =
     let if1 = left2-to-entry2 (c .before .before .before .before .before .before) .before .before .if1 in
     let leads = left2-to-entry2 (c .before .before .before .before .before .before) .before .before .before .leads in
     let pre =
-    queue2-to-start (c .before .before .before .before) .pre in (
-      pre .0,
-      remove-row-now _ _ _ _ _ (pre .0) (pre .1) refl (leads .ensures) (if1 .taken) (entry .ensures) (entry2 .ensures)
+    queue2-to-start (c .before .before .before .before) .pre in
+    let ready = pre .0 in
+    let row-removable = pre .1 in (
+      ready,
+      remove-row-now _ _ _ _ _ ready row-removable refl (leads .ensures) (if1 .taken) (entry .ensures) (entry2 .ensures)
           (entry3 .ensures) (entry4 .ensures) (if2 .left) (if3 .left) (drop-neighbour .ensures)
           (drop-neighbour2 .ensures),
     )
@@ -181,13 +208,17 @@ returns-3 c =
     let remove-queued = c .before .before .before .before .before .before .remove-queued in
     let pre = queue2-to-start (c .before .before .before .before .before .before .before .before .before .before
     .before) .pre in
-    remove-row-left _ _ _ _ _ (pre .0) (pre .1) refl refl refl (remove-queued .ensures)
+    let ready = pre .0 in
+    let row-removable = pre .1 in
+    remove-row-left _ _ _ _ _ ready row-removable refl refl refl (remove-queued .ensures)
 
 returns-4 : tie.Need-returns-4
 returns-4 c =
     let leads = c .before .leads in
     let pre = c .before .before .before .before .before .before .before .before .before .before .pre in
-    let if1 = c .if1 in remove-row-old _ _ _ _ _ (pre .0) (pre .1) refl (leads .ensures) (if1 .left)
+    let ready = pre .0 in
+    let row-removable = pre .1 in
+    let if1 = c .if1 in remove-row-old _ _ _ _ _ ready row-removable refl (leads .ensures) (if1 .left)
 
 pub remove-row-spec : {M : Type 1} → statement M
 remove-row-spec =

@@ -25,14 +25,17 @@ then1-to-start c = c .before .before .before .before .before .before .before .be
 loop-holds : tie.Need-loop-holds Inv-loop μ-loop
 loop-holds c =
     let pre = c .before .before .before .before .before .before .before .pre in
-    removing-rows-start _ _ _ _ _ (pre .0) (pre .1)
+    let ready = pre .0 in
+    let row-removal = pre .1 in
+    removing-rows-start _ _ _ _ _ ready row-removal
 
 remove-row-requires : tie.Need-remove-row-requires Inv-loop μ-loop
 remove-row-requires c κs =
     let if1 = c .before .before .before .if1 in
     let loop = c .before .before .before .before .before .loop in
     let pre = then1-to-start (c .before .before .before) .pre in
-    (pre .0, record { rows-removed = loop .inv .rows-removed; some = if1 .taken })
+    let ready = pre .0 in
+    (ready, record { rows-removed = loop .inv .rows-removed; some = if1 .taken })
 
 loop-less : tie.Need-loop-less Inv-loop μ-loop
 loop-less c =
@@ -45,7 +48,8 @@ loop-again c =
     let loop =
     c .before .before .before .before .before .before .before .before .before .before .before .before .loop in
     let pre = then1-to-start (c .before .before .before .before .before .before .before .before .before .before) .pre in
-    removing-rows-next _ _ _ _ _ (pre .0) (loop .inv) (remove-row .kept .1 .1 .1 .1 .1 .1 .1 .0)
+    let ready = pre .0 in
+    removing-rows-next _ _ _ _ _ ready (loop .inv) (remove-row .kept .1 .1 .1 .1 .1 .1 .1 .0)
     (remove-row .kept .1 .1 .1 .1 .1 .1 .1 .1 .0)
     (remove-row .kept .1 .1 .1 .1 .1 .1 .1 .1 .1 .0) (remove-row .ensures)
 
@@ -68,7 +72,8 @@ returns : tie.Need-returns Inv-loop μ-loop
 returns c =
     let loop = c .before .before .loop in
     let pre = c .before .before .before .before .before .before .before .before .before .before .pre in
-    let if1 = c .if1 in removing-rows-end _ _ _ _ _ (pre .0) (loop .inv) (if1 .left)
+    let ready = pre .0 in
+    let if1 = c .if1 in removing-rows-end _ _ _ _ _ ready (loop .inv) (if1 .left)
 
 sub-end : tie.Need-sub-end Inv-loop μ-loop
 sub-end c =

@@ -54,6 +54,7 @@ mark-rows-requires c κs =
     c .before .before .before .before .before .before .before .before .before .before .before .before
     .prepare-adjacency in
     let pre = times-to-start (c .before .before .before .before .before .before .before .before) .pre in
+    let buffers = pre .1 in
     let whole = pre .0 in
     let asked = whole .asked in (
       whole,
@@ -64,7 +65,7 @@ mark-rows-requires c κs =
             (asked .some-k)
             (asked .last-day) (whole .from)
             ) (asked .ordered) (span-of (asked .ordered) (whole .from) (whole .to)) (core .ensures),
-        pre .1 .marks,
+        buffers .marks,
       ),
     )
 

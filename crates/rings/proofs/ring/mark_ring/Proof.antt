@@ -149,9 +149,8 @@ slice-aggregate-mark-part c =
     let pre = marks-to-start (c .before .before .before .before .before .before) .pre in
     let asked = pre .1 .0 in
     let buffers = pre .1 .1 in
-    let a = args in
-    let o = span-of (asked .ordered) (rows-before .ensures) (rows-before2 .ensures) in room-long (a .days .now)
-    (a .first .now) (a .second .now) _ _ (o .ordered) (o .within) (a .scratch .now) (buffers .scratch)
+    let o = span-of (asked .ordered) (rows-before .ensures) (rows-before2 .ensures) in room-long (args .days .now)
+    (args .first .now) (args .second .now) _ _ (o .ordered) (o .within) (args .scratch .now) (buffers .scratch)
 
 mark-part-requires : tie.Need-mark-part-requires
 mark-part-requires c κs =
@@ -163,7 +162,6 @@ mark-part-requires c κs =
     let sound = pre .0 in
     let asked = pre .1 .0 in
     let buffers = pre .1 .1 in
-    let a = args in
     let l = rows-before in
     let r = rows-before2 in
     let o = span-of (asked .ordered) (l .ensures) (r .ensures) in (
@@ -171,15 +169,15 @@ mark-part-requires c κs =
         sound = part-sound _ _ _ _ _ (o .ordered) (o .within) sound;
         asked = asked;
         lo = refl;
-        from = part-from _ (a .first .now) (a .second .now) _ _ (o .ordered) (o .within) (l .ensures);
-        to = part-to _ (a .first .now) (a .second .now) _ _ (o .ordered) (o .within) (r .ensures);
+        from = part-from _ (args .first .now) (args .second .now) _ _ (o .ordered) (o .within) (l .ensures);
+        to = part-to _ (args .first .now) (args .second .now) _ _ (o .ordered) (o .within) (r .ensures);
       },
       record {
         marks =
-            part-same _ (a .first .now) (a .second .now) _ _ (o .ordered) (o .within) (clear-marks .ensures)
+            part-same _ (args .first .now) (args .second .now) _ _ (o .ordered) (o .within) (clear-marks .ensures)
             (buffers .marks);
         scratch =
-            part-room _ (a .first .now) (a .second .now) _ _ (o .ordered) (o .within) (a .scratch .now)
+            part-room _ (args .first .now) (args .second .now) _ _ (o .ordered) (o .within) (args .scratch .now)
             (buffers .scratch);
       },
     )
@@ -207,17 +205,16 @@ returns c =
     let pre = marks2-to-start (c .before .before .before .before .before .before .before) .pre in
     let asked = pre .1 .0 in
     let buffers = pre .1 .1 in
-    let a = args in
     let l = rows-before in
     let r = rows-before2 in
     let o = span-of (asked .ordered) (l .ensures) (r .ensures) in record {
       marked = record {
         number =
-            part-members (a .days .now) (a .first .now) (a .second .now) (l .result) (r .result) (o .ordered)
-            (o .within) (a .query) (a .start) (a .stop) (l .ensures) (r .ensures) (mark-part .ensures .number);
+            part-members (args .days .now) (args .first .now) (args .second .now) (l .result) (r .result) (o .ordered)
+            (o .within) (args .query) (args .start) (args .stop) (l .ensures) (r .ensures) (mark-part .ensures .number);
         marks =
-            part-marks (a .days .now) (a .first .now) (a .second .now) (l .result) (r .result) (o .ordered)
-            (o .within) (a .query) (a .start) (a .stop) (l .ensures) (r .ensures) (clear-marks .ensures)
+            part-marks (args .days .now) (args .first .now) (args .second .now) (l .result) (r .result) (o .ordered)
+            (o .within) (args .query) (args .start) (args .stop) (l .ensures) (r .ensures) (clear-marks .ensures)
             (buffers .marks) (mark-part .ensures .marks);
       };
       cleared = clear .ensures ∙ ap (λ (m : ℕ). replicate {A = ℕ} m 0) (scratch .given .1);

@@ -22,8 +22,8 @@ returns c =
     let entry2 = c .before .entry2 in
     let entry = c .before .before .entry in
     let args = c .before .before .before .before .before .before .args in
-    let a = args in
-    simp (not-zero (a .times .now) (getD (a .first .now) (a .j) 0) (entry .ensures) (entry2 .ensures) (c .if1 .taken))
+    simp (not-zero (args .times .now) (getD (args .first .now) (args .j) 0) (entry .ensures) (entry2 .ensures)
+    (c .if1 .taken))
 
 entry-requires-3 : tie.Need-entry-requires-3
 entry-requires-3 c κs = search needs
@@ -40,10 +40,10 @@ returns-2 c =
     let entry2 = c .before .before .before .before .entry2 in
     let entry = c .before .before .before .before .before .entry in
     let args = c .before .before .before .before .before .before .before .before .before .args in
-    let a = args in
     simp (
-      is-zero (a .times .now) (getD (a .first .now) (a .j) 0) (entry .ensures) (entry2 .ensures) (if1 .left),
-      not-zero (a .times .now) (getD (a .second .now) (a .j) 0) (entry3 .ensures) (entry4 .ensures) (c .if2 .taken),
+      is-zero (args .times .now) (getD (args .first .now) (args .j) 0) (entry .ensures) (entry2 .ensures) (if1 .left),
+      not-zero (args .times .now) (getD (args .second .now) (args .j) 0) (entry3 .ensures) (entry4 .ensures)
+          (c .if2 .taken),
     )
 
 returns-3 : tie.Need-returns-3
@@ -55,10 +55,10 @@ returns-3 c =
     let entry2 = c .before .before .before .before .entry2 in
     let entry = c .before .before .before .before .before .entry in
     let args = c .before .before .before .before .before .before .before .before .before .args in
-    let a = args in
     simp (
-      is-zero (a .times .now) (getD (a .first .now) (a .j) 0) (entry .ensures) (entry2 .ensures) (if1 .left),
-      is-zero (a .times .now) (getD (a .second .now) (a .j) 0) (entry3 .ensures) (entry4 .ensures) (c .if2 .left),
+      is-zero (args .times .now) (getD (args .first .now) (args .j) 0) (entry .ensures) (entry2 .ensures) (if1 .left),
+      is-zero (args .times .now) (getD (args .second .now) (args .j) 0) (entry3 .ensures) (entry4 .ensures)
+          (c .if2 .left),
     )
 
 pub stays-spec : {M : Type 1} → statement M

@@ -18,35 +18,47 @@ abbrev μ-loop : tie.MeasureT-loop
 entry-requires : tie.Need-entry-requires Inv-loop μ-loop
 entry-requires c κs =
     let pre = c .before .before .before .before .pre in
-    omega (arith, pre .1 .1, pre .1 .0 .long)
+    let pruned = pre .1 .0 in
+    let small = pre .1 .1 in
+    omega (arith, small, pruned .long)
 
 add-entry : tie.Need-add-entry Inv-loop μ-loop
 add-entry c =
     let pre = c .before .before .before .before .before .pre in
-    omega (arith, pre .1 .1)
+    let small = pre .1 .1 in
+    omega (arith, small)
 
 entry-requires-2 : tie.Need-entry-requires-2 Inv-loop μ-loop
 entry-requires-2 c κs =
     let pre = c .before .before .before .before .before .pre in
-    omega (arith, pre .1 .1, pre .1 .0 .long)
+    let pruned = pre .1 .0 in
+    let small = pre .1 .1 in
+    omega (arith, small, pruned .long)
 
 loop-holds : tie.Need-loop-holds Inv-loop μ-loop
 loop-holds c =
     let entry = c .before .entry in
     let pre = c .before .before .before .before .before .before .pre in
-    (entry .ensures, seeking-start _ (pre .1 .0 .pruned-list _ (pre .1 .1)) (c .entry2 .ensures))
+    let pruned = pre .1 .0 in
+    let small = pre .1 .1 in
+    (entry .ensures, seeking-start _ (pruned .pruned-list _ small) (c .entry2 .ensures))
 
 add-entry-2 : tie.Need-add-entry-2 Inv-loop μ-loop
 add-entry-2 c =
     let loop = c .before .loop in
     let pre = c .before .before .before .before .before .before .before .before .pre in
-    omega (arith, loop .inv .0, c .loop-test .taken, (pre .1 .0 .pruned-list _ (pre .1 .1)) .to, pre .0 .most)
+    let sound = pre .0 in
+    let pruned = pre .1 .0 in
+    let small = pre .1 .1 in
+    omega (arith, loop .inv .0, c .loop-test .taken, (pruned .pruned-list _ small) .to, sound .most)
 
 entry-requires-3 : tie.Need-entry-requires-3 Inv-loop μ-loop
 entry-requires-3 c κs =
     let loop = c .before .loop in
     let pre = c .before .before .before .before .before .before .before .before .pre in
-    omega (arith, loop .inv .0, c .loop-test .taken, (pre .1 .0 .pruned-list _ (pre .1 .1)) .to, pre .1 .0 .long)
+    let pruned = pre .1 .0 in
+    let small = pre .1 .1 in
+    omega (arith, loop .inv .0, c .loop-test .taken, (pruned .pruned-list _ small) .to, pruned .long)
 
 returns : tie.Need-returns Inv-loop μ-loop
 returns c =
@@ -54,7 +66,9 @@ returns c =
     let loop-test = c .before .before .loop-test in
     let loop = c .before .before .before .loop in
     let pre = c .before .before .before .before .before .before .before .before .before .before .pre in
-    seeking-found (pre .1 .0 .pruned-list _ (pre .1 .1)) (loop .inv .1) (omega (arith, loop .inv .0, loop-test .taken))
+    let pruned = pre .1 .0 in
+    let small = pre .1 .1 in
+    seeking-found (pruned .pruned-list _ small) (loop .inv .1) (omega (arith, loop .inv .0, loop-test .taken))
     (entry3 .ensures) (c .if1 .taken)
 
 add-p : tie.Need-add-p Inv-loop μ-loop
@@ -62,7 +76,10 @@ add-p c =
     let loop-test = c .before .before .loop-test in
     let loop = c .before .before .before .loop in
     let pre = c .before .before .before .before .before .before .before .before .before .before .pre in
-    omega (arith, loop .inv .0, loop-test .taken, (pre .1 .0 .pruned-list _ (pre .1 .1)) .to, pre .0 .most)
+    let sound = pre .0 in
+    let pruned = pre .1 .0 in
+    let small = pre .1 .1 in
+    omega (arith, loop .inv .0, loop-test .taken, (pruned .pruned-list _ small) .to, sound .most)
 
 loop-less : tie.Need-loop-less Inv-loop μ-loop
 loop-less c =

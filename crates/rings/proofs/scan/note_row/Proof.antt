@@ -15,7 +15,8 @@ one-requires c κs = search needs
 add-t13 : tie.Need-add-t13
 add-t13 c =
     let pre = c .before .pre in
-    omega (arith, pre .0, picked-most (c .one .ensures))
+    let count-small = pre .0 in
+    omega (arith, count-small, picked-most (c .one .ensures))
 
 pick-requires : tie.Need-pick-requires
 pick-requires c κs = search needs
@@ -29,7 +30,8 @@ one-requires-3 c κs = search needs
 add-pick : tie.Need-add-pick
 add-pick c =
     let pre = c .before .before .before .before .pre in
-    omega (arith, pre .1, picked-most (c .one3 .ensures))
+    let more-small = pre .1 in
+    omega (arith, more-small, picked-most (c .one3 .ensures))
 
 pick-requires-2 : tie.Need-pick-requires-2
 pick-requires-2 c κs = search needs
@@ -41,7 +43,8 @@ returns c =
     let pick = c .before .before .before .pick in
     let one = c .before .before .before .before .one in
     let pre = c .before .before .before .before .before .pre in
-    row-noted _ _ _ _ _ _ (pre .2) (one .ensures) (pick .ensures) (one2 .ensures) (one3 .ensures) (c .pick2 .ensures)
+    let rises = pre .2 in
+    row-noted _ _ _ _ _ _ rises (one .ensures) (pick .ensures) (one2 .ensures) (one3 .ensures) (c .pick2 .ensures)
 
 pub note-row-spec : {M : Type 1} → statement M
 note-row-spec =

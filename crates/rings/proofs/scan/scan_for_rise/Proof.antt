@@ -68,26 +68,29 @@ one2-to-greater c = c .before .before .before .before .before .before .before .b
 entry-requires : tie.Need-entry-requires Inv-loop μ-loop
 entry-requires c κs =
     let pre = c .before .before .before .before .before .before .pre in
-    omega (arith, pre .0 .lent .small, pre .0 .lent .opened .pruned .long)
+    let scan-on = pre .0 in
+    omega (arith, scan-on .lent .small, scan-on .lent .opened .pruned .long)
 
 loop-holds : tie.Need-loop-holds Inv-loop μ-loop
 loop-holds c =
     let pre = c .before .before .before .before .before .before .before .pre in
+    let scan-on = pre .0 in
+    let room-behind = pre .1 in
     let entry = c .entry in
     record {
       cursor = entry .ensures;
       rise-scan =
-          rise-scan-start _ _ _ _ _ (pre .0 .lent .opened) _ (pre .0 .lent .long) (pre .0 .lent .days)
-          (pre .0 .lent .small)
-          (pre .0 .in-range) (pre .0 .every) _
-          _ (pre .1 .long) (pre .0 .lent .reading);
+          rise-scan-start _ _ _ _ _ (scan-on .lent .opened) _ (scan-on .lent .long) (scan-on .lent .days)
+          (scan-on .lent .small)
+          (scan-on .in-range) (scan-on .every) _
+          _ (room-behind .long) (scan-on .lent .reading);
       from = le-refl _;
       few = omega (
         arith,
-        pre .0 .lent .reading .to,
-        pre .0 .lent .opened .pruned .pruned-list _ (pre .0 .lent .small)
+        scan-on .lent .reading .to,
+        scan-on .lent .opened .pruned .pruned-list _ (scan-on .lent .small)
             .to,
-        pre .0 .lent .opened .sound .most,
+        scan-on .lent .opened .sound .most,
       );
       room = le-refl _;
     }
@@ -95,10 +98,11 @@ loop-holds c =
 day-at-requires : tie.Need-day-at-requires Inv-loop μ-loop
 day-at-requires c κs =
     let pre = loop-to-start (c .before) .pre in
+    let scan-on = pre .0 in
     let loop = c .before .loop in
     let loop-test = c .loop-test in
     stands-place (
-    reading-stands _ _ _ _ (pre .0 .lent .opened .sound) (pre .0 .lent .opened .pruned) (pre .0 .lent .small)
+    reading-stands _ _ _ _ (scan-on .lent .opened .sound) (scan-on .lent .opened .pruned) (scan-on .lent .small)
     (loop .inv .rise-scan .reading) (loop .inv .cursor) (loop-test .taken)
     )
 
@@ -114,7 +118,8 @@ same-length : tie.Need-same-length Inv-loop μ-loop
 same-length c =
     let loop = c .before .before .before .before .before .loop in
     let pre = loop-to-start (c .before .before .before .before .before) .pre in
-    loop .inv .rise-scan .behind .long ∙ sym (pre .1 .long)
+    let room-behind = pre .1 in
+    loop .inv .rise-scan .behind .long ∙ sym (room-behind .long)
 
 returns : tie.Need-returns Inv-loop μ-loop
 returns c =
@@ -124,31 +129,34 @@ returns c =
     let loop-test = c .before .before .before .before .loop-test in
     let loop = c .before .before .before .before .before .loop in
     let pre = loop-to-start (c .before .before .before .before .before) .pre in
+    let scan-on = pre .0 in
+    let room-behind = pre .1 in
     let row =
-    row-known (reading-stands _ _ _ _ (pre .0 .lent .opened .sound) (pre .0 .lent .opened .pruned) (pre .0 .lent .small)
+    row-known (reading-stands _ _ _ _ (scan-on .lent .opened .sound) (scan-on .lent .opened .pruned)
+    (scan-on .lent .small)
     (loop .inv .rise-scan .reading) (loop .inv .cursor) (loop-test .taken)) _ (day-at .ensures)
     in
     record {
       found =
           record {
             scanned =
-                day-scan-over _ _ _ _ _ (pre .0 .lent .opened) _ (pre .0 .lent .long) (pre .0 .lent .days)
-                (pre .0 .lent .small)
-                (pre .0 .in-range) (pre .0 .every)
+                day-scan-over _ _ _ _ _ (scan-on .lent .opened) _ (scan-on .lent .long) (scan-on .lent .days)
+                (scan-on .lent .small)
+                (scan-on .in-range) (scan-on .every)
                 (as-day-scan (loop .inv .rise-scan)) (loop .inv .cursor) (loop-test .taken) row
                 (is-over .ensures .yes (if1 .taken));
             short-walk = omega (arith, loop .inv .few);
             few =
-                day-scan-most _ _ _ _ _ (pre .0 .lent .opened) _ (pre .0 .lent .long) (pre .0 .lent .days)
-                (pre .0 .lent .small)
-                (pre .0 .in-range) (pre .0 .every)
+                day-scan-most _ _ _ _ _ (scan-on .lent .opened) _ (scan-on .lent .long) (scan-on .lent .days)
+                (scan-on .lent .small)
+                (scan-on .in-range) (scan-on .every)
                 (as-day-scan (loop .inv .rise-scan)) (loop .inv .cursor);
           };
-      within = omega (arith, pre .1 .room, loop .inv .cursor, loop .inv .room, loop-test .taken);
+      within = omega (arith, room-behind .room, loop .inv .cursor, loop .inv .room, loop-test .taken);
       rise-scanned = λ few.
-          rise-scan-over _ _ _ _ _ (pre .0 .lent .opened) _ (pre .0 .lent .long) (pre .0 .lent .days)
-          (pre .0 .lent .small)
-          (pre .0 .in-range) (pre .0 .every) _ _
+          rise-scan-over _ _ _ _ _ (scan-on .lent .opened) _ (scan-on .lent .long) (scan-on .lent .days)
+          (scan-on .lent .small)
+          (scan-on .in-range) (scan-on .every) _ _
           (loop .inv .rise-scan) (loop .inv .cursor) (loop-test .taken) row (is-over .ensures .yes (if1 .taken)) few;
       behind = loop .inv .rise-scan .behind;
     }
@@ -156,9 +164,10 @@ returns c =
 row-at-requires : tie.Need-row-at-requires Inv-loop μ-loop
 row-at-requires c κs =
     let pre = loop-to-start (c .before .before .before .before) .pre in
+    let scan-on = pre .0 in
     let loop = c .before .before .before .before .loop in
     let loop-test = c .before .before .before .loop-test in
-    reading-stands _ _ _ _ (pre .0 .lent .opened .sound) (pre .0 .lent .opened .pruned) (pre .0 .lent .small)
+    reading-stands _ _ _ _ (scan-on .lent .opened .sound) (scan-on .lent .opened .pruned) (scan-on .lent .small)
     (loop .inv .rise-scan .reading) (loop .inv .cursor) (loop-test .taken)
 
 add-p : tie.Need-add-p Inv-loop μ-loop
@@ -166,9 +175,10 @@ add-p c =
     let loop-test = c .before .before .before .before .loop-test in
     let loop = c .before .before .before .before .before .loop in
     let pre = loop-to-start (c .before .before .before .before .before) .pre in
+    let scan-on = pre .0 in
     omega (
       arith,
-      reading-few _ _ _ _ (pre .0 .lent .opened .sound) (pre .0 .lent .opened .pruned) (pre .0 .lent .small)
+      reading-few _ _ _ _ (scan-on .lent .opened .sound) (scan-on .lent .opened .pruned) (scan-on .lent .small)
           (loop .inv .rise-scan .reading)
           (loop .inv .cursor) (loop-test .taken),
     )
@@ -182,7 +192,8 @@ shared-slice-read-x : tie.Need-shared-slice-read-x Inv-loop μ-loop
 shared-slice-read-x c =
     let row-at = c .before .row-at in
     let pre = loop-to-start (c .before .before .before .before .before .before) .pre in
-    omega (arith, row-at .ensures .small, pre .0 .lent .long)
+    let scan-on = pre .0 in
+    omega (arith, row-at .ensures .small, scan-on .lent .long)
 
 greater-requires : tie.Need-greater-requires Inv-loop μ-loop
 greater-requires c κs = search needs
@@ -193,11 +204,12 @@ put-requires c κs =
     let loop-test = c .before .before .before .before .before .before .before .before .loop-test in
     let loop = c .before .before .before .before .before .before .before .before .before .loop in
     let pre = greater-to-start (c .before .before) .pre in
+    let room-behind = pre .1 in
     record {
       place = omega (
         arith,
-        pre .1 .long,
-        pre .1 .room,
+        room-behind .long,
+        room-behind .room,
         loop .inv .cursor,
         loop .inv .rise-scan .behind .long,
         loop .inv .room,
@@ -220,11 +232,12 @@ add-end c =
     let loop = wide-to-else1 c .before .before .before .before .loop in
     let pre = wide-to-start c
     .pre in
+    let room-behind = pre .1 in
     omega (
       arith,
       picked-most (one .ensures),
       wide .ensures,
-      pre .1 .room,
+      room-behind .room,
       loop .inv .cursor,
       loop .inv .room,
       loop-test .taken,
@@ -240,11 +253,13 @@ add-moved c =
     let loop-test = wide-to-else1 (c .before) .before .before .before .loop-test in
     let loop = wide-to-else1 (c .before) .before .before .before .before .loop in
     let pre = wide-to-start (c .before) .pre in
+    let scan-on = pre .0 in
     omega (
       arith,
       picked-most (one2 .ensures),
-      rise-scan-few _ _ _ _ _ (pre .0 .lent .opened) _ (pre .0 .lent .long) (pre .0 .lent .days) (pre .0 .lent .small)
-          (pre .0 .in-range) (pre .0 .every) _ _
+      rise-scan-few _ _ _ _ _ (scan-on .lent .opened) _ (scan-on .lent .long) (scan-on .lent .days)
+          (scan-on .lent .small)
+          (scan-on .in-range) (scan-on .every) _ _
           (loop .inv .rise-scan) (loop .inv .cursor) (loop-test .taken) (row-at .ensures),
     )
 
@@ -254,8 +269,9 @@ note-row-requires c κs =
     let loop-test = wide-to-else1 (c .before) .before .before .before .loop-test in
     let loop = wide-to-else1 (c .before) .before .before .before .before .loop in
     let pre = wide-to-start (c .before) .pre in
-    day-scan-few _ _ _ _ _ (pre .0 .lent .opened) _ (pre .0 .lent .long) (pre .0 .lent .days)
-    (pre .0 .lent .small) (pre .0 .in-range) (pre .0 .every)
+    let scan-on = pre .0 in
+    day-scan-few _ _ _ _ _ (scan-on .lent .opened) _ (scan-on .lent .long) (scan-on .lent .days)
+    (scan-on .lent .small) (scan-on .in-range) (scan-on .every)
     (as-day-scan (loop .inv .rise-scan)) (loop .inv .cursor) (loop-test .taken) (row-at .ensures)
 
 loop-less : tie.Need-loop-less Inv-loop μ-loop
@@ -278,22 +294,24 @@ loop-again c =
     let loop-test = wide-to-else1 (c .before .before) .before .before .before .loop-test in
     let loop = wide-to-else1 (c .before .before) .before .before .before .before .loop in
     let pre = wide-to-start (c .before .before) .pre in
+    let scan-on = pre .0 in
+    let room-behind = pre .1 in
     let day = same-day (row-at .ensures) (day-at .ensures) in
     record {
       cursor = loop .inv .cursor;
       rise-scan =
-          rise-scan-next _ _ _ _ _ (pre .0 .lent .opened) _ (pre .0 .lent .long) (pre .0 .lent .days)
-          (pre .0 .lent .small)
-          (pre .0 .in-range) (pre .0 .every) _ _
+          rise-scan-next _ _ _ _ _ (scan-on .lent .opened) _ (scan-on .lent .long) (scan-on .lent .days)
+          (scan-on .lent .small)
+          (scan-on .in-range) (scan-on .every) _ _
           (loop .inv .rise-scan) (loop .inv .cursor) (loop-test .taken) (row-at .ensures)
-          (⊎-elim (λ h. omega (arith, h, pre .0 .in-range, day)) (λ h. omega (arith, h, day))
+          (⊎-elim (λ h. omega (arith, h, scan-on .in-range, day)) (λ h. omega (arith, h, day))
           (is-over .ensures .not (if1 .left)))
           refl
           (greater .ensures) (note-row .ensures) (one2 .ensures)
           (omega (
             arith,
-            pre .1 .long,
-            pre .1 .room,
+            room-behind .long,
+            room-behind .room,
             loop .inv .cursor,
             loop .inv .rise-scan .behind .long,
             loop .inv .room,
@@ -303,7 +321,7 @@ loop-again c =
       from = omega (arith, loop .inv .from);
       few = omega (
         arith,
-        reading-few _ _ _ _ (pre .0 .lent .opened .sound) (pre .0 .lent .opened .pruned) (pre .0 .lent .small)
+        reading-few _ _ _ _ (scan-on .lent .opened .sound) (scan-on .lent .opened .pruned) (scan-on .lent .small)
             (loop .inv .rise-scan .reading)
             (loop .inv .cursor) (loop-test .taken),
       );
@@ -319,33 +337,36 @@ same-length-2 : tie.Need-same-length-2 Inv-loop μ-loop
 same-length-2 c =
     let loop = c .before .before .loop in
     let pre = loop-to-start (c .before .before) .pre in
-    loop .inv .rise-scan .behind .long ∙ sym (pre .1 .long)
+    let room-behind = pre .1 in
+    loop .inv .rise-scan .behind .long ∙ sym (room-behind .long)
 
 returns-2 : tie.Need-returns-2 Inv-loop μ-loop
 returns-2 c =
     let loop-test = c .before .loop-test in
     let loop = c .before .before .loop in
     let pre = loop-to-start (c .before .before) .pre in
+    let scan-on = pre .0 in
+    let room-behind = pre .1 in
     record {
       found =
           record {
             scanned =
-                day-scan-out _ _ _ _ _ (pre .0 .lent .opened) _ (pre .0 .lent .long) (pre .0 .lent .days)
-                (pre .0 .lent .small)
-                (pre .0 .in-range) (pre .0 .every)
+                day-scan-out _ _ _ _ _ (scan-on .lent .opened) _ (scan-on .lent .long) (scan-on .lent .days)
+                (scan-on .lent .small)
+                (scan-on .in-range) (scan-on .every)
                 (as-day-scan (loop .inv .rise-scan)) (loop .inv .cursor) (loop-test .left);
             short-walk = omega (arith, loop .inv .few);
             few =
-                day-scan-most _ _ _ _ _ (pre .0 .lent .opened) _ (pre .0 .lent .long) (pre .0 .lent .days)
-                (pre .0 .lent .small)
-                (pre .0 .in-range) (pre .0 .every)
+                day-scan-most _ _ _ _ _ (scan-on .lent .opened) _ (scan-on .lent .long) (scan-on .lent .days)
+                (scan-on .lent .small)
+                (scan-on .in-range) (scan-on .every)
                 (as-day-scan (loop .inv .rise-scan)) (loop .inv .cursor);
           };
-      within = omega (arith, pre .1 .room, loop .inv .cursor, loop .inv .room, loop .inv .rise-scan .reading .to);
+      within = omega (arith, room-behind .room, loop .inv .cursor, loop .inv .room, loop .inv .rise-scan .reading .to);
       rise-scanned = λ few.
-          rise-scan-out _ _ _ _ _ (pre .0 .lent .opened) _ (pre .0 .lent .long) (pre .0 .lent .days)
-          (pre .0 .lent .small)
-          (pre .0 .in-range) (pre .0 .every) _ _
+          rise-scan-out _ _ _ _ _ (scan-on .lent .opened) _ (scan-on .lent .long) (scan-on .lent .days)
+          (scan-on .lent .small)
+          (scan-on .in-range) (scan-on .every) _ _
           (loop .inv .rise-scan) (loop .inv .cursor) (loop-test .left);
       behind = loop .inv .rise-scan .behind;
     }

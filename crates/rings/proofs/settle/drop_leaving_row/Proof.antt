@@ -50,25 +50,41 @@ mul-x : tie.Need-mul-x
 mul-x c =
     let entry = c .before .entry in
     let pre = entry2-to-start c .pre in
-    omega (arith, first-small _ _ _ (pre .0 .placed .sound) (pre .1) (entry .ensures))
+    let drop-leaving-asks = pre .0 in
+    let row-below = pre .1 in
+    omega (arith, first-small _ _ _ (drop-leaving-asks .placed .sound) row-below (entry .ensures))
 
 shared-slice-read-x : tie.Need-shared-slice-read-x
 shared-slice-read-x c =
     let entry = c .before .before .entry in
     let pre = entry2-to-start (c .before) .pre in
-    omega (arith, first-small _ _ _ (pre .0 .placed .sound) (pre .1) (entry .ensures), pre .0 .times-long)
+    let drop-leaving-asks = pre .0 in
+    let row-below = pre .1 in
+    omega (
+      arith,
+      first-small _ _ _ (drop-leaving-asks .placed .sound) row-below (entry .ensures),
+      drop-leaving-asks .times-long,
+    )
 
 mul-y : tie.Need-mul-y
 mul-y c =
     let entry2 = c .before .entry2 in
     let pre = entry2-to-start (c .before) .pre in
-    omega (arith, second-small _ _ _ (pre .0 .placed .sound) (pre .1) (entry2 .ensures))
+    let drop-leaving-asks = pre .0 in
+    let row-below = pre .1 in
+    omega (arith, second-small _ _ _ (drop-leaving-asks .placed .sound) row-below (entry2 .ensures))
 
 shared-slice-read-y : tie.Need-shared-slice-read-y
 shared-slice-read-y c =
     let entry2 = c .before .before .entry2 in
     let pre = entry2-to-start (c .before .before) .pre in
-    omega (arith, second-small _ _ _ (pre .0 .placed .sound) (pre .1) (entry2 .ensures), pre .0 .times-long)
+    let drop-leaving-asks = pre .0 in
+    let row-below = pre .1 in
+    omega (
+      arith,
+      second-small _ _ _ (drop-leaving-asks .placed .sound) row-below (entry2 .ensures),
+      drop-leaving-asks .times-long,
+    )
 
 mul-day : tie.Need-mul-day
 mul-day c = search needs
@@ -87,10 +103,12 @@ drop-supporter-requires c κs =
     let entry = c .before .before .before .before .before .before .before .before .entry in
     let if1 = c .before .before .before .before .before .before .before .before .before .before .if1 in
     let pre = entry2-to-start (c .before .before .before .before .before .before .before) .pre in
+    let drop-leaving-asks = pre .0 in
+    let row-below = pre .1 in
     record {
-      slack-long = pre .0 .slack-long;
-      queue-long = pre .0 .queue-long;
-      small = first-small _ _ _ (pre .0 .placed .sound) (pre .1) (entry .ensures);
+      slack-long = drop-leaving-asks .slack-long;
+      queue-long = drop-leaving-asks .queue-long;
+      small = first-small _ _ _ (drop-leaving-asks .placed .sound) row-below (entry .ensures);
       room = omega (arith, if1 .left);
     }
 
@@ -101,13 +119,15 @@ drop-supporter-requires-2 c κs =
     let entry = queue-to-entry2 (c .before .before .before) .before .entry in
     let if1 = queue-to-entry2 (c .before .before .before) .before .before .before .if1 in
     let pre = queue-to-start (c .before .before .before) .pre in
-    let small = first-small _ _ _ (pre .0 .placed .sound) (pre .1) (entry .ensures) in
+    let drop-leaving-asks = pre .0 in
+    let row-below = pre .1 in
+    let small = first-small _ _ _ (drop-leaving-asks .placed .sound) row-below (entry .ensures) in
     record {
-      slack-long = dropped-supporter-less small (pre .0 .slack-long) (drop-supporter .ensures) .long;
+      slack-long = dropped-supporter-less small (drop-leaving-asks .slack-long) (drop-supporter .ensures) .long;
       queue-long =
-          (queued-dropped-supporter small (omega (arith, if1 .left)) (pre .0 .slack-long)
-          (queued-start _ _ _ (pre .0 .queue-long)) (drop-supporter .ensures)) .long;
-      small = second-small _ _ _ (pre .0 .placed .sound) (pre .1) (entry2 .ensures);
+          (queued-dropped-supporter small (omega (arith, if1 .left)) (drop-leaving-asks .slack-long)
+          (queued-start _ _ _ (drop-leaving-asks .queue-long)) (drop-supporter .ensures)) .long;
+      small = second-small _ _ _ (drop-leaving-asks .placed .sound) row-below (entry2 .ensures);
       room = omega (arith, if1 .left, dropped-supporter-on (drop-supporter .ensures));
     }
 
@@ -129,20 +149,24 @@ returns-2 c =
     let if1 = queue2-to-entry2 (c .before) .before .before .before .if1 in
     let args = queue-to-start (c .before .before .before .before .before .before .before .before) .args in
     let pre = queue-to-start (c .before .before .before .before .before .before .before .before) .pre in
-    let sound = pre .0 .placed .sound in
-    let small = first-small _ _ _ sound (pre .1) (entry .ensures) in
+    let drop-leaving-asks = pre .0 in
+    let row-below = pre .1 in
+    let sound = drop-leaving-asks .placed .sound in
+    let small = first-small _ _ _ sound row-below (entry .ensures) in
     record {
-      queued = λ h. queued-dropped-supporter (second-small _ _ _ sound (pre .1) (entry2 .ensures))
+      queued = λ h. queued-dropped-supporter (second-small _ _ _ sound row-below (entry2 .ensures))
           (omega (arith, if1 .left, dropped-supporter-on (drop-supporter .ensures)))
-          (dropped-supporter-less small (pre .0 .slack-long) (drop-supporter .ensures) .long)
-          (queued-dropped-supporter small (omega (arith, if1 .left)) (pre .0 .slack-long)
-          (queued-start _ _ _ (pre .0 .queue-long)) (drop-supporter .ensures))
+          (dropped-supporter-less small (drop-leaving-asks .slack-long) (drop-supporter .ensures) .long)
+          (queued-dropped-supporter small (omega (arith, if1 .left)) (drop-leaving-asks .slack-long)
+          (queued-start _ _ _ (drop-leaving-asks .queue-long)) (drop-supporter .ensures))
           (drop-supporter2 .ensures);
       leaving = λ h sp F.
-          leaving-row _ _ _ _ _ (pre .0 .placed .setting) _ (pre .0 .times-long) (pre .0 .days) F (pre .1)
-          (lead-reads _ _ _ sound (pre .1) _ (args .scratch .now) (pre .0 .placed .paired .pairs) (leads .ensures))
-          (first-is _ _ _ sound (pre .1) (entry .ensures)) (second-is _ _ _ sound (pre .1) (entry2 .ensures))
-          (day-of _ _ _ sound (pre .1) refl) refl refl (loses-supporter .ensures) (loses-supporter2 .ensures)
+          leaving-row _ _ _ _ _ (drop-leaving-asks .placed .setting) _ (drop-leaving-asks .times-long)
+          (drop-leaving-asks .days) F row-below
+          (lead-reads _ _ _ sound row-below _ (args .scratch .now) (drop-leaving-asks .placed .paired .pairs)
+          (leads .ensures))
+          (first-is _ _ _ sound row-below (entry .ensures)) (second-is _ _ _ sound row-below (entry2 .ensures))
+          (day-of _ _ _ sound row-below refl) refl refl (loses-supporter .ensures) (loses-supporter2 .ensures)
           (drop-supporter .ensures) (drop-supporter2 .ensures);
     }
 

@@ -30,13 +30,16 @@ loop-to-start c = c .before .before .before .before .before .before .before .bef
 
 loop-holds : tie.Need-loop-holds Inv-loop μ-loop
 loop-holds c =
-    let pre = c .before .before .before .before .before .before .before .pre in (
-      pre .1 .order,
-      pre .0 .slack-long,
-      pre .0 .queue-long,
+    let pre = c .before .before .before .before .before .before .before .pre in
+    let drop-leaving-asks = pre .0 in
+    let leaving-rows = pre .1 in (
+      leaving-rows .order,
+      drop-leaving-asks .slack-long,
+      drop-leaving-asks .queue-long,
       λ h. (
-        queued-start _ _ _ (pre .0 .queue-long),
-        leaving-start _ _ _ _ _ (pre .0 .placed .setting) _ (pre .0 .times-long) (pre .0 .days) _ (pre .0 .slack-long),
+        queued-start _ _ _ (drop-leaving-asks .queue-long),
+        leaving-start _ _ _ _ _ (drop-leaving-asks .placed .setting) _ (drop-leaving-asks .times-long)
+            (drop-leaving-asks .days) _ (drop-leaving-asks .slack-long),
       ),
     )
 
@@ -44,22 +47,26 @@ drop-leaving-row-requires : tie.Need-drop-leaving-row-requires Inv-loop μ-loop
 drop-leaving-row-requires c κs =
     let loop-test = c .before .before .loop-test in
     let loop = c .before .before .before .loop in
-    let pre = loop-to-start (c .before .before .before) .pre in (
+    let pre = loop-to-start (c .before .before .before) .pre in
+    let drop-leaving-asks = pre .0 in
+    let leaving-rows = pre .1 in (
       record {
-        placed = pre .0 .placed;
-        times-long = pre .0 .times-long;
-        days = pre .0 .days;
+        placed = drop-leaving-asks .placed;
+        times-long = drop-leaving-asks .times-long;
+        days = drop-leaving-asks .days;
         slack-long = loop .inv .1;
         queue-long = loop .inv .2;
       },
-      omega (arith, loop-test .taken, pre .1 .within),
+      omega (arith, loop-test .taken, leaving-rows .within),
     )
 
 add-j : tie.Need-add-j Inv-loop μ-loop
 add-j c =
     let loop-test = c .before .before .before .before .before .before .before .loop-test in
     let pre = loop-to-start (c .before .before .before .before .before .before .before .before) .pre in
-    omega (arith, loop-test .taken, pre .1 .within, pre .0 .placed .sound .most)
+    let drop-leaving-asks = pre .0 in
+    let leaving-rows = pre .1 in
+    omega (arith, loop-test .taken, leaving-rows .within, drop-leaving-asks .placed .sound .most)
 
 loop-less : tie.Need-loop-less Inv-loop μ-loop
 loop-less c =
@@ -84,13 +91,15 @@ same-length : tie.Need-same-length Inv-loop μ-loop
 same-length c =
     let loop = c .before .loop in
     let pre = loop-to-start (c .before) .pre in
-    loop .inv .1 ∙ sym (pre .0 .slack-long)
+    let drop-leaving-asks = pre .0 in
+    loop .inv .1 ∙ sym (drop-leaving-asks .slack-long)
 
 same-length-2 : tie.Need-same-length-2 Inv-loop μ-loop
 same-length-2 c =
     let loop = c .before .loop in
     let pre = loop-to-start (c .before) .pre in
-    loop .inv .2 ∙ sym (pre .0 .queue-long)
+    let drop-leaving-asks = pre .0 in
+    loop .inv .2 ∙ sym (drop-leaving-asks .queue-long)
 
 returns : tie.Need-returns Inv-loop μ-loop
 returns c =

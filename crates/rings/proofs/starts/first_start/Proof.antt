@@ -38,35 +38,43 @@ move-heads-requires : tie.Need-move-heads-requires
 move-heads-requires c κs =
     let build-adjacency = c .before .before .before .build-adjacency in
     let pre = scratch-to-start (c .before .before) .pre in
-    heads-on (pre .0) (build-adjacency .ensures) (pre .1 .1 .0 .starts)
+    let sound = pre .0 in
+    let first-asks = pre .1 .1 .0 in
+    heads-on sound (build-adjacency .ensures) (first-asks .starts)
 
 peel-start-requires : tie.Need-peel-start-requires
 peel-start-requires c κs =
     let move-heads = c .before .before .before .before .before .before .move-heads in
     let pre = scratch-to-start (c .before .before .before .before .before .before .before .before .before) .pre in
+    let sound = pre .0 in
+    let first-asks = pre .1 .1 .0 in
+    let lengths = pre .1 .1 .1 in
     record {
       ready =
-          ready-of (pre .0) (move-heads .ensures .adjacency) (pre .1 .1 .0 .some-k) (pre .1 .1 .0 .in-days)
-          (pre .1 .1 .0 .starts);
-      span = span-after (pre .1 .1 .0 .ordered) (pre .1 .1 .0 .starts) (pre .1 .1 .0 .ends);
-      times-long = pre .1 .1 .1 .times-long;
-      slack-long = pre .1 .1 .1 .slack-long;
-      queue-long = pre .1 .1 .1 .queue-long;
+          ready-of sound (move-heads .ensures .adjacency) (first-asks .some-k) (first-asks .in-days)
+          (first-asks .starts);
+      span = span-after (first-asks .ordered) (first-asks .starts) (first-asks .ends);
+      times-long = lengths .times-long;
+      slack-long = lengths .slack-long;
+      queue-long = lengths .queue-long;
     }
 
 count-times-requires : tie.Need-count-times-requires
 count-times-requires c κs =
     let peel-start = c .before .before .before .before .before .before .before .before .peel-start in
-    let pre = queue-to-start (c .before .before .before) .pre in (
+    let pre = queue-to-start (c .before .before .before) .pre in
+    let sound = pre .0 in
+    let first-asks = pre .1 .1 .0 in
+    let lengths = pre .1 .1 .1 in (
       record {
         known = record {
-          framed = first-framed (pre .0) (pre .1 .1 .0);
-          span = span-after (pre .1 .1 .0 .ordered) (pre .1 .1 .0 .starts) (pre .1 .1 .0 .ends);
+          framed = first-framed sound (first-asks);
+          span = span-after (first-asks .ordered) (first-asks .starts) (first-asks .ends);
           times-are = peel-start .ensures .times-are;
         };
-        in-days = pre .1 .1 .0 .in-days;
+        in-days = first-asks .in-days;
       },
-      pre .1 .1 .1 .counts-long,
+      lengths .counts-long,
     )
 
 prune-requires : tie.Need-prune-requires
@@ -74,7 +82,8 @@ prune-requires c κs =
     let peel-start = counts-to-peel-start (c .before .before .before) .peel-start in
     let move-heads = counts-to-move-heads (c .before .before .before) .move-heads in
     let pre = queue-to-start (c .before .before .before .before .before .before .before .before) .pre in
-    record { sound = pre .0; adjacency = move-heads .ensures .adjacency; times = peel-start .ensures .times-are .long }
+    let sound = pre .0 in
+    record { sound = sound; adjacency = move-heads .ensures .adjacency; times = peel-start .ensures .times-are .long }
 
 same-length : tie.Need-same-length
 same-length c =
@@ -104,14 +113,16 @@ returns c =
     let move-heads = counts-to-move-heads (c .before .before .before .before .before .before) .move-heads in
     let pre = queue-to-start (c .before .before .before .before .before .before .before .before .before .before
     .before) .pre in
+    let sound = pre .0 in
+    let first-asks = pre .1 .1 .0 in
     record {
       inside = record {
         opened =
-            ready-pruned-of (pre .0) (prune .ensures .pruned) (pre .1 .1 .0 .some-k) (pre .1 .1 .0 .in-days)
-            (pre .1 .1 .0 .starts);
+            ready-pruned-of sound (prune .ensures .pruned) (first-asks .some-k) (first-asks .in-days)
+            (first-asks .starts);
         covered = prune .ensures .covered _
             (adjacency-covered (move-heads .ensures .adjacency) _
-            (first-framed (pre .0) (pre .1 .1 .0) .setting .from-lo));
+            (first-framed sound first-asks .setting .from-lo));
         times-are = peel-start .ensures .times-are;
         slacks = peel-start .ensures .slacks;
         timed = count-times .ensures;

@@ -24,17 +24,20 @@ abbrev μ-loop : tie.MeasureT-loop
 loop-holds : tie.Need-loop-holds Inv-loop μ-loop
 loop-holds c =
     let pre = c .before .before .before .before .pre in
-    (omega arith, split-rises (pre .1 .starts) (pre .1 .follows), least-start _ _)
+    let start-asks = pre .1 in
+    (omega arith, split-rises (start-asks .starts) (start-asks .follows), least-start _ _)
 
 row-time-requires : tie.Need-row-time-requires Inv-loop μ-loop
 row-time-requires c κs =
-    let pre = c .before .before .before .before .before .before .pre in (
+    let pre = c .before .before .before .before .before .before .pre in
+    let times-at = pre .0 in
+    let start-asks = pre .1 in (
       record {
-        framed = pre .0 .inside .0;
-        span = span-of (pre .1 .ordered) (pre .1 .starts) (pre .1 .ends);
-        times-are = pre .0 .inside .1;
+        framed = times-at .inside .0;
+        span = span-of (start-asks .ordered) (start-asks .starts) (start-asks .ends);
+        times-are = times-at .inside .1;
       },
-      omega (arith, c .loop-test .taken, pre .1 .follows .within),
+      omega (arith, c .loop-test .taken, start-asks .follows .within),
     )
 
 lesser-requires : tie.Need-lesser-requires Inv-loop μ-loop
@@ -44,7 +47,9 @@ add-j : tie.Need-add-j Inv-loop μ-loop
 add-j c =
     let loop-test = c .before .before .loop-test in
     let pre = c .before .before .before .before .before .before .before .before .pre in
-    omega (arith, loop-test .taken, pre .1 .follows .within, pre .0 .inside .0 .sound .most)
+    let times-at = pre .0 in
+    let start-asks = pre .1 in
+    omega (arith, loop-test .taken, start-asks .follows .within, times-at .inside .0 .sound .most)
 
 loop-less : tie.Need-loop-less Inv-loop μ-loop
 loop-less c =
@@ -65,7 +70,9 @@ returns : tie.Need-returns Inv-loop μ-loop
 returns c =
     let loop = c .before .loop in
     let pre = c .before .before .before .before .before .before .pre in
-    least-end (pre .0 .inside .0) (pre .1 .follows) (loop .inv .1) (c .loop-test .left) (loop .inv .2)
+    let times-at = pre .0 in
+    let start-asks = pre .1 in
+    least-end (times-at .inside .0) (start-asks .follows) (loop .inv .1) (c .loop-test .left) (loop .inv .2)
 
 pub first-time-spec : {M : Type 1} → statement M
 first-time-spec =

@@ -43,27 +43,31 @@ slack2-to-pass-heads c =
 drop-rows-requires : tie.Need-drop-rows-requires
 drop-rows-requires c κs =
     let pre = c .before .before .before .before .before .before .before .before .before .before .pre in
-    let here = pre .0 .inside in (
+    let at-start = pre .0 in
+    let start-asks = pre .1 .0 in
+    let here = at-start .inside in (
       record {
         known = record {
           framed = ready-pruned-framed (here .opened);
-          span = span-of (pre .1 .0 .ordered) (pre .1 .0 .starts) (pre .1 .0 .ends);
+          span = span-of (start-asks .ordered) (start-asks .starts) (start-asks .ends);
           times-are = here .times-are;
         };
-        in-days = pre .1 .0 .in-days;
+        in-days = start-asks .in-days;
       },
-      record { follows = pre .1 .0 .follows; timed = here .timed },
+      record { follows = start-asks .follows; timed = here .timed },
     )
 
 pass-heads-requires : tie.Need-pass-heads-requires
 pass-heads-requires c κs =
     let pre = counts-to-start (c .before .before) .pre in
-    let here = pre .0 .inside in
+    let at-start = pre .0 in
+    let start-asks = pre .1 .0 in
+    let here = at-start .inside in
     record {
       sound = here .opened .sound;
       pruned = here .opened .pruned;
-      ordered = split-rises (pre .1 .0 .starts) (pre .1 .0 .follows);
-      within = pre .1 .0 .follows .within;
+      ordered = split-rises (start-asks .starts) (start-asks .follows);
+      within = start-asks .follows .within;
     }
 
 step-requires : tie.Need-step-requires
@@ -73,19 +77,22 @@ step-requires c κs =
     c .before .before .before .before .before .before .before .before .before .before .before .drop-rows in
     let pre =
     counts-to-start (c .before .before .before .before .before .before .before .before .before .before) .pre in
-    let here = pre .0 .inside in
+    let at-start = pre .0 in
+    let start-asks = pre .1 .0 in
+    let queue-long = pre .1 .1 in
+    let here = at-start .inside in
     record {
       opened =
           ready-pruned-of (here .opened .sound) (pass-heads .ensures .pruned) (here .opened .setting .some-k)
-          (pre .1 .0 .in-days) (pre .1 .0 .follows);
-      ordered = pre .1 .0 .ordered;
-      in-days = pre .1 .0 .in-days;
-      starts = pre .1 .0 .starts;
-      follows = pre .1 .0 .follows;
-      ends = pre .1 .0 .ends;
+          (start-asks .in-days) (start-asks .follows);
+      ordered = start-asks .ordered;
+      in-days = start-asks .in-days;
+      starts = start-asks .starts;
+      follows = start-asks .follows;
+      ends = start-asks .ends;
       times-are = here .times-are;
       slacks = here .slacks;
-      queue-long = pre .1 .1;
+      queue-long = queue-long;
       covered = pass-heads .ensures .covered _ (here .covered);
       counted = λ y. drop-rows .ensures;
     }
@@ -99,7 +106,8 @@ enum-told-2 c = search needs
 next-frame-requires : tie.Need-next-frame-requires
 next-frame-requires c κs =
     let pre = counts2-to-start (c .before .before .before) .pre in
-    omega (arith, pre .1 .0 .ordered, pre .1 .0 .in-days)
+    let start-asks = pre .1 .0 in
+    omega (arith, start-asks .ordered, start-asks .in-days)
 
 first-start-requires : tie.Need-first-start-requires
 first-start-requires c κs =
@@ -111,7 +119,10 @@ first-start-requires c κs =
     let drop-rows = counts2-to-pass-heads (c .before .before .before .before .before .before .before .before
     .before) .before .before .before .before .drop-rows in
     let pre = counts2-to-start (c .before .before .before .before .before .before .before .before .before) .pre in
-    let here = pre .0 .inside in
+    let at-start = pre .0 in
+    let start-asks = pre .1 .0 in
+    let queue-long = pre .1 .1 in
+    let here = at-start .inside in
     rw (next .ensures) (
       here .opened .sound,
       (
@@ -119,15 +130,15 @@ first-start-requires c κs =
         (
           record {
             some-k = here .opened .setting .some-k;
-            ordered = omega (arith, pre .1 .0 .ordered);
-            in-days = pre .1 .0 .in-days;
-            starts = pre .1 .0 .follows;
-            ends = pre .1 .0 .ends;
+            ordered = omega (arith, start-asks .ordered);
+            in-days = start-asks .in-days;
+            starts = start-asks .follows;
+            ends = start-asks .ends;
           },
           record {
             times-long = step .kept .1 .1 .1 .1 .1 .1 .1 .0 ∙ here .times-are .long;
             slack-long = step .kept .1 .1 .1 .1 .1 .1 .1 .1 .0 ∙ here .slacks .long;
-            queue-long = step .kept .1 .1 .1 .1 .1 .1 .1 .1 .1 .0 ∙ pre .1 .1;
+            queue-long = step .kept .1 .1 .1 .1 .1 .1 .1 .1 .1 .0 ∙ queue-long;
             counts-long =
                 step .kept .1 .1 .1 .1 .1 .1 .1 .1 .1 .1 .1 .0
                 ∙ (drop-rows .kept .1 .1 .1 .1 .1 .1 .1 .0 ∙ here .timed .long);
@@ -157,13 +168,15 @@ returns c =
     let step = c .before .before .before .before .before .before .before .before .before .before .step in
     let pass-heads = counts2-to-pass-heads (c .before .before .before) .pass-heads in
     let pre = counts2-to-start (c .before .before .before) .pre in
-    let here = pre .0 .inside in
+    let at-start = pre .0 in
+    let start-asks = pre .1 .0 in
+    let here = at-start .inside in
     let done = rw (enum-told .given .1) at (step .ensures) in
     record {
       inside = record {
         opened =
             ready-pruned-of (here .opened .sound) (pass-heads .ensures .pruned) (here .opened .setting .some-k)
-            (pre .1 .0 .in-days) (pre .1 .0 .follows);
+            (start-asks .in-days) (start-asks .follows);
         covered =
             covered-rise (core-never (here .opened .setting .fits) (here .times-are) (done .times-are)) (le-refl _)
             (pass-heads .ensures .covered _ (here .covered));

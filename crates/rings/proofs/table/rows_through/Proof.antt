@@ -29,7 +29,8 @@ returns : tie.Need-returns Inv-loop μ-loop
 returns c =
     let loop = c .before .before .before .loop in
     let pre = c .before .before .before .before .pre in
-    linear-found (pre .0) (loop .inv) (omega (arith, c .if1 .taken))
+    let never-fall = pre .0 in
+    linear-found never-fall (loop .inv) (omega (arith, c .if1 .taken))
 
 add-r : tie.Need-add-r Inv-loop μ-loop
 add-r c = search needs

@@ -50,7 +50,8 @@ move-heads-requires c κs =
     let pre =
     c .before .before .before .before .before .before .before .before .before .before .before .before
     .before .pre in
-    heads-on (pre .0) (prepare-adjacency .ensures) (rows-before .ensures)
+    let sound = pre .0 in
+    heads-on sound (prepare-adjacency .ensures) (rows-before .ensures)
 
 slice-aggregate-peel : tie.Need-slice-aggregate-peel
 slice-aggregate-peel c = search needs
