@@ -24,8 +24,8 @@ pub(crate) fn day_at(days: &[u16], scratch: &[u16], p: usize) -> u16
     requires { ⌜ PlaceStands (now days) (now scratch) p ⌝ }
     ensures { λ r. ⌜ r ≡ getD (now (days .entry)) (getD (now (scratch .entry)) (8192 + p) 0) 0 ⌝ }
 {
-    let row = entry(scratch, ADJACENCY + p);
-    days[row]
+    let here = entry(scratch, ADJACENCY + p);
+    days[here]
 }
 
 // The row of u that stands at place p of the adjacency. It is inlined: a loop that uses some of the fields reads no

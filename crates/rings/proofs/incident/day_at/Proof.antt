@@ -1,3 +1,4 @@
+use Rattle.rings.proofs.SupporterLaws.{at-place}
 use borrow.Author.Needs.{needs}
 use Rattle.rings.proofs.incident.day_at.Statement.{statement}
 use Rattle.rings.proofs.incident.day_at.Tie as tie
@@ -20,7 +21,8 @@ shared-slice-read-result c = search needs
 returns : tie.Need-returns
 returns c =
     let entry = c .before .entry in
-    let row-is = entry .ensures in cc
+    let args = c .before .before .before .before .args in
+    at-place (args .days .now) (entry .ensures)
 
 pub day-at-spec : {M : Type 1} → statement M
 day-at-spec =
