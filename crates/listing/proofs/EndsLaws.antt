@@ -20,6 +20,7 @@ use Rattle.rings.specs.Words.{_and_, at, consIf}
 use Rattle.rings.specs.Table.{Table}
 use Rattle.rings.specs.Starts.{CountsAt, Earliest}
 use Rattle.rings.specs.declared.Query.{Query}
+use Rattle.rings.specs.declared.frame.Frame.{Frame}
 use Rattle.rings.proofs.WordLaws.{true-or-false, and-r}
 use Rattle.listing.specs.Listing.{ListedRing}
 use Rattle.listing.specs.ListingCall.{Columns, columnsOf}
@@ -125,17 +126,18 @@ module _ (xs : List ℕ) (least s low hi room : ℕ) (p : Passed) (old : Columns
         → Progress room goal (countEntries xs least s s 0 (hi + 1 - s) ++ rest) p lent old
         → Progress room goal (countEntries xs least s e total (hi + 1 - e) ++ rest) (passed (p .count + entries) (p .sum + summed)) lent new
 
-module _ {xs : List ℕ} {least s low hi room : ℕ} {p : Passed} {old : Columns (List ℕ)} (A : EndsAhead xs s low hi room p old) where
+module _ {xs : List ℕ} {f : Frame} {least low room : ℕ} {p : Passed} {old : Columns (List ℕ)} (A : EndsAhead xs f low room p old) where
   -- no row of the first day has a core time in the range
-  pub ends-none : hi < least → EndsListed xs least s hi room p p old old
+  pub ends-none : f .stop < least → EndsListed xs f least room p p old old
   ends-none h =
-      let none : countEntries xs least s s 0 (hi + 1 - s) ≡ [] =
-      none-listed xs least s s 0 (hi + 1 - s) (omega (arith, A .counts .order, A .uncounted .order)) in
+      let none : countEntries xs least (f .start) (f .start) 0 (f .stop + 1 - (f .start)) ≡ [] =
+      none-listed xs least (f .start) (f .start) 0 (f .stop + 1 - (f .start)) (omega (arith, A .counts .order, A .uncounted .order)) in
       record { few = omega arith; small = omega arith; moves = λ goal rest lent P. progress-as (ap (λ (ls : List ListedRing). ls ++ rest) none) P }
 
-  pub ends-start : EndsAt xs least s low hi room p old low 0 0 0 old
+  pub ends-start : EndsAt xs least (f .start) low (f .stop) room p old low 0 0 0 old
   ends-start =
-      let same = none-counted xs least s hi low (low - s) s (A .counts .order) (omega (arith, A .uncounted .order)) (A .uncounted) in
+      let same = none-counted xs least (f .start) (f .stop) low (low - (f .start)) (f .start) (A .counts .order)
+      (omega (arith, A .uncounted .order)) (A .uncounted) in
       record {
         from = le-refl low;
         to = omega (arith, A .counts .order);
@@ -146,16 +148,17 @@ module _ {xs : List ℕ} {least s low hi room : ℕ} {p : Passed} {old : Columns
         moves = λ goal rest lent P. progress-so (omega arith) (omega arith) (progress-as (ap (λ (ls : List ListedRing). ls ++ rest) same) P);
       }
 
-  module _ {e total entries summed : ℕ} {new : Columns (List ℕ)} (E : EndsAt xs least s low hi room p old e total entries summed new) where
+  module _ {e total entries summed : ℕ} {new : Columns (List ℕ)}
+      (E : EndsAt xs least (f .start) low (f .stop) room p old e total entries summed new) where
     -- numbers that stay small
-    pub ends-total : e ≤ hi → total + getD xs e 0 ≤ mostRows
-    ends-total o = omega (arith, E .in-table, sum-next xs hi e o)
+    pub ends-total : e ≤ f .stop → total + getD xs e 0 ≤ mostRows
+    ends-total o = omega (arith, E .in-table, sum-next xs (f .stop) e o)
 
     pub ends-room : Room room new
     ends-room = room-kept (A .columns) (E .lengths)
 
-    module _ (o : e ≤ hi) {b : Bool} (eb : b ≡ (ltb 0 (getD xs e 0) and leb least e)) where
-      pub ends-skip : b ≡ false → EndsAt xs least s low hi room p old (e + 1) (total + getD xs e 0) entries summed new
+    module _ (o : e ≤ f .stop) {b : Bool} (eb : b ≡ (ltb 0 (getD xs e 0) and leb least e)) where
+      pub ends-skip : b ≡ false → EndsAt xs least (f .start) low (f .stop) room p old (e + 1) (total + getD xs e 0) entries summed new
       unfolding consIf
       ends-skip h =
           record {
@@ -163,17 +166,17 @@ module _ {xs : List ℕ} {least s low hi room : ℕ} {p : Passed} {old : Columns
             to = omega arith;
             few = omega (arith, E .from, E .few);
             small = omega (arith, E .from, E .small);
-            in-table = omega (arith, E .in-table, sum-next xs hi e o);
+            in-table = omega (arith, E .in-table, sum-next xs (f .stop) e o);
             lengths = E .lengths;
             moves =
-                λ goal rest lent P. progress-as (ap (λ (ls : List ListedRing). ls ++ rest) (entries-by xs least s hi e total o eb h))
+                λ goal rest lent P. progress-as (ap (λ (ls : List ListedRing). ls ++ rest) (entries-by xs least (f .start) (f .stop) e total o eb h))
                 (E .moves goal rest lent P);
           }
 
       pub ends-one : b ≡ true
           → {new′ : Columns (List ℕ)}
-          → Entering room (p .count + entries) (record { start = s; end = e; rows = total + getD xs e 0 }) new new′
-          → EndsAt xs least s low hi room p old (e + 1) (total + getD xs e 0) (entries + 1) (summed + (total + getD xs e 0)) new′
+          → Entering room (p .count + entries) (record { start = f .start; end = e; rows = total + getD xs e 0 }) new new′
+          → EndsAt xs least (f .start) low (f .stop) room p old (e + 1) (total + getD xs e 0) (entries + 1) (summed + (total + getD xs e 0)) new′
       unfolding consIf
       ends-one h {new′} N =
           record {
@@ -181,22 +184,27 @@ module _ {xs : List ℕ} {least s low hi room : ℕ} {p : Passed} {old : Columns
             to = omega arith;
             few = omega (arith, E .from, E .few);
             small = omega (arith, E .from, E .small, ends-total o);
-            in-table = omega (arith, E .in-table, sum-next xs hi e o);
+            in-table = omega (arith, E .in-table, sum-next xs (f .stop) e o);
             lengths = lengths-on (E .lengths) (entering-places N);
             moves =
                 λ goal rest lent P.
                 progress-so (omega arith) (omega arith)
                 (progress-next _ ends-room
-                (progress-as (ap (λ (ls : List ListedRing). ls ++ rest) (entries-by xs least s hi e total o eb h)) (E .moves goal rest lent P))
+                (progress-as
+                (ap (λ (ls : List ListedRing). ls ++ rest)
+                (entries-by xs least (f .start) (f .stop) e total o eb h))
+                (E .moves goal rest lent P))
                 N);
           }
 
-    pub ends-end : hi < e → EndsListed xs least s hi room p (passed (p .count + entries) (p .sum + summed)) old new
+    pub ends-end : f .stop < e → EndsListed xs f least room p (passed (p .count + entries) (p .sum + summed)) old new
     unfolding countEntries
     ends-end h =
-        let none : hi + 1 - e ≡ 0 = omega arith in
+        let none : f .stop + 1 - e ≡ 0 = omega arith in
         record {
           few = omega (arith, E .to, E .few, A .counts .last);
           small = omega (arith, E .to, E .small, A .counts .last);
-          moves = λ goal rest lent P. progress-as (ap (λ (d : ℕ). countEntries xs least s e total d ++ rest) none) (E .moves goal rest lent P);
+          moves = λ goal rest lent P.
+              progress-as (ap (λ (d : ℕ). countEntries xs least (f .start) e total d ++ rest) none)
+              (E .moves goal rest lent P);
         }

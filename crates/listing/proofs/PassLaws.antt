@@ -17,6 +17,7 @@ use Rattle.listing.specs.Listing.{listing}
 use Rattle.listing.specs.ListingCall.{Columns}
 use Rattle.listing.specs.Inner.{restFrom, FirstCounted, Room, Progress, dayPlaces, mostRows, Counting, EndsAhead, EndsListed, InRange, Passing}
 use Rattle.listing.specs.declared.list.Passed.{Passed}
+use Rattle.rings.specs.declared.frame.Frame.{Frame}
 use Rattle.listing.proofs.StartLaws.{sum-small}
 use Rattle.listing.proofs.ColumnLaws.{SameLengths, same-places, lengths-on, room-kept}
 use Rattle.listing.proofs.ProgressLaws.{passed, progress-start, progress-as}
@@ -60,6 +61,10 @@ module _ (t : Table) (q : Query) (lo hi room : ℕ) (old : Columns (List ℕ)) (
 
     module _ {s row low : ℕ} {p : Passed} {new : Columns (List ℕ)} {scratch times slack queue counts : List ℕ}
         (P : PassAt s row low p new scratch times slack queue counts) where
+      -- the frame that the pass hands to a start's functions
+      abbrev frame : Frame
+      frame = record { query = q; start = s; stop = hi; lo = row }
+
       pub pass-counting : Counting counts low hi
       pass-counting = record { long = start-counts (P .start) .long; order = P .low-to; last = R .to }
 
@@ -74,7 +79,7 @@ module _ (t : Table) (q : Query) (lo hi room : ℕ) (old : Columns (List ℕ)) (
         pass-quiet past = record { whole = progress-as (rest-quiet t q (R .to) past times-on) (P .progress); prepared = start-prepared (P .start) }
 
         module _ (o : s ≤ hi) (within : r ≤ hi) where
-          pub pass-ends : Room room old → EndsAhead counts s r hi room p new
+          pub pass-ends : Room room old → EndsAhead counts frame r room p new
           pass-ends columns =
               record {
                 counts = record { long = start-counts (P .start) .long; order = within; last = R .to };
@@ -86,7 +91,7 @@ module _ (t : Table) (q : Query) (lo hi room : ℕ) (old : Columns (List ℕ)) (
               }
 
           pub pass-next : {least row′ : ℕ} {p′ : Passed} {new′ : Columns (List ℕ)} {scratch′ times′ slack′ queue′ counts′ : List ℕ} → Earliest t q hi s least
-              → EndsListed counts least s hi room p p′ new new′
+              → EndsListed counts frame least room p p′ new new′
               → SameLengths new new′
               → Split (t .days) (s + 1) row′
               → AtStart t q hi (s + 1) row′ scratch′ times′ slack′ counts′

@@ -4,7 +4,8 @@
 --     restFrom t q hi s        the entries that start on s or later
 --   and as the counts of core times say
 --     sumOf xs e m             the sum of xs from e on, m numbers
---     countEntries xs least s e total m    the entries of start s with an end from e on, m days, as the counts xs say; total rows have earlier core times
+--     countEntries xs least s e total m    the entries of start s with an end from e on, m days, as the counts xs
+--                                          say; total rows have earlier core times
 --     Uncounted xs s low       no day from s on is counted in xs before low
 --     FirstCounted xs low hi r    r is the first day from low to hi that is counted in xs, hi + 1 if none is
 --   Columns
@@ -31,6 +32,7 @@ use Rattle.rings.specs.Table.{Table, size}
 use Rattle.rings.specs.Sound.{Sound}
 use Rattle.rings.specs.Starts.{Prepared}
 use Rattle.rings.specs.Windows.{windowsFrom}
+use Rattle.rings.specs.declared.frame.Frame.{Frame}
 use Rattle.rings.specs.Checks.{_when_}
 use Rattle.rings.specs.Buffers.{cleared}
 use Rattle.rings.specs.declared.Query.{Query}
@@ -59,7 +61,8 @@ sumOf xs e (suc m) = at xs e + sumOf xs (suc e) m
 unfoldable pub countEntries : List ℕ → ℕ → ℕ → ℕ → ℕ → ℕ → List ListedRing
 countEntries xs least s e total zero = []
 countEntries xs least s e total (suc m) =
-    consIf (ltb 0 (at xs e) and leb least e) (record { start = s; end = e; rows = total + at xs e }) (countEntries xs least s (suc e) (total + at xs e) m)
+    consIf (ltb 0 (at xs e) and leb least e) (record { start = s; end = e; rows = total + at xs e })
+    (countEntries xs least s (suc e) (total + at xs e) m)
 
 pub record Uncounted (xs : List ℕ) (s low : ℕ) : Type 0 where
   pub order : s ≤ low
@@ -105,20 +108,21 @@ pub record Counting (xs : List ℕ) (low hi : ℕ) : Type 0 where
   pub last : hi ≤ 1024
 
 -- with what 1,024 starts can bring so far, one more start cannot overflow
-pub record EndsAhead (xs : List ℕ) (s low hi room : ℕ) (p : Passed) (c : Columns (List ℕ)) : Type 0 where
-  pub counts : Counting xs low hi
-  pub in-table : sumOf xs low (hi + 1 - low) ≤ mostRows
-  pub uncounted : Uncounted xs s low
+pub record EndsAhead (xs : List ℕ) (f : Frame) (low room : ℕ) (p : Passed) (c : Columns (List ℕ)) : Type 0 where
+  pub counts : Counting xs low (f .stop)
+  pub in-table : sumOf xs low (f .stop + 1 - low) ≤ mostRows
+  pub uncounted : Uncounted xs (f .start) low
   pub columns : Room room c
   pub few : p .count ≤ 1024 * dayPlaces
   pub small : p .sum ≤ 1024 * (dayPlaces * mostRows)
 
 -- a start has at most dayPlaces ends, with at most mostRows rows each
-pub record EndsListed (xs : List ℕ) (least s hi room : ℕ) (p r : Passed) (old new : Columns (List ℕ)) : Type 0 where
+pub record EndsListed (xs : List ℕ) (f : Frame) (least room : ℕ) (p r : Passed) (old new : Columns (List ℕ)) : Type 0 where
   pub few : r .count ≤ p .count + dayPlaces
   pub small : r .sum ≤ p .sum + dayPlaces * mostRows
   pub moves : (goal rest : List ListedRing) (lent : Columns (List ℕ))
-      → Progress room goal (countEntries xs least s s 0 (hi + 1 - s) ++ rest) p lent old → Progress room goal rest r lent new
+      → Progress room goal (countEntries xs least (f .start) (f .start) 0 (f .stop + 1 - f .start) ++ rest) p lent old
+      → Progress room goal rest r lent new
 
 pub record InRange (q : Query) (lo hi : ℕ) : Type 0 where
   pub some : 1 ≤ q .k

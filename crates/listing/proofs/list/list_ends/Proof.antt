@@ -13,15 +13,15 @@ use Rattle.listing.proofs.list.enter.Reads as enter-reads
 use Rattle.listing.proofs.list.is_listed.Reads as is-listed-reads
 
 abbrev Inv-loop : tie.InvT-loop
-Inv-loop s te low least room passed counts starts₀ ends₀ rows₀ entries₀ summed₀ total₀ e₀ starts ends rows entries
-    summed total e =
-    EndsAt counts least s low te room passed (columnsOf starts₀ ends₀ rows₀) e total entries summed
+Inv-loop low least room passed counts starts₀ ends₀ rows₀ start stop entries₀ summed₀ total₀ e₀ starts ends rows
+    entries summed total e =
+    EndsAt counts least start low stop room passed (columnsOf starts₀ ends₀ rows₀) e total entries summed
     (columnsOf starts ends rows)
 
 abbrev μ-loop : tie.MeasureT-loop
-μ-loop s te low least room passed counts starts₀ ends₀ rows₀ entries₀ summed₀ total₀ e₀ starts ends rows entries
-    summed total e =
-    te + 1 - e
+μ-loop low least room passed counts starts₀ ends₀ rows₀ start stop entries₀ summed₀ total₀ e₀ starts ends rows
+    entries summed total e =
+    stop + 1 - e
 
 -- ---- the ways back, from a place of the code to an earlier one
 
@@ -147,16 +147,16 @@ loop-again-2 c =
     ends-one pre (loop .inv) (loop-test .taken) (is-listed .ensures) (not-false _ (if2 .left))
     (enter .ensures)
 
-add-t31 : tie.Need-add-t31 Inv-loop μ-loop
-add-t31 c =
-    let loop = c .before .before .loop in
-    let pre = loop-to-start (c .before .before) .pre in
+add-t33 : tie.Need-add-t33 Inv-loop μ-loop
+add-t33 c =
+    let loop = c .before .before .before .loop in
+    let pre = loop-to-start (c .before .before .before) .pre in
     omega (arith, loop .inv .few, loop .inv .to, pre .few, pre .counts .last)
 
 add-t32 : tie.Need-add-t32 Inv-loop μ-loop
 add-t32 c =
-    let loop = c .before .before .before .loop in
-    let pre = loop-to-start (c .before .before .before) .pre in
+    let loop = c .before .before .loop in
+    let pre = loop-to-start (c .before .before) .pre in
     omega (arith, loop .inv .small, loop .inv .to, pre .small, pre .counts .last)
 
 same-length : tie.Need-same-length Inv-loop μ-loop
@@ -186,4 +186,4 @@ list-ends-spec =
     (
     tie.spec Inv-loop μ-loop returns loop-holds cast-added mul-added shared-slice-read-added add-total
     is-listed-requires add-e loop-less loop-again add-enter enter-requires add-entries cast-summed add-summed
-    add-e-2 loop-less-2 loop-again-2 add-t31 add-t32 same-length same-length-2 same-length-3 returns-2)
+    add-e-2 loop-less-2 loop-again-2 add-t32 add-t33 same-length same-length-2 same-length-3 returns-2)
