@@ -5,7 +5,7 @@
 --     order-accepted, order-refused     a run of checks that all pass; one that refuses at i
 --     all-accepted                  and what an accepted run says of each
 --     Front, front-when, front-then, front-order, front-table, front-call     checks that stand before 9 or are it:
---     their refusals keep the scratch
+--         their refusals keep the scratch
 --     counted-yes, counted-no       the answer of a call that counts
 --     counted-e                     what it says where it is a count
 -- Assumes nothing.

@@ -1,6 +1,6 @@
 -- The loop of `count_neighbours` (src/peel.rt).
 --     counted-start, count-start, count-below, count-place, count-first, count-second, count-skip, count-row    the
---     neighbours
+--         neighbours
 --     counts-for, counts-below     the rows below one that count for an account
 -- Assumes nothing.
 use Prim.Native.Nat.{ℕ, suc, _+_, _-_, _≤_, _<_}

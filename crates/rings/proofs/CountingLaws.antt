@@ -5,7 +5,7 @@
 --     hist-has, hist-drop     one row fewer: it has no time any more
 --     take-place, take-less, take-few, take-end    what `take_from_histogram` does
 --     pending-start, pending-same, pending-has, pending-room, pending-move, pending-end    rows that move to one day
---     are taken off theirs first, and counted there at last
+--         are taken off theirs first, and counted there at last
 --     count-yes, count-no, pendingOn-here, pendingOn-else, pendingOn-none     one row more; what is pending on a day
 --     counted-so, counted-then, counted-added      walks with the flag for counting, one after the other
 -- Assumes nothing.

@@ -5,7 +5,7 @@
 --     heads-on       the heads can go on to a day, from the first rows
 --     setting-of     what peeling works on
 --     ready-of, framed-of, ready-pairs-of, ready-pruned-of, ready-framed, ready-pruned-framed, pruned-paired    with
---     an adjacency, with a part of it, with none
+--         an adjacency, with a part of it, with none
 --     rising-all     days never fall, over any distance
 -- Assumes nothing.
 use Prim.Native.Nat.{ℕ, zero, suc, _+_, _≤_, _<_}

@@ -2,7 +2,7 @@
 --     row-noted                   what `note_row` computes without a branch
 --     both, not-first, not-second, bit-is         two tests at once
 --     DayScanning, day-scan-start, day-scan-out, day-scan-over, day-scan-mark, day-scan-few, day-scan-most     the
---     walk of `scan_on_day` in the adjacency
+--         walk of `scan_on_day` in the adjacency
 -- Assumes nothing.
 use Prim.Native.Nat.{ℕ, max, _+_, _-_, _≤_, _<_}
 use native.Mathlib.Nat.{le-refl}

@@ -1,6 +1,6 @@
 -- From day to day: the first day with k supporters (src/scan.rt, `find_day`).
 --     few-start, find-day-next, find-day-found, find-day-never, find-day-near, short-start, short-next     a scan
---     rises from day to day, and stops at the first with k supporters
+--         rises from day to day, and stops at the first with k supporters
 --     Few, find-day-then     every day before this one has too few; a day that has enough
 -- Assumes nothing.
 use Prim.Native.Nat.{ℕ, _+_, _-_, _≤_, _<_}

@@ -1,10 +1,10 @@
--- The heads of the accounts (src/adjacency.rt): where a walk over the rows of an account begins, from a day on.
+-- The heads of the accounts (src/heads.rt): where a walk over the rows of an account begins, from a day on.
 --     adjacency-by      the adjacency stays while the heads move
 --     adjacency-first   an adjacency that was just made has each head at the account's first row
 --     adjacency-later   heads that stand at a day stand at every later one
 --     Resetting, resetting-start, resetting-next, resetting-end    the heads go back to the first rows
 --     Moving, moving-start, moving-asks, moving-mid, moving-next, moving-end    they pass the rows up to a day, row
---     by row
+--         by row
 --     Else     what lies outside the heads is as before
 --     resetting-few     a head fits 16 bits
 -- Assumes nothing.

@@ -2,7 +2,7 @@
 --     not-walked        who has not been removed has not been walked; where nobody waits, who was removed was
 --     remove-account-start, remove-account-small, remove-account-to, next-small, remove-account-droppable,
 --     remove-account-dropped, remove-account-skip, remove-account-end     the walk over the rows of an account that
---     was removed
+--         was removed
 -- Assumes nothing.
 use Prim.Native.Nat.{ℕ, _+_, _-_, _≤_, _<_}
 use native.Mathlib.Nat.{le-refl, eq-or-lt-of-le, not-suc-le-zero}

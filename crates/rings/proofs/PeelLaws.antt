@@ -6,7 +6,7 @@
 --     within-refl, within-trans     row sets, by inclusion
 --     members-length     a row set has at most as many rows as marks
 --     peel-sized, peel-within, peel-stable, peel-greatest     what is left: a part of the start that passes the test
---     in itself, and the greatest
+--         in itself, and the greatest
 -- Assumes nothing.
 use Prim.Native.Nat.{ℕ, zero, suc, _≤_, _<_}
 use native.Mathlib.Omega.{arith}

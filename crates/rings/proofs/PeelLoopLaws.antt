@@ -90,7 +90,7 @@ pub record Counting (d f s : List ℕ) (q : Frame) (j end : ℕ) (l₀ l : List 
   pub most : j ≤ end
   pub counted : NeighbourCounts (tableOf d f s) (q .lo) j l
 
--- weed: the accounts below u have been tested; none from u on has been removed
+-- queue_low_degree: the accounts below u have been tested; none from u on has been removed
 pub record QueueingLowDegree (d f s : List ℕ) (q : Frame) (u end tail : ℕ) (x₀ w₀ x l w : List ℕ) : Type 0 where
   pub times-length : length x ≡ length x₀
   pub queue-length : length w ≡ length w₀

@@ -1,4 +1,4 @@
--- A walk over an adjacency that may lack rows (specs/Inner/Adjacency.antt, Shelf, Reading).
+-- A walk over an adjacency that may lack rows (specs/Inner/Adjacency.antt, PrunedAdjacency, Reading).
 --     Seeking, seeking-start, seeking-next, seeking-found, seeking-out     where the rows from lo on begin
 --     reading-start                  a walk begins at the head
 --     reading-few                a place before the end lies in the adjacency
@@ -9,7 +9,7 @@
 --     pruned-list-stands, reading-stands    what `row_at` asks of a place
 --     every-rise, covered-rise   times only rise, and rows only leave
 --     adjacency-pruned, adjacency-covered, adjacency-every, none-missing     the whole adjacency is such an
---     adjacency, and lacks nothing
+--         adjacency, and lacks nothing
 -- Assumes nothing.
 use Prim.Native.Nat.{ℕ, suc, _+_, _-_, _*_, _≤_, _<_}
 use native.Mathlib.Nat.{eq-or-lt-of-le}

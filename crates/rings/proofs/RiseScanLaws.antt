@@ -1,9 +1,9 @@
 -- A scan that keeps what a rise needs (src/scan.rt, scan_for_rise): how many rows of u move with it, and who loses it.
 --     moving-e, moving-i      a row of u that comes in by c
 --     rise-scanned-start, rise-scanned-next, rise-scanned-out, rise-scanned-stop       the rows of u, one after the
---     other
+--         other
 --     RiseScanning, as-day-scan, rise-scan-start, rise-scan-out, rise-scan-few, rise-scan-over, rise-scan-next
---     the walk of `scan_for_rise` in the adjacency
+--         the walk of `scan_for_rise` in the adjacency
 --     Moved     what a row that moves with u says
 -- Assumes nothing.
 use Prim.Native.Nat.{ℕ, max, _+_, _-_, _≤_, _<_}

@@ -1,6 +1,6 @@
 -- A scan of an account (src/scan.rt): why the day that it finds is the least with k supporters.
 --     scanned-start, scanned-not-lead, scanned-idle, scanned-note, scanned-count, scanned-stop, scanned-out     the
---     rows of u as they stand on a day
+--         rows of u as they stand on a day
 --     backers-yes, backers-no     one row more, and how many back u
 -- Assumes nothing.
 use Prim.Native.Nat.{ℕ, zero, suc, _+_, _-_, _≤_, _<_}

@@ -1,11 +1,11 @@
 -- Settling one account by the common way (src/settle.rt, `settle_near`), and what stays where nothing changed.
 --     behind-rising, same-short, same-rising, same-covered, same-counted     what is written behind the queue changes
---     nothing
+--         nothing
 --     scanned-on, rise-scanned-on, moving-on     a scan, or a move, on a day that has two names
 --     account-days, account-now, account-never, account-every, account-counts-before-rise        what the loop over
---     its rows asks of it
+--         its rows asks of it
 --     near-day, near-every, near-short, near-same, near-never, near-asks, near-counts, near-small, near-rise     the
---     common way: one walk is enough
+--         common way: one walk is enough
 -- Assumes nothing.
 use Prim.Native.Nat.{ℕ, _+_, _-_, _≤_, _<_}
 use native.Mathlib.Nat.{le-refl, eq-or-lt-of-le}

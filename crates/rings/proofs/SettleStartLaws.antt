@@ -1,6 +1,6 @@
 -- The first and the last state of a start that is settled (src/settle.rt).
 --     split-rises, core-days, settle-start, settle-end from the core times at s, with those waiting who lost a
---     supporter, to the core times at the next start, with nobody waiting
+--         supporter, to the core times at the next start, with nobody waiting
 --     core-never                                       who has no core time keeps none
 --     slack-ones, all-raised                            after a peel nobody is known to have a supporter to spare,
 --                                                       and any time may be another

@@ -1,4 +1,4 @@
--- The earlier row of each row's pair, found by chains of rows whose pairs have the same slot (src/adjacency.rt).
+-- The earlier row of each row's pair, found by chains of rows whose pairs have the same slot (src/pairs.rt).
 --     slot-is                                  what `slot_of` returns
 --     Emptying, emptying-start, emptying-next, emptying-end    the loop of `clear_slots`
 --     slot-hit, slot-gap                       the last row with a slot, and that no later one has it

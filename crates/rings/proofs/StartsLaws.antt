@@ -1,7 +1,7 @@
 -- The starts of a range (specs/Starts.antt): what a part above knows of a state that stays shut, and the loop of
 -- `first_time`.
 --     start-sound, start-prepared, start-times, start-counts    what a start has: an accepted table, a scratch that
---     is ready, the accounts' times, the rows' day counts
+--         is ready, the accounts' times, the rows' day counts
 --     times-long, slack-long                        how long its arrays are
 --     first-framed                                  what a start from nothing works on
 --     Least, least-start, least-next, least-end     the least core time of the rows dated s
