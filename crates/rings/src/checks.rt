@@ -9,6 +9,8 @@ ghost use Rattle.rings.specs.Checks.{_when_, _then_, queryCheck, scratch
 ghost use Rattle.rings.specs.declared.refusal.Refusal.the-variants.{BadLength, BadRange};
 use crate::Query;
 use crate::limits::ADJACENCY;
+use crate::limits::LAST_ACCOUNT;
+use crate::limits::LAST_DAY;
 use crate::refusal::Refusal;
 use crate::refusal::Verdict;
 use crate::table::check_table;
@@ -23,7 +25,7 @@ pub fn is_window(s: u16, e: u16) -> bool
     if e < s {
         return false;
     }
-    e <= 1024
+    e <= LAST_DAY
 }
 
 // 1 ≤ Ts ≤ s ≤ Te ≤ 1,024.
@@ -39,7 +41,7 @@ pub(crate) fn is_start(ts: u16, s: u16, te: u16) -> bool
     if te < s {
         return false;
     }
-    te <= 1024
+    te <= LAST_DAY
 }
 
 // Two pairs of lengths are equal.
@@ -62,7 +64,7 @@ fn check_numbers(rows: usize, query: Query, window: bool, lengths: bool, scratch
     if k < 1 {
         return Verdict::Refused(Refusal::BadK);
     }
-    if 4095 < k {
+    if LAST_ACCOUNT < k {
         return Verdict::Refused(Refusal::BadK);
     }
     if !window {

@@ -9,6 +9,7 @@ ghost use Rattle.rings.specs.Inner.Counting.{AddAsks, RemoveAsks, TakeAs
 use crate::choice::one;
 use crate::choice::pick;
 use crate::frame::Frame;
+use crate::limits::NEVER;
 use crate::slices::clear;
 use crate::slices::wide;
 use crate::times::row_time;
@@ -18,7 +19,7 @@ pub(crate) fn add_count(counts: &mut [u16], time: u16, m: u16)
     requires { ⌜ AddAsks m time (now counts) ⌝ }
     ensures { λ _. ⌜ Adding m time (now (counts .entry)) (now (counts .exit)) ⌝ }
 {
-    if time == 65535 {
+    if time == NEVER {
         return;
     }
     let e = time as usize;
@@ -30,7 +31,7 @@ pub(crate) fn drop_count(counts: &mut [u16], time: u16)
     requires { ⌜ RemoveAsks time (now counts) ⌝ }
     ensures { λ _. ⌜ Removing time (now (counts .entry)) (now (counts .exit)) ⌝ }
 {
-    if time == 65535 {
+    if time == NEVER {
         return;
     }
     let e = time as usize;

@@ -4,6 +4,12 @@
 // No core time: the number that stands for never.
 pub(crate) const NEVER: u16 = 65535;
 
+// Days are 1 to this, and so are the windows and ranges of a query.
+pub(crate) const LAST_DAY: u16 = 1024;
+
+// Accounts are 0 to this. An account can have as many others, so no k is above it.
+pub(crate) const LAST_ACCOUNT: u16 = 4095;
+
 // Accounts: as many cursors stand at the front of the scratch, and as many heads behind them.
 pub(crate) const ACCOUNTS: usize = 4096;
 

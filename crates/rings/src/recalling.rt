@@ -11,10 +11,14 @@ ghost use Rattle.rings.specs.Checks.{_when_, inOrder, rangeCheck};
 ghost use Rattle.rings.specs.RecallCall.{columnsOf, entryCheck, recallAnswer, recallMarks};
 ghost use Rattle.rings.specs.Inner.Recalling.{entryOf, dated, judged, EqualLists, Markable, marksOf};
 ghost use Rattle.rings.specs.declared.refusal.Refusal.the-variants.{BadLength};
+use crate::limits::LAST_DAY;
 use crate::refusal::Refusal;
 use crate::refusal::Verdict;
 use crate::slices::entry;
 use crate::table::check_table;
+
+// The last day, as wide as the numbers of an entry are read.
+const LAST_END: usize = 1024;
 
 // 8: three list columns of one length, and a mark for each row.
 fn check_lengths(rows: usize, starts: usize, ends: usize, places: usize, n: usize) -> Verdict
@@ -42,7 +46,7 @@ fn check_window(s: u16, e: u16) -> Verdict
     if e < s {
         return Verdict::Refused(Refusal::BadRange);
     }
-    if 1024 < e {
+    if LAST_DAY < e {
         return Verdict::Refused(Refusal::BadRange);
     }
     Verdict::Accepted
@@ -84,7 +88,7 @@ fn check_entry(
     if end < day {
         return Verdict::Refused(Refusal::BadEntry(j));
     }
-    if 1024 < end {
+    if LAST_END < end {
         return Verdict::Refused(Refusal::BadEntry(j));
     }
     if j == 0 {

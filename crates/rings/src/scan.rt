@@ -15,6 +15,9 @@ use crate::choice::pick;
 use crate::frame::Frame;
 use crate::incident::day_at;
 use crate::incident::row_at;
+use crate::limits::ACCOUNTS;
+use crate::limits::ADJACENCY;
+use crate::limits::NEVER;
 use crate::slices::entry;
 use crate::slices::put;
 use crate::slices::wide;
@@ -115,7 +118,7 @@ fn scan_on_day(
     let last = entry(scratch, scan.account);
     let mut p = scan.from;
     let mut count = 0;
-    let mut above = 65535;
+    let mut above = NEVER;
     let mut more = 0;
     while p < last {
         let day = day_at(days, scratch, p);
@@ -132,7 +135,7 @@ fn scan_on_day(
         let v = here.other;
         let z = greater(times[v], here.day);
         let noted = note_row(
-            pick(here.leads, z, 65535),
+            pick(here.leads, z, NEVER),
             true,
             scan.day,
             count,
@@ -175,7 +178,7 @@ pub(crate) fn scan_for_rise(
     let last = entry(scratch, scan.account);
     let mut p = scan.from;
     let mut count = 0;
-    let mut above = 65535;
+    let mut above = NEVER;
     let mut more = 0;
     let mut moved = 0;
     let mut end = tail;
@@ -221,7 +224,7 @@ pub(crate) fn slack_above(above: u16, both: u16, k: u16) -> u16
     requires { ⌜ both ≤ 16384 ⌝ }
     ensures { λ r. ⌜ SlackAbove above both k r ⌝ }
 {
-    if above == 65535 {
+    if above == NEVER {
         return 1;
     }
     if both < k {
@@ -248,7 +251,7 @@ pub(crate) fn find_day(
 {
     let mut walked: usize = 0;
     let mut c = scan.day;
-    while c < 65535 {
+    while c < NEVER {
         if scan.budget < walked {
             return FoundDay::GaveUp;
         }
@@ -268,7 +271,7 @@ pub(crate) fn find_day(
             };
         }
         c = outcome.above;
-        if c == 65535 {
+        if c == NEVER {
             return FoundDay::Found {
                 time: c,
                 left: 1,
@@ -306,9 +309,9 @@ pub(crate) fn first_from(
     ensures { λ r. ⌜ Reading (now (scratch .entry)) u lo r ⌝ }
 {
     let last = entry(scratch, u);
-    let mut p = entry(scratch, 4096 + u);
+    let mut p = entry(scratch, ACCOUNTS + u);
     while p < last {
-        let j = entry(scratch, 8192 + p);
+        let j = entry(scratch, ADJACENCY + p);
         if lo <= j {
             return p;
         }

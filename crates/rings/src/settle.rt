@@ -16,6 +16,9 @@ ghost use Rattle.rings.specs.Inner.Worklist.{DropLeavingAsks, DroppedLea
 use crate::frame::Frame;
 use crate::frame::next_frame;
 use crate::histogram::move_in_histogram;
+use crate::limits::ACCOUNTS;
+use crate::limits::NEVER;
+use crate::limits::QUEUE;
 use crate::pairs::leads;
 use crate::peel::peel;
 use crate::scan::FoundDay;
@@ -88,14 +91,14 @@ fn settle_near(
         NearIs r t frame counting list scan lent left) ⌝ }
 {
     let u = scan.account;
-    if scan.day == 65535 {
+    if scan.day == NEVER {
         return Near::Open {
             walked: list.walked,
             day: scan.day,
         };
     }
     let last = entry(scratch, u);
-    if scan.from + 4352 < list.tail + last {
+    if scan.from + QUEUE < list.tail + last {
         return Near::Open {
             walked: list.walked,
             day: scan.day,
@@ -204,7 +207,7 @@ fn settle_far(
         counting,
         counts,
     );
-    if 4352 < end {
+    if QUEUE < end {
         return Attempt::GaveUp;
     }
     Attempt::Settled(Worklist {
@@ -385,8 +388,8 @@ fn drop_leaving_row(
     let x = times[a];
     let y = times[b];
     let day = days[j];
-    let by_a = loses_supporter(x, day, y, 65535);
-    let by_b = loses_supporter(y, day, x, 65535);
+    let by_a = loses_supporter(x, day, y, NEVER);
+    let by_b = loses_supporter(y, day, x, NEVER);
     let mid = drop_supporter(slack, queue, tail, a, leading & by_a);
     drop_supporter(slack, queue, mid, b, leading & by_b)
 }
@@ -436,7 +439,7 @@ fn reset_slack(slack: &mut [u16])
     ensures { λ _. ⌜ EachOne (now (slack .exit)) ⌝ }
 {
     let mut u = 0;
-    while u < 4096 {
+    while u < ACCOUNTS {
         put(slack, u, 1);
         u += 1;
     }
@@ -448,7 +451,7 @@ fn list_all(list: &mut [u16])
     ensures { λ _. ⌜ EachItself (now (list .exit)) ⌝ }
 {
     let mut u = 0;
-    while u < 4096 {
+    while u < ACCOUNTS {
         put(list, u, u);
         u += 1;
     }
@@ -521,7 +524,7 @@ pub(crate) fn step(
         slack,
         queue,
     );
-    if 4352 < waiting {
+    if QUEUE < waiting {
         return Settled::GaveUp;
     }
     let budget = 4 * (end - next);
@@ -597,7 +600,7 @@ pub(crate) fn advance(
                 queue,
             );
             list_all(queue);
-            4096
+            ACCOUNTS
         }
     }
 }

@@ -14,6 +14,7 @@ use crate::heads::move_heads;
 use crate::heads::pass_heads;
 use crate::histogram::count_times;
 use crate::histogram::drop_rows;
+use crate::limits::NEVER;
 use crate::pairs::pair_rows;
 use crate::prune::prune;
 use crate::settle::Settled;
@@ -151,7 +152,7 @@ pub fn first_time(
         let t = tableOf (now (days .entry)) (now (first .entry)) (now (second .entry)) in
         Earliest t (frame .query) (frame .stop) (frame .start) r) ⌝ }
 {
-    let mut least = 65535;
+    let mut least = NEVER;
     let mut j = frame.lo;
     while j < next {
         let time = row_time(days, first, second, frame, end, times, j);

@@ -16,12 +16,13 @@ use crate::frame::Frame;
 use crate::histogram::add_to_histogram;
 use crate::histogram::take_from_histogram;
 use crate::incident::row_at;
+use crate::limits::QUEUE;
 use crate::slices::entry;
 use crate::slices::put;
 use crate::slices::wide;
 
 // Where a queue's end is asked for and it has no place left: one more than it has places.
-pub(crate) const FULL: usize = 4353;
+pub(crate) const FULL: usize = QUEUE + 1;
 
 // An account whose time is z had a supporter with the time old by a row of this day, and has it no more when that has
 // the time new.
@@ -117,7 +118,7 @@ pub(crate) fn drop_supported(
             add_to_histogram(counting, counts, rise.new, moved);
             return end;
         }
-        if 4352 <= end {
+        if QUEUE <= end {
             return FULL;
         }
         p += 1;

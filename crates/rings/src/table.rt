@@ -6,6 +6,8 @@ ghost use Rattle.rings.specs.Table.{tableOf, size, Split};
 ghost use Rattle.rings.specs.Sound.{EqualColumns, NeverFall};
 ghost use Rattle.rings.specs.Checks.{inOrder};
 ghost use Rattle.rings.specs.TableCheck.{rowFaults, rowCheck, tableCheck};
+use crate::limits::LAST_ACCOUNT;
+use crate::limits::LAST_DAY;
 use crate::limits::ROWS;
 use crate::refusal::Refusal;
 use crate::refusal::Verdict;
@@ -17,10 +19,10 @@ fn check_row(j: usize, before: u16, day: u16, a: u16, b: u16) -> Verdict
     if day < 1 {
         return Verdict::Refused(Refusal::BadDay(j));
     }
-    if 1024 < day {
+    if LAST_DAY < day {
         return Verdict::Refused(Refusal::BadDay(j));
     }
-    if 4095 < b {
+    if LAST_ACCOUNT < b {
         return Verdict::Refused(Refusal::BadAccounts(j));
     }
     if b <= a {
