@@ -5,6 +5,9 @@ ghost use Rattle.listing.specs.LongestList.{longest, longestAnswer};
 use rings::Counted;
 use rings::Refusal;
 
+// Days are 1 to this.
+const LAST_DAY: u16 = 1024;
+
 // n(n+1)/2 for n = 0 to 1,024.
 const LONGEST: [u32; 1025] = [
     0,
@@ -1052,7 +1055,7 @@ pub fn longest_list(ts: u16, te: u16) -> Counted
     if te < ts {
         return Counted::Refused(Refusal::BadRange);
     }
-    if 1024 < te {
+    if LAST_DAY < te {
         return Counted::Refused(Refusal::BadRange);
     }
     let days = (te - ts + 1) as usize;
