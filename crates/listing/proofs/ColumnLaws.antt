@@ -10,7 +10,7 @@ use native.Mathlib.Omega.{arith}
 use mathlib.Core.Path.{_≡_, refl, sym, _∙_, ap, subst}
 use mathlib.Core.List.{List, [], _∷_, _++_, map}
 use lib.ListN.{length, set, take, drop, length-append, length-map, length-drop, length-set}
-use lib.Seq.{take-all, take-nil, take-append-le}
+use lib.Seq.{take-all, take-append-le}
 use Rattle.rings.specs.Buffers.{over}
 use Rattle.listing.specs.Listing.{ListedRing}
 use Rattle.listing.specs.ListingCall.{Columns, OneLength, columnsOf, withEntries}

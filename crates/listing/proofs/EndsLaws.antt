@@ -23,9 +23,9 @@ use Rattle.rings.specs.declared.Query.{Query}
 use Rattle.rings.specs.declared.frame.Frame.{Frame}
 use Rattle.rings.proofs.WordLaws.{true-or-false, and-r}
 use Rattle.listing.specs.Listing.{ListedRing}
-use Rattle.listing.specs.ListingCall.{Columns, columnsOf}
+use Rattle.listing.specs.ListingCall.{Columns}
 use Rattle.listing.specs.Inner.{startEntries, sumOf, countEntries, Uncounted, FirstCounted, Room}
-use Rattle.listing.specs.Inner.{Entering, Progress, dayPlaces, mostRows, EndsAhead, EndsListed}
+use Rattle.listing.specs.Inner.{Entering, Progress, mostRows, EndsAhead, EndsListed}
 use Rattle.listing.specs.declared.list.Passed.{Passed}
 use Rattle.listing.proofs.StartLaws.{listed-no, entries-are}
 use Rattle.listing.proofs.ColumnLaws.{SameLengths, same-places, lengths-on, entering-places, room-kept}

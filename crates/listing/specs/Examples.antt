@@ -72,7 +72,11 @@ abbrev pub listed : ℕ → ℕ → ℕ → ListedRing
 listed s e n = record { start = s; end = e; rows = n }
 
 abbrev pub eightEntries : Columns
-eightEntries = record { rows = 0 ∷ 1 ∷ 1 ∷ 2 ∷ 2 ∷ 3 ∷ 4 ∷ 5 ∷ []; starts = 1 ∷ 1 ∷ 2 ∷ 1 ∷ 2 ∷ 2 ∷ 2 ∷ 2 ∷ []; ends = 2 ∷ 2 ∷ 4 ∷ 2 ∷ 4 ∷ 4 ∷ 6 ∷ 6 ∷ [] }
+eightEntries = record {
+  rows = 0 ∷ 1 ∷ 1 ∷ 2 ∷ 2 ∷ 3 ∷ 4 ∷ 5 ∷ [];
+  starts = 1 ∷ 1 ∷ 2 ∷ 1 ∷ 2 ∷ 2 ∷ 2 ∷ 2 ∷ [];
+  ends = 2 ∷ 2 ∷ 4 ∷ 2 ∷ 4 ∷ 4 ∷ 6 ∷ 6 ∷ [];
+}
 
 pub record StarredRows : Type 0 where
   -- "Start 1: accounts 1, 2, 3 have 2, account 4 has 6. Rows 0 to 5: 2, 2, 2, 4, 6, 6": every other account has no row

@@ -4,7 +4,7 @@
 --     span-after, span-of      the rows of a window
 --     heads-on       the heads can go on to a day, from the first rows
 --     setting-of     what peeling works on
---     ready-of, framed-of, ready-pairs-of, ready-pruned-of, ready-framed, ready-pruned-framed, pruned-paired    with
+--     ready-of, framed-of, ready-pairs-of, ready-pruned-of, ready-pruned-framed, pruned-paired    with
 --         an adjacency, with a part of it, with none
 --     rising-all     days never fall, over any distance
 -- Assumes nothing.
@@ -184,9 +184,6 @@ pub ready-pruned-of : {d f s scratch : List ℕ} {q : Query} {start stop lo : �
 ready-pruned-of S L one top a = record { sound = S; pruned = L; within = a .within; setting = setting-of S one top a }
 
 -- what is left of it without the adjacency
-pub ready-framed : {d f s scratch : List ℕ} {p : Frame} → Ready d f s scratch p → Framed d f s p
-ready-framed R = record { sound = R .sound; setting = R .setting }
-
 pub ready-pruned-framed : {d f s scratch : List ℕ} {p : Frame} → ReadyPruned d f s scratch p → Framed d f s p
 ready-pruned-framed R = record { sound = R .sound; setting = R .setting }
 
