@@ -12,7 +12,7 @@
  * always writes the numbers that it is lent pointers to:
  *   place   a row for 3, 4, 5; a list entry from 0 for 14; a line counted
  *           from 1 for 11, 12, 13; 0 for every other refusal and on success
- *   count, sum, length   0 on a refusal
+ *   count, sum, empty, length   0 on a refusal
  *
  * Slices are a pointer and a number of ELEMENTS (never of bytes). The pointer
  * of an empty slice may be NULL. No two slices of one call may overlap where
@@ -129,17 +129,23 @@ uint32_t rumbleog_minimal_windows(RUMBLEOG_TABLE,
                                   uint64_t *place, uint64_t *count);
 
 /* Lists the distinct rings of the range [ts, te], each by its first and last
- * row day and its number of rows: columns start, end, rows, by start, then
- * end. Checks: as rumbleog_minimal_windows. count: rings; sum: the sum of the
- * column rows. With room for rumbleog_longest_list's count the rings are found
- * in one pass; with less they are counted first. */
+ * row day, its number of rows and the number of windows of the range whose
+ * ring it is: columns start, end, rows, windows, by start, then end.
+ * Checks: the table's; 6; 7 not 1 <= ts <= te <= 1,024; 8 any two of the four
+ * columns differ in length; 9; 10 more rings than the columns hold. count:
+ * rings; sum: the sum of the column rows; empty: the windows of the range with
+ * no ring. The column windows and empty add up to n(n+1)/2 for n days. Places
+ * past the count keep their contents. With room for rumbleog_longest_list's
+ * count the rings are found in one pass; with less they are counted first. */
 uint32_t rumbleog_listing(RUMBLEOG_TABLE,
                           uint16_t k, uint16_t ts, uint16_t te,
                           uint16_t *start, size_t start_length,
                           uint16_t *end, size_t end_length,
                           uint16_t *rows, size_t rows_length,
+                          uint32_t *windows, size_t windows_length,
                           uint16_t *scratch, size_t scratch_length,
-                          uint64_t *place, uint64_t *count, uint64_t *sum);
+                          uint64_t *place, uint64_t *count, uint64_t *sum,
+                          uint64_t *empty);
 
 /* Marks the rows with a listed window inside [s, e]: 1, every other 0. With
  * the minimal windows of a query (cut at their count) and a window inside its

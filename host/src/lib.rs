@@ -77,6 +77,8 @@ pub struct Listed {
     pub count: u64,
     /// Sum of their numbers of rows.
     pub sum: u64,
+    /// Number of windows of the range with no ring.
+    pub empty: u64,
 }
 
 /// A minimal-window list: columns row, start, end.
@@ -167,7 +169,9 @@ pub fn minimal_windows(
 }
 
 /// Distinct rings of the range by start, then end, each with its first and last
-/// row day and its number of rows. Refuses 1 to 10.
+/// row day, its number of rows and the number of windows of the range whose
+/// ring it is. Refuses 1 to 10.
+#[allow(clippy::too_many_arguments)]
 pub fn listing(
     table: Table,
     query: Query,
@@ -175,14 +179,16 @@ pub fn listing(
     start: &mut [u16],
     end: &mut [u16],
     rows: &mut [u16],
+    windows: &mut [u32],
     scratch: &mut [u16],
 ) -> Result<Listed, Refusal> {
-    let (mut place, mut count, mut sum) = (0, 0, 0);
+    let (mut place, mut count, mut sum, mut empty) = (0, 0, 0, 0);
     let number = raw::listing(
-        table, query, range, start, end, rows, scratch, &mut place, &mut count, &mut sum,
+        table, query, range, start, end, rows, windows, scratch, &mut place, &mut count, &mut sum,
+        &mut empty,
     );
     judged(number, place)?;
-    Ok(Listed { count, sum })
+    Ok(Listed { count, sum, empty })
 }
 
 /// Marks the rows with a listed window inside the window asked for. Refuses 1

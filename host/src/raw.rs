@@ -108,11 +108,14 @@ macro_rules! c_functions {
                 end_length: usize,
                 rows: *mut u16,
                 rows_length: usize,
+                windows: *mut u32,
+                windows_length: usize,
                 scratch: *mut u16,
                 scratch_length: usize,
                 place: *mut u64,
                 count: *mut u64,
                 sum: *mut u64,
+                empty: *mut u64,
             )
 
             recall(
@@ -370,10 +373,12 @@ macro_rules! foreign_calls {
             start: &mut [u16],
             end: &mut [u16],
             rows: &mut [u16],
+            windows: &mut [u32],
             scratch: &mut [u16],
             place: &mut u64,
             count: &mut u64,
             sum: &mut u64,
+            empty: &mut u64,
         ) -> u32 {
             // SAFETY: live slices, each with its own length; what is written is borrowed alone.
             unsafe {
@@ -393,11 +398,14 @@ macro_rules! foreign_calls {
                     end.len(),
                     rows.as_mut_ptr(),
                     rows.len(),
+                    windows.as_mut_ptr(),
+                    windows.len(),
                     scratch.as_mut_ptr(),
                     scratch.len(),
                     place,
                     count,
                     sum,
+                    empty,
                 )
             }
         }

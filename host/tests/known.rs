@@ -16,16 +16,34 @@ fn windows(table: &Owned, k: u16, range: Days) -> Vec<(u16, u16, u16)> {
     (0..count as usize).map(|i| (a[i], b[i], c[i])).collect()
 }
 
-fn rings(table: &Owned, k: u16, range: Days) -> (Vec<(u16, u16, u16)>, u64) {
+/// The listing through the wrapper, cut at its count: every window is behind one
+/// ring, or has none.
+fn listed(table: &Owned, k: u16, range: Days) -> (Vec<brute::Listed>, lib::Listed) {
     let mut columns = [vec![0; 4_000], vec![0; 4_000], vec![0; 4_000]];
     let [a, b, c] = &mut columns;
+    let mut d = vec![0; 4_000];
     let mut scratch = vec![0xabcd; lib::scratch_for(table.rows())];
-    let query = Query { k };
-    let listed = lib::listing(table.lend(), query, range, a, b, c, &mut scratch).unwrap();
-    let list = (0..listed.count as usize)
-        .map(|i| (a[i], b[i], c[i]))
+    let (lent, query, days) = (table.lend(), Query { k }, range.clone());
+    let told = lib::listing(lent, query, days, a, b, c, &mut d, &mut scratch).unwrap();
+    let list: Vec<_> = (0..told.count as usize)
+        .map(|i| (a[i], b[i], c[i], d[i]))
         .collect();
-    (list, listed.sum)
+    let behind: u64 = list.iter().map(|ring| u64::from(ring.3)).sum();
+    let days = range.count() as u64;
+    assert_eq!(behind + told.empty, days * (days + 1) / 2);
+    (list, told)
+}
+
+fn rings(table: &Owned, k: u16, range: Days) -> (Vec<(u16, u16, u16)>, u64) {
+    let (list, told) = listed(table, k, range);
+    let list = list.into_iter().map(|(s, e, rows, _)| (s, e, rows));
+    (list.collect(), told.sum)
+}
+
+/// The windows behind each ring, and those with none.
+fn windows_behind(table: &Owned, k: u16, range: Days) -> (Vec<u32>, u64) {
+    let (list, told) = listed(table, k, range);
+    (list.into_iter().map(|ring| ring.3).collect(), told.empty)
 }
 
 fn times(table: &Owned, k: u16, range: Days, start: u16) -> (Vec<u16>, Vec<u16>) {
@@ -109,6 +127,100 @@ fn season_rings() {
                     \x20   2    6    4     5\n";
     assert_eq!(&out[..length], expected.as_bytes());
     assert!(out[length..].iter().all(|&byte| byte == b'#'));
+}
+
+/// 02, S-1: "In 01's example they are 2, 2, 1, 2, 1 and 13."
+#[test]
+fn season_windows_behind_rings() {
+    let table = season();
+    assert_eq!(windows_behind(&table, 2, 1..=6), (vec![2, 2, 1, 2, 1], 13));
+    assert_eq!(windows_behind(&table, 3, 1..=6), (vec![], 21));
+    // Nothing is dated 3: as a last day it counts for day 2, as a first day for day 4.
+    let every_pair = vec![1, 2, 1, 1, 1, 2, 1, 1, 1, 2, 2, 2, 1, 1, 1];
+    assert_eq!(windows_behind(&table, 1, 1..=6), (every_pair, 1));
+    assert_eq!(windows_behind(&table, 2, 7..=1_024), (vec![], 518_671));
+}
+
+/// The ring of day 2 stays from start 2 on till day 4, but from start 1 on only
+/// till day 2: a payment of day 1 joins on day 3. The next ring listed is day 5's.
+#[test]
+fn windows_up_to_the_next_core_time() {
+    let table = Owned::of(&[
+        (1, 4, 5),
+        (2, 1, 2),
+        (2, 1, 3),
+        (2, 2, 3),
+        (3, 4, 6),
+        (3, 5, 6),
+        (5, 7, 8),
+        (5, 7, 9),
+        (5, 8, 9),
+    ]);
+    let list = vec![
+        (1, 3, 6, 2),
+        (1, 5, 9, 1),
+        (2, 2, 3, 4),
+        (2, 5, 6, 1),
+        (5, 5, 3, 3),
+    ];
+    let (got, told) = listed(&table, 2, 1..=5);
+    assert_eq!(got, list);
+    assert_eq!(told.empty, 4);
+}
+
+#[test]
+fn windows_over_days_without_rows() {
+    let on = |days: &[u16]| {
+        let mut table = Owned::default();
+        for &day in days {
+            table.push(day, 1, 2);
+            table.push(day, 1, 3);
+            table.push(day, 2, 3);
+        }
+        table
+    };
+    // A triangle on days 1 and 4: [1,1] lasts to day 3, [4,4] from day 2 on.
+    let twice = on(&[1, 4]);
+    let list = vec![(1, 1, 3), (1, 4, 6), (4, 4, 3)];
+    assert_eq!(rings(&twice, 2, 1..=6), (list, 12));
+    assert_eq!(windows_behind(&twice, 2, 1..=6), (vec![3, 3, 9], 6));
+    assert_eq!(windows_behind(&twice, 2, 1..=4), (vec![3, 1, 3], 3));
+    assert_eq!(windows_behind(&twice, 2, 2..=6), (vec![9], 6));
+    assert_eq!(windows_behind(&twice, 2, 1..=3), (vec![3], 3));
+    assert_eq!(windows_behind(&twice, 2, 2..=3), (vec![], 3));
+    assert_eq!(windows_behind(&twice, 2, 5..=1_024), (vec![], 520_710));
+    // Days before the first payment and after the last one.
+    let once = on(&[3]);
+    assert_eq!(windows_behind(&once, 2, 1..=9), (vec![21], 24));
+    assert_eq!(windows_behind(&once, 2, 1..=3), (vec![3], 3));
+    assert_eq!(windows_behind(&once, 2, 3..=9), (vec![7], 21));
+    // Rows that are in no ring leave between: they change no window.
+    let mut idle = on(&[1]);
+    idle.push(2, 7, 8);
+    idle.push(3, 1, 2);
+    for pair in [(1, 2), (1, 3), (2, 3)] {
+        idle.push(5, pair.0, pair.1);
+    }
+    let list = vec![(1, 1, 3), (1, 3, 4), (1, 5, 7), (3, 5, 4), (5, 5, 3)];
+    assert_eq!(rings(&idle, 2, 1..=6), (list, 21));
+    assert_eq!(
+        windows_behind(&idle, 2, 1..=6),
+        (vec![2, 2, 2, 4, 4], 21 - 14)
+    );
+    // More windows than 16 bits count: days 1 to 512 by days 512 to 1,024.
+    let middle = on(&[512]);
+    assert_eq!(
+        windows_behind(&middle, 2, 1..=1_024),
+        (vec![262_656], 524_800 - 262_656)
+    );
+    let late = on(&[1_024]);
+    assert_eq!(windows_behind(&late, 2, 1..=1_024), (vec![1_024], 523_776));
+    let early = on(&[1]);
+    assert_eq!(windows_behind(&early, 2, 1..=1_024), (vec![1_024], 523_776));
+    assert_eq!(
+        windows_behind(&Owned::default(), 1, 1..=1_024),
+        (vec![], 524_800)
+    );
 }
 
 #[test]

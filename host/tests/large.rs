@@ -8,7 +8,7 @@ mod common;
 mod tables;
 
 use common::Rng;
-use rumbleog::{self as lib, Days, Query, Refusal, Table, Windows, NEVER};
+use rumbleog::{self as lib, Days, Listed, Query, Refusal, Table, Windows, NEVER};
 use tables::{cases, Case, Columns};
 
 /// Entries of three columns, cut at their count.
@@ -33,11 +33,89 @@ impl List {
         self.c.truncate(count);
     }
 
+    fn kept_from(&self, place: usize) -> bool {
+        let kept = |column: &[u16], contents: u16| column[place..].iter().all(|&n| n == contents);
+        kept(&self.a, 0xaaaa) && kept(&self.b, 0xbbbb) && kept(&self.c, 0xcccc)
+    }
+
     fn windows(&self) -> Windows<'_> {
         Windows {
             row: &self.a,
             start: &self.b,
             end: &self.c,
+        }
+    }
+}
+
+/// A lent list of rings: start, end and rows, and the windows behind each.
+struct Rings {
+    list: List,
+    windows: Vec<u32>,
+}
+
+impl Rings {
+    fn of(places: usize) -> Rings {
+        Rings {
+            list: List::of(places),
+            windows: vec![0xdddd_dddd; places],
+        }
+    }
+
+    /// Lists, and cuts at the count; what lies past it is kept. Every window of the range is
+    /// behind one ring, or has none.
+    fn fill(&mut self, table: Table, query: Query, range: Days, scratch: &mut [u16]) -> Listed {
+        let days = range.clone().count() as u64;
+        let listed = self.try_fill(table, query, range, scratch).unwrap();
+        let count = listed.count as usize;
+        assert!(self.list.kept_from(count) && self.kept_from(count));
+        self.list.cut(count);
+        self.windows.truncate(count);
+        assert!(self.windows.iter().all(|&windows| windows > 0));
+        let behind: u64 = self.windows.iter().map(|&windows| u64::from(windows)).sum();
+        assert_eq!(behind + listed.empty, days * (days + 1) / 2);
+        listed
+    }
+
+    fn try_fill(
+        &mut self,
+        table: Table,
+        query: Query,
+        range: Days,
+        scratch: &mut [u16],
+    ) -> Result<Listed, Refusal> {
+        let List { a, b, c } = &mut self.list;
+        lib::listing(table, query, range, a, b, c, &mut self.windows, scratch)
+    }
+
+    fn kept_from(&self, place: usize) -> bool {
+        self.windows[place..].iter().all(|&n| n == 0xdddd_dddd)
+    }
+}
+
+/// The number of windows of a range with the ring of [s, e], which is listed there with that many
+/// rows. It lies in the ring of each window about [s, e], so the rows need only be counted.
+fn windows_about(case: &Case, (s, e, rows): (u16, u16, u16), scratch: &mut [u16]) -> u32 {
+    let mut marks = vec![0; case.table.days.len()];
+    let mut same = |from: u16, to: u16| {
+        let ones = lib::window_ring(case.lend(), case.query(), from..=to, &mut marks, scratch);
+        ones == Ok(u64::from(rows))
+    };
+    let (mut from, mut to, mut found) = (s, e, 0);
+    while to < case.te && same(s, to + 1) {
+        to += 1;
+    }
+    // An earlier start never has more ends.
+    loop {
+        found += u32::from(to - e) + 1;
+        from -= 1;
+        if from == 0 {
+            return found;
+        }
+        while !same(from, to) {
+            if to == e {
+                return found;
+            }
+            to -= 1;
         }
     }
 }
@@ -88,41 +166,39 @@ fn agrees(case: &Case, seed: u64) -> usize {
 
     // Listing: with room for any list, with exact room, with a place too few.
     let room = lib::longest_list(case.range()).unwrap() as usize;
-    let mut rings = List::of(room);
-    let listed = {
-        let List { a, b, c } = &mut rings;
-        lib::listing(table, query, case.range(), a, b, c, &mut scratch).unwrap()
-    };
+    let mut all = Rings::of(room);
+    let listed = all.fill(table, query, case.range(), &mut scratch);
     let count = listed.count as usize;
     assert!(scratch.iter().all(|&number| number == 0), "{name}");
-    assert!(
-        rings.a[count..].iter().all(|&number| number == 0xaaaa),
-        "{name}"
-    );
-    rings.cut(count);
+    let rings = &all.list;
     let sum: u64 = rings.c.iter().map(|&rows| u64::from(rows)).sum();
     assert_eq!(sum, listed.sum, "{name}");
     for i in 1..count {
         let last = (rings.a[i - 1], rings.b[i - 1]);
         assert!(last < (rings.a[i], rings.b[i]), "{name}: order at {i}");
     }
-    let mut exact = List::of(count);
+    let mut exact = Rings::of(count);
     scratch.fill(0xffff);
-    let again = {
-        let List { a, b, c } = &mut exact;
-        lib::listing(table, query, case.range(), a, b, c, &mut scratch).unwrap()
-    };
+    let again = exact.fill(table, query, case.range(), &mut scratch);
     assert_eq!(again, listed, "{name}");
-    assert!(
-        (&exact.a, &exact.b, &exact.c) == (&rings.a, &rings.b, &rings.c),
-        "{name}: exact room"
-    );
+    let same = (&exact.list.a, &exact.list.b, &exact.list.c) == (&rings.a, &rings.b, &rings.c);
+    assert!(same && exact.windows == all.windows, "{name}: exact room");
     if count > 0 {
-        let mut short = List::of(count - 1);
-        let List { a, b, c } = &mut short;
-        let refused = lib::listing(table, query, case.range(), a, b, c, &mut scratch);
+        let mut short = Rings::of(count - 1);
+        let refused = short.try_fill(table, query, case.range(), &mut scratch);
         assert_eq!(refused, Err(Refusal::NoRoom), "{name}");
-        assert!(a.iter().all(|&number| number == 0xaaaa), "{name}");
+        assert!(short.list.kept_from(0) && short.kept_from(0), "{name}");
+    }
+
+    // Windows behind a ring, one by one: of some rings with not too many.
+    let few: Vec<usize> = (0..count)
+        .filter(|&i| (2..=150).contains(&all.windows[i]))
+        .collect();
+    for _ in 0..few.len().min(2) {
+        let i = few[rng.below(few.len())];
+        let ring = (rings.a[i], rings.b[i], rings.c[i]);
+        let found = windows_about(case, ring, &mut scratch);
+        assert_eq!(found, all.windows[i], "{name}: windows of {ring:?}");
     }
 
     // Minimal windows: a place too few tells nothing but 10.
@@ -280,7 +356,9 @@ fn lists_rebuilt_from_all_window_rings() {
         let rows = table.days.len();
         let mut scratch = vec![0; lib::scratch_for(rows)];
         let mut marks = vec![0; rows];
-        let mut expected_rings = std::collections::BTreeSet::new();
+        // a ring's tightest window and rows: the windows whose ring it is
+        let mut expected_rings = std::collections::BTreeMap::new();
+        let mut empty = 0;
         // times[row]: its core time at the start after this one
         let mut after = vec![NEVER; rows];
         let mut expected_windows = Vec::new();
@@ -294,7 +372,10 @@ fn lists_rebuilt_from_all_window_rings() {
                 if ones > 0 {
                     let first = marks.iter().position(|&mark| mark == 1).unwrap();
                     let last = marks.iter().rposition(|&mark| mark == 1).unwrap();
-                    expected_rings.insert((table.days[first], table.days[last], ones as u16));
+                    let ring = (table.days[first], table.days[last], ones as u16);
+                    *expected_rings.entry(ring).or_insert(0) += 1;
+                } else {
+                    empty += 1;
                 }
                 tried += 1;
             }
@@ -312,11 +393,12 @@ fn lists_rebuilt_from_all_window_rings() {
         assert_eq!(count, Ok(expected_windows.len() as u64), "{}", case.name);
         let got: Vec<_> = (0..a.len()).map(|i| (a[i], b[i], c[i])).collect();
         assert!(got == expected_windows, "{}", case.name);
-        let mut list = List::of(expected_rings.len());
-        let List { a, b, c } = &mut list;
-        let listed = lib::listing(table, query, 1..=days, a, b, c, &mut scratch).unwrap();
+        let mut rings = Rings::of(expected_rings.len());
+        let listed = rings.fill(table, query, 1..=days, &mut scratch);
         assert_eq!(listed.count as usize, expected_rings.len(), "{}", case.name);
-        let got: Vec<_> = (0..a.len()).map(|i| (a[i], b[i], c[i])).collect();
+        assert_eq!(listed.empty, empty, "{}", case.name);
+        let (List { a, b, c }, d) = (&rings.list, &rings.windows);
+        let got: Vec<_> = (0..a.len()).map(|i| ((a[i], b[i], c[i]), d[i])).collect();
         assert!(
             got == expected_rings.into_iter().collect::<Vec<_>>(),
             "{}",
@@ -343,10 +425,11 @@ fn the_longest_lists() {
     };
     let query = Query { k: 1 };
     let mut scratch = vec![1; lib::scratch_for(16_384)];
-    let mut list = List::of(524_800);
-    let List { a, b, c } = &mut list;
-    let listed = lib::listing(table, query, 1..=1_024, a, b, c, &mut scratch).unwrap();
-    assert_eq!(listed.count, 524_800);
+    let mut rings = Rings::of(524_800);
+    let listed = rings.fill(table, query, 1..=1_024, &mut scratch);
+    let List { a, b, c } = &rings.list;
+    assert_eq!((listed.count, listed.empty), (524_800, 0));
+    assert!(rings.windows.iter().all(|&windows| windows == 1));
     assert_eq!(lib::longest_list(1..=1_024), Ok(524_800));
     let mut at = 0;
     let mut sum = 0;
@@ -359,9 +442,8 @@ fn the_longest_lists() {
     }
     assert_eq!(listed.sum, sum);
     assert!(sum > 1 << 31);
-    let mut short = List::of(524_799);
-    let List { a, b, c } = &mut short;
-    let refused = lib::listing(table, query, 1..=1_024, a, b, c, &mut scratch);
+    let mut short = Rings::of(524_799);
+    let refused = short.try_fill(table, query, 1..=1_024, &mut scratch);
     assert_eq!(refused, Err(Refusal::NoRoom));
 
     // A cycle that breaks each day: every row has many minimal windows.
@@ -390,17 +472,16 @@ fn eight_threads() {
         Vec<u16>,
         Vec<u8>,
         Vec<u8>,
-        u64,
+        Vec<u32>,
+        Listed,
     );
     let case = &cases(4_096)[4];
     fn answers(case: &Case) -> Answers {
         let (table, query, range) = (case.lend(), case.query(), case.range());
         let rows = table.days.len();
         let mut scratch = vec![9; lib::scratch_for(rows)];
-        let mut rings = List::of(524_800);
-        let List { a, b, c } = &mut rings;
-        let listed = lib::listing(table, query, range.clone(), a, b, c, &mut scratch).unwrap();
-        rings.cut(listed.count as usize);
+        let mut rings = Rings::of(524_800);
+        let listed = rings.fill(table, query, range.clone(), &mut scratch);
         let mut windows = List::of(1 << 20);
         let List { a, b, c } = &mut windows;
         let count = lib::minimal_windows(table, query, range.clone(), a, b, c, &mut scratch);
@@ -423,7 +504,14 @@ fn eight_threads() {
         let mut recalled = vec![0; rows];
         lib::recall(table, windows.windows(), 90..=900, &mut recalled).unwrap();
         (
-            rings.c, windows.c, accounts, times, marks, recalled, listed.sum,
+            rings.list.c,
+            windows.c,
+            accounts,
+            times,
+            marks,
+            recalled,
+            rings.windows,
+            listed,
         )
     }
     let alone = answers(case);

@@ -196,40 +196,72 @@ fn core_time_columns() {
     );
 }
 
-type Call = fn(Table, Query, Days, &mut [u16], &mut [u16], &mut [u16], &mut [u16]) -> Answer;
+/// Three columns out, a fourth, the scratch.
+type Call =
+    fn(Table, Query, Days, &mut [u16], &mut [u16], &mut [u16], &mut [u32], &mut [u16]) -> Answer;
 
-type List = Vec<(u16, u16, u16)>;
-
-/// Minimal windows and listing: three columns out, with the same checks.
+/// Minimal windows and listing: columns out, with the same checks.
 struct ColumnsCall {
     name: &'static str,
     archive: Call,
     brute: Call,
+    /// Columns that it takes: of three, the fourth is lent to nobody.
+    columns: usize,
     /// The entries alone, of a table and a query that pass the checks.
-    entries: fn(Table, Query, Days) -> List,
+    entries: fn(Table, Query, Days) -> Vec<brute::Listed>,
 }
 
 const MINIMAL_WINDOWS: ColumnsCall = ColumnsCall {
     name: "minimal_windows",
-    archive: minimal_windows,
-    brute: brute::minimal_windows,
-    entries: brute::minimal_window_list,
+    archive: |table, query, range, a, b, c, _, scratch| {
+        minimal_windows(table, query, range, a, b, c, scratch)
+    },
+    brute: |table, query, range, a, b, c, _, scratch| {
+        brute::minimal_windows(table, query, range, a, b, c, scratch)
+    },
+    columns: 3,
+    entries: |table, query, range| {
+        let list = brute::minimal_window_list(table, query, range);
+        list.into_iter().map(|(a, b, c)| (a, b, c, 0)).collect()
+    },
 };
 
 const LISTING: ColumnsCall = ColumnsCall {
     name: "listing",
     archive: listing,
     brute: brute::listing,
-    entries: brute::ring_list,
+    columns: 4,
+    entries: |table, query, range| brute::ring_list(table, query, range).0,
 };
 
-fn column_cases(call: &ColumnsCall, seed: u64, cases: u64, most_rows: usize) {
+/// A table and a range of days about it.
+type Draw = fn(&mut Rng) -> (Owned, Days);
+
+fn dense(rng: &mut Rng) -> (Owned, Days) {
+    let table = case_table(rng, 16);
+    let range = some_range(rng, &table);
+    (table, range)
+}
+
+/// Rows on few days, and a range that goes past them on both sides.
+fn sparse(rng: &mut Rng) -> (Owned, Days) {
+    let mut table = sparse_table(rng, 16);
+    if rng.once_in(10) {
+        damage(rng, &mut table);
+    }
+    let range = match rng.once_in(6) {
+        true => some_range(rng, &table),
+        false => wide_range(rng, &table),
+    };
+    (table, range)
+}
+
+fn column_cases(call: &ColumnsCall, seed: u64, cases: u64, draw: Draw) {
     let mut rng = Rng(seed);
     let mut seen = Seen([0; 16]);
     for case in 0..cases {
-        let table = case_table(&mut rng, most_rows);
+        let (table, range) = draw(&mut rng);
         let query = some_query(&mut rng);
-        let range = some_range(&mut rng, &table);
         // Lent places: about the number of entries, or room for any listing.
         let mut entries = 0;
         let query_fits = (1..=4_095).contains(&query.k) && is_range(&range);
@@ -245,12 +277,14 @@ fn column_cases(call: &ColumnsCall, seed: u64, cases: u64, most_rows: usize) {
             6 => most * (most + 1) / 2,
             _ => entries + rng.below(40),
         };
-        let mut columns = [places; 3];
+        let mut columns = [places; 4];
         if rng.once_in(12) {
-            let odd = rng.below(3);
-            columns[odd] = some_length(&mut rng, places + 1);
+            let odd = rng.below(call.columns);
+            columns[odd] = rng.pick(&[places + 1, places.saturating_sub(1), 0, places + 9]);
         }
-        let [mut a, mut b, mut c] = columns.map(|n| Lent::<u16>::new(&mut rng, n));
+        let [x, y, z, windows] = columns;
+        let [mut a, mut b, mut c] = [x, y, z].map(|n| Lent::<u16>::new(&mut rng, n));
+        let mut d = Lent::<u32>::new(&mut rng, windows);
         let length = some_scratch(&mut rng, table.rows());
         let mut scratch = Lent::<u16>::new(&mut rng, length);
         let lent = LentTable::new(&mut rng, &table);
@@ -258,6 +292,7 @@ fn column_cases(call: &ColumnsCall, seed: u64, cases: u64, most_rows: usize) {
         let mut want_a = a.get().to_vec();
         let mut want_b = b.get().to_vec();
         let mut want_c = c.get().to_vec();
+        let mut want_d = d.get().to_vec();
         let mut want_scratch = scratch.get().to_vec();
         let expected = (call.brute)(
             table.lend(),
@@ -266,6 +301,7 @@ fn column_cases(call: &ColumnsCall, seed: u64, cases: u64, most_rows: usize) {
             &mut want_a,
             &mut want_b,
             &mut want_c,
+            &mut want_d,
             &mut want_scratch,
         );
         let got = (call.archive)(
@@ -275,15 +311,21 @@ fn column_cases(call: &ColumnsCall, seed: u64, cases: u64, most_rows: usize) {
             a.get_mut(),
             b.get_mut(),
             c.get_mut(),
+            d.get_mut(),
             scratch.get_mut(),
         );
-        assert_eq!(
-            got, expected,
-            "case {case}: {query:?} {range:?} places {columns:?} {table:?}"
-        );
+        let what = format!("case {case}: {query:?} {range:?} places {columns:?} {table:?}");
+        assert_eq!(got, expected, "{what}");
+        if call.columns == 4 && got.number == OK {
+            let listed = &d.get()[..got.count as usize];
+            let windows: u64 = listed.iter().map(|&windows| u64::from(windows)).sum();
+            let days = range.clone().count() as u64;
+            assert_eq!(windows + got.empty, days * (days + 1) / 2, "{what}");
+        }
         a.holds(&want_a, "first column");
         b.holds(&want_b, "second column");
         c.holds(&want_c, "third column");
+        d.holds(&want_d, "fourth column");
         scratch.holds(&want_scratch, "scratch");
         lent.kept();
         seen.0[expected.number as usize] += 1;
@@ -297,12 +339,59 @@ fn column_cases(call: &ColumnsCall, seed: u64, cases: u64, most_rows: usize) {
 
 #[test]
 fn minimal_window_columns() {
-    column_cases(&MINIMAL_WINDOWS, 4, 30_000, 16);
+    column_cases(&MINIMAL_WINDOWS, 4, 30_000, dense);
 }
 
 #[test]
 fn listing_columns() {
-    column_cases(&LISTING, 5, 30_000, 16);
+    column_cases(&LISTING, 5, 30_000, dense);
+}
+
+#[test]
+fn listing_columns_of_days_without_rows() {
+    column_cases(&LISTING, 9, 20_000, sparse);
+}
+
+/// One column a place short or a place long: 8, with every column kept. All four a place short:
+/// 10, with every column kept.
+#[test]
+fn listing_columns_of_the_wrong_length() {
+    let mut rng = Rng(10);
+    let (table, query) = (season(), Query { k: 2 });
+    let mut tried = Vec::new();
+    for odd in 0..4 {
+        for length in [4, 6, 0, 21] {
+            let mut lengths = [5; 4];
+            lengths[odd] = length;
+            tried.push((lengths, BAD_LENGTH));
+        }
+    }
+    tried.push(([4; 4], NO_ROOM));
+    for (lengths, number) in tried {
+        let [x, y, z, windows] = lengths;
+        let [mut a, mut b, mut c] = [x, y, z].map(|n| Lent::<u16>::new(&mut rng, n));
+        let mut d = Lent::<u32>::new(&mut rng, windows);
+        let mut scratch = Lent::<u16>::new(&mut rng, 8_192 + 4 * 6);
+        let got = listing(
+            table.lend(),
+            query,
+            1..=6,
+            a.get_mut(),
+            b.get_mut(),
+            c.get_mut(),
+            d.get_mut(),
+            scratch.get_mut(),
+        );
+        let expected = Answer {
+            number,
+            ..Answer::default()
+        };
+        assert_eq!(got, expected, "{lengths:?}");
+        a.kept("start");
+        b.kept("end");
+        c.kept("rows");
+        d.kept("windows");
+    }
 }
 
 /// A list for recall: right, or with a fault of 14 in it.
@@ -478,14 +567,15 @@ fn middle_sized_tables() {
             let places = [list.len(), list.len() + 100][rng.below(2)];
             let mut columns = [vec![0; places], vec![0; places], vec![0; places]];
             let [a, b, c] = &mut columns;
+            let mut d = vec![0; places];
             let scratch = scratch.get_mut();
-            let got = (call.archive)(table.lend(), query, range.clone(), a, b, c, scratch);
+            let got = (call.archive)(table.lend(), query, range.clone(), a, b, c, &mut d, scratch);
             assert_eq!(
                 (got.number, got.count),
                 (OK, list.len() as u64),
                 "case {case}"
             );
-            let written: Vec<_> = (0..list.len()).map(|i| (a[i], b[i], c[i])).collect();
+            let written: Vec<_> = (0..list.len()).map(|i| (a[i], b[i], c[i], d[i])).collect();
             assert_eq!(written, list, "case {case}: {query:?} {range:?} {table:?}");
         }
     }

@@ -80,6 +80,7 @@ fn a_listing() -> Result<(), Refusal> {
     // Every ring of days 1 to 6 once, by its tightest window. There is always room.
     let places = longest_list(1..=6)? as usize;
     let (mut start, mut end, mut rows) = (vec![0; places], vec![0; places], vec![0; places]);
+    let mut windows = vec![0; places];
     let mut scratch = vec![0; scratch_for(6)];
     let listed = listing(
         SEASON,
@@ -88,12 +89,17 @@ fn a_listing() -> Result<(), Refusal> {
         &mut start,
         &mut end,
         &mut rows,
+        &mut windows,
         &mut scratch,
     )?;
-    assert_eq!(listed, Listed { count: 5, sum: 21 });
+    assert_eq!((listed.count, listed.sum), (5, 21));
     assert_eq!(start[..5], [1, 1, 1, 2, 2]);
     assert_eq!(end[..5], [2, 4, 6, 4, 6]);
     assert_eq!(rows[..5], [3, 4, 6, 3, 5]);
+
+    // How many choices of days show each ring, and how many show none: 21 in all.
+    assert_eq!(windows[..5], [2, 2, 1, 2, 1]);
+    assert_eq!(listed.empty, 13);
     Ok(())
 }
 

@@ -19,7 +19,7 @@ use Rattle.rings.specs.declared.refusal.Verdict.{Verdict}
 use Rattle.rings.specs.declared.refusal.Counted.{Counted}
 use Rattle.text.specs.Table.{filled}
 use Rattle.text.specs.declared.table.TableRead.{TableRead}
-use Rattle.listing.specs.ListingCall.{Columns as RingColumns, listingColumns, listingScratch, listingReport, listingSum}
+use Rattle.listing.specs.ListingCall.{Columns as RingColumns, listingColumns, listingScratch, listingReport, listingSum, listingEmpty}
 use Rattle.listing.specs.Program.{Outcome}
 use Rattle.listing.specs.ProgramText.{listOutput, printedReport}
 use Rattle.listing.specs.declared.Listed.{Listed}
@@ -118,16 +118,22 @@ minimal-told t q ts te old old′ old″ before answer rows starts ends scratch 
     )
 
 pub listing-told : (t : Table) (q : Query) (ts te : ℕ) (old : RingColumns (List ℕ)) (before : List ℕ) {v a : Listed}
-    {n : Numbers} {sum : ℕ} {columns : RingColumns (List ℕ)} {scratch : List ℕ}
-    → v ≡ a → columns ≡ listingColumns v t q ts te old → scratch ≡ listingScratch v before → n ≡ numbers (listingReport v) → sum ≡ listingSum v
+    {n : Numbers} {sum empty : ℕ} {columns : RingColumns (List ℕ)} {scratch : List ℕ}
+    → v ≡ a
+    → columns ≡ listingColumns v t q ts te old
+    → scratch ≡ listingScratch v before
+    → n ≡ numbers (listingReport v)
+    → sum ≡ listingSum v
+    → empty ≡ listingEmpty v
     → (n .number ≡ listingReport a .number) × (n .place ≡ listingReport a .place) × (n .count ≡ listingReport a .count)
-    × (sum ≡ listingSum a) × (columns ≡ listingColumns a t q ts te old) × (scratch ≡ listingScratch a before)
-listing-told t q ts te old before answer columns scratch h sum =
+    × (sum ≡ listingSum a) × (empty ≡ listingEmpty a) × (columns ≡ listingColumns a t q ts te old) × (scratch ≡ listingScratch a before)
+listing-told t q ts te old before answer columns scratch h sum empty =
     let n = told listingReport answer h in (
       n .number,
       n .place,
       n .count,
       sum ∙ ap listingSum answer,
+      empty ∙ ap listingEmpty answer,
       columns ∙ ap (λ v. listingColumns v t q ts te old) answer,
       scratch ∙ ap (λ v. listingScratch v before) answer,
     )

@@ -2,7 +2,8 @@
 ghost use mathlib.Core.Path.{_≡_};
 ghost use lib.ListN.{length};
 ghost use Rattle.rings.specs.Table.{tableOf};
-ghost use Rattle.listing.specs.ListingCall.{columnsOf, placesOf, listingAnswer, listingColumns, listingScratch, listingReport, listingSum};
+ghost use Rattle.listing.specs.ListingCall.{columnsOf, placesOf, listingAnswer, listingColumns, listingScratch};
+ghost use Rattle.listing.specs.ListingCall.{listingReport, listingSum, listingEmpty};
 ghost use Rattle.rings.specs.Ring.{query};
 ghost use Rattle.engine.specs.Numbers.{numbers};
 use crate::numbers::Numbers;
@@ -15,7 +16,11 @@ fn of_listed(l: Listed) -> Numbers
     ensures { λ n. ⌜ n ≡ numbers (listingReport l) ⌝ }
 {
     match l {
-        Listed::Rings { count: n, sum: _ } => Numbers {
+        Listed::Rings {
+            count: n,
+            sum: _,
+            empty: _,
+        } => Numbers {
             number: 0,
             place: 0,
             count: n as u64,
@@ -28,7 +33,24 @@ fn sum_of(l: Listed) -> u64
     ensures { λ n. ⌜ n ≡ listingSum l ⌝ }
 {
     match l {
-        Listed::Rings { count: _, sum: n } => n,
+        Listed::Rings {
+            count: _,
+            sum: n,
+            empty: _,
+        } => n,
+        Listed::Refused(_) => 0,
+    }
+}
+
+fn empty_of(l: Listed) -> u64
+    ensures { λ n. ⌜ n ≡ listingEmpty l ⌝ }
+{
+    match l {
+        Listed::Rings {
+            count: _,
+            sum: _,
+            empty: n,
+        } => n,
         Listed::Refused(_) => 0,
     }
 }
@@ -44,20 +66,24 @@ pub extern "C" fn rumbleog_listing(
     start: &mut [u16],
     end: &mut [u16],
     rows: &mut [u16],
+    windows: &mut [u32],
     scratch: &mut [u16],
     place: &mut u64,
     count: &mut u64,
     sum: &mut u64,
+    empty: &mut u64,
 ) -> u32
     ensures { λ r. ⌜ (
         let t = tableOf (now (days .entry)) (now (first .entry)) (now (second .entry)) in
-        let old = columnsOf (now (start .entry)) (now (end .entry)) (now (rows .entry)) in
+        let old = columnsOf (now (start .entry)) (now (end .entry)) (now (rows .entry)) (now (windows .entry)) in
+        let new = columnsOf (now (start .exit)) (now (end .exit)) (now (rows .exit)) (now (windows .exit)) in
         let a = listingAnswer t (query k) ts te (placesOf old) (length (now (scratch .entry))) in
         (r ≡ listingReport a .number)
         × (now (place .exit) ≡ listingReport a .place)
         × (now (count .exit) ≡ listingReport a .count)
         × (now (sum .exit) ≡ listingSum a)
-        × (columnsOf (now (start .exit)) (now (end .exit)) (now (rows .exit)) ≡ listingColumns a t (query k) ts te old)
+        × (now (empty .exit) ≡ listingEmpty a)
+        × (new ≡ listingColumns a t (query k) ts te old)
         × (now (scratch .exit) ≡ listingScratch a (now (scratch .entry)))) ⌝ }
 {
     let answer = list_rings(
@@ -70,11 +96,13 @@ pub extern "C" fn rumbleog_listing(
         start,
         end,
         rows,
+        windows,
         scratch,
     );
     let told = of_listed(answer);
     *place = told.place;
     *count = told.count;
     *sum = sum_of(answer);
+    *empty = empty_of(answer);
     told.number
 }

@@ -1,5 +1,4 @@
 -- Listing's answer, as the program meets it.
---     summed-rings, summed-refused    the checks behind an answer
 --     refused-place      a refusal's place lies in the table
 --     listed-rings, listed-none    the outcome by the answer
 --     rings-count, rings-most, rings-are, rings-rise    what stands in the columns after an answer
@@ -28,6 +27,7 @@ use Rattle.rings.specs.declared.refusal.Verdict.{Verdict}
 use Rattle.rings.specs.declared.refusal.Verdict.the-variants.{Accepted, Refused}
 use Rattle.rings.proofs.CheckLaws.{accepted-right, when-accepted}
 use Rattle.listing.specs.Listing.{ListedRing, listing}
+use Rattle.listing.specs.WindowCounts.{emptyWindows, windowsBehind}
 use Rattle.listing.specs.ListingCall.{Columns, each, withEntries, listingChecks, summed, listingAnswer, listingColumns}
 use Rattle.listing.specs.Program.{Outcome, found, stopped, placeLine, inputLine, stoppedBy, fromList, mostListed, programScratch, listed}
 use Rattle.listing.specs.ProgramText.{refusedOf, listAnswer, listOutput}
@@ -35,23 +35,25 @@ use Rattle.listing.specs.ProgramSteps.{entriesAt, Rising, Prints}
 use Rattle.listing.specs.declared.Listed.{Listed}
 use Rattle.listing.specs.declared.Printed.{Printed}
 use Rattle.listing.proofs.CountLaws.{listing-is}
-use Rattle.listing.proofs.PrintingLaws.{entries-are, place-order}
+use Rattle.listing.proofs.PrintingLaws.{textOf, entries-are, place-order}
 
 -- ---- the checks behind an answer
 
-pub record Summed (v : Verdict) (ls : List ListedRing) (n : ℕ) : Type 0 where
-  pub accepted : v ≡ Accepted
-  pub counts : n ≡ length ls
+record Summed (v : Verdict) (ls : List ListedRing) (n : ℕ) : Type 0 where
+  accepted : v ≡ Accepted
+  counts : n ≡ length ls
 
-pub summed-rings : (v : Verdict) (ls : List ListedRing) {n sum : ℕ} → summed v ls ≡ Listed.Rings n sum → Summed v ls n
+summed-rings : (v : Verdict) (ls : List ListedRing) (none : ℕ) {n sum empty : ℕ}
+    → summed v ls none ≡ Listed.Rings n sum empty
+    → Summed v ls n
 unfolding summed
-summed-rings Accepted ls e = record { accepted = refl; counts = cc }
-summed-rings (Refused r) ls e = let z : _≡_ {A = ℕ} 0 1 = cc in absurd (omega arith)
+summed-rings Accepted ls none e = record { accepted = refl; counts = cc }
+summed-rings (Refused r) ls none e = let z : _≡_ {A = ℕ} 0 1 = cc in absurd (omega arith)
 
-pub summed-refused : (v : Verdict) (ls : List ListedRing) {r : Refusal} → summed v ls ≡ Listed.Refused r → v ≡ Refused r
+summed-refused : (v : Verdict) (ls : List ListedRing) (none : ℕ) {r : Refusal} → summed v ls none ≡ Listed.Refused r → v ≡ Refused r
 unfolding summed
-summed-refused Accepted ls e = let z : _≡_ {A = ℕ} 0 1 = cc in absurd (omega arith)
-summed-refused (Refused f) ls {r} e = let g : f ≡ r = cc in ap Refused g
+summed-refused Accepted ls none e = let z : _≡_ {A = ℕ} 0 1 = cc in absurd (omega arith)
+summed-refused (Refused f) ls none {r} e = let g : f ≡ r = cc in ap Refused g
 
 -- ---- the place of a refusal
 
@@ -116,6 +118,10 @@ low-room : (n : ℕ) (b : Bool) → Low n (NoRoom when b)
 unfolding placeOf
 low-room n b = low-when n NoRoom b (omega arith)
 
+-- the four columns have as many places each
+abbrev alike : Columns ℕ → Bool
+alike places = eqb (places .ends) (places .starts) and eqb (places .rows) (places .starts) and eqb (places .windows) (places .starts)
+
 low-checks : (t : Table) (q : Query) (lo hi : ℕ) (places : Columns ℕ) (scratch : ℕ) → Low (size t) (listingChecks t q lo hi places scratch)
 unfolding listingChecks
 low-checks t q lo hi places scratch =
@@ -123,7 +129,7 @@ low-checks t q lo hi places scratch =
     low-then n _ _ (low-table t)
     (low-then n _ _ (low-query n q)
     (low-then n _ _ (low-range n lo hi)
-    (low-then n _ _ (low-lengths n (no (eqb (places .ends) (places .starts) and eqb (places .rows) (places .starts))))
+    (low-then n _ _ (low-lengths n (no (alike places)))
     (low-then n _ _ (low-scratch n n scratch) (low-room n (ltb (places .starts) (length (listing t q lo hi))))))))
 
 pub refused-place : (t : Table) (q : Query) (lo hi : ℕ) (places : Columns ℕ) (scratch : ℕ) {r : Refusal}
@@ -131,7 +137,7 @@ pub refused-place : (t : Table) (q : Query) (lo hi : ℕ) (places : Columns ℕ)
     → placeOf r ≤ size t
 unfolding listingAnswer
 refused-place t q lo hi places scratch {r} e =
-    low-checks t q lo hi places scratch .low r (summed-refused (listingChecks t q lo hi places scratch) (listing t q lo hi) e)
+    low-checks t q lo hi places scratch .low r (summed-refused (listingChecks t q lo hi places scratch) (listing t q lo hi) (emptyWindows t q lo hi) e)
 
 -- ---- a listing that is answered
 
@@ -143,7 +149,7 @@ rings-room t q lo hi places scratch e =
     let e₁ = accepted-right (tableCheck t) _ e in
     let e₂ = accepted-right (queryCheck q) _ e₁ in
     let e₃ = accepted-right (rangeCheck lo hi) _ e₂ in
-    let e₄ = accepted-right (BadLength when no (eqb (places .ends) (places .starts) and eqb (places .rows) (places .starts))) _ e₃ in
+    let e₄ = accepted-right (BadLength when no (alike places)) _ e₃ in
     let e₅ = accepted-right (scratchCheck (size t) scratch) _ e₄ in
     ltb-false (places .starts) (length (listing t q lo hi)) (when-accepted NoRoom (ltb (places .starts) (length (listing t q lo hi))) e₅)
 
@@ -154,7 +160,7 @@ column-long part ls old c =
     omega (arith, length-append (map part ls) (drop (length (map part ls)) old), length-map ls part)
 
 module _ (t : Table) (q : Query) (lo hi : ℕ) {r : Listed} (is : r ≡ listingAnswer t q lo hi (each mostListed) programScratch) where
-  pub listed-rings : {n sum : ℕ} → r ≡ Listed.Rings n sum → listed t q lo hi ≡ found (listing t q lo hi)
+  pub listed-rings : {n sum empty : ℕ} → r ≡ Listed.Rings n sum empty → listed t q lo hi ≡ found (listing t q lo hi)
   unfolding listed fromList
   listed-rings e = ap (λ (x : Listed). fromList x (listing t q lo hi)) (sym is ∙ e)
 
@@ -162,25 +168,25 @@ module _ (t : Table) (q : Query) (lo hi : ℕ) {r : Listed} (is : r ≡ listingA
   unfolding listed fromList
   listed-none e = ap (λ (x : Listed). fromList x (listing t q lo hi)) (sym is ∙ e)
 
-  behind : {n sum : ℕ} → r ≡ Listed.Rings n sum → Summed (listingChecks t q lo hi (each mostListed) programScratch) (listing t q lo hi) n
+  behind : {n sum empty : ℕ} → r ≡ Listed.Rings n sum empty → Summed (listingChecks t q lo hi (each mostListed) programScratch) (listing t q lo hi) n
   unfolding listingAnswer
-  behind e = summed-rings (listingChecks t q lo hi (each mostListed) programScratch) (listing t q lo hi) (sym is ∙ e)
+  behind e = summed-rings (listingChecks t q lo hi (each mostListed) programScratch) (listing t q lo hi) (emptyWindows t q lo hi) (sym is ∙ e)
 
-  pub rings-count : {n sum : ℕ} → r ≡ Listed.Rings n sum → n ≡ length (listing t q lo hi)
+  pub rings-count : {n sum empty : ℕ} → r ≡ Listed.Rings n sum empty → n ≡ length (listing t q lo hi)
   rings-count e = behind e .counts
 
-  pub rings-most : {n sum : ℕ} → r ≡ Listed.Rings n sum → n ≤ mostListed
+  pub rings-most : {n sum empty : ℕ} → r ≡ Listed.Rings n sum empty → n ≤ mostListed
   rings-most e = omega (arith, behind e .counts, rings-room t q lo hi (each mostListed) programScratch (behind e .accepted))
 
-  module _ (old : Columns (List ℕ)) {c : Columns (List ℕ)} (w : c ≡ listingColumns r t q lo hi old) {n sum : ℕ} (e : r ≡ Listed.Rings n sum) where
-    columns : c ≡ withEntries (listing t q lo hi) old
+  module _ (old : Columns (List ℕ)) {c : Columns (List ℕ)} (w : c ≡ listingColumns r t q lo hi old) {n sum empty : ℕ} (e : r ≡ Listed.Rings n sum empty) where
+    columns : c ≡ withEntries (windowsBehind t q lo hi) (listing t q lo hi) old
     unfolding listingColumns
     columns = w ∙ ap (λ (x : Listed). listingColumns x t q lo hi old) e
 
-    pub rings-are : entriesAt c n ≡ listing t q lo hi
-    rings-are = entries-are (listing t q lo hi) old columns (rings-count e)
+    pub rings-are : entriesAt (textOf c) n ≡ listing t q lo hi
+    rings-are = entries-are (windowsBehind t q lo hi) (listing t q lo hi) old columns (rings-count e)
 
-    pub rings-rise : Rising c n
+    pub rings-rise : Rising (textOf c) n
     rings-rise =
         let list = listing t q lo hi in
         let long : (part : ListedRing → ℕ) (x : List ℕ) → n ≤ length (over (map part list) x) = λ part x. column-long part list x (rings-count e) in
@@ -189,7 +195,7 @@ module _ (t : Table) (q : Query) (lo hi : ℕ) {r : Listed} (is : r ≡ listingA
           in-starts = omega (arith, long (λ x. x .start) (old .starts), ap (λ (x : Columns (List ℕ)). length (x .starts)) columns);
           in-ends = omega (arith, long (λ x. x .end) (old .ends), ap (λ (x : Columns (List ℕ)). length (x .ends)) columns);
           in-rows = omega (arith, long (λ x. x .rows) (old .rows), ap (λ (x : Columns (List ℕ)). length (x .rows)) columns);
-          order = λ i h. place-order list old columns (λ l m. listing-is t q lo hi .each l m .order) i (omega (arith, rings-count e));
+          order = λ i h. place-order (windowsBehind t q lo hi) list old columns (λ l m. listing-is t q lo hi .each l m .order) i (omega (arith, rings-count e));
         }
 
 -- ---- the text

@@ -1,11 +1,12 @@
 -- What a listing lists, and how many rings a range has.
 --     windows-length           the windows of a range number n(n+1)/2
+--     filterBy-length          what is filtered is no longer than it was
+--     rings-length, passing-most    as many rings as windows, where each counts; no test is passed by more
 --     listing-most, rings-most no listing has more entries, and no range has more rings
 --     distinct-listed          a listing has as many entries as the range has distinct rings that are not empty
 --     distinct-are, rings-counted    `distinctRings` holds exactly these rings, each once; any list that does has as many
 --     distinct-sum, sum-most   its sum is the sum of their rows, and at most n(n+1)/2 times the rows of the table
 --     listing-is, listing-only `listing` holds exactly the entries of the range, in order, and is the only such list
---     listing-order            by start, then end
 --     ring-listed              each window's ring, if not empty, is listed once and only once, by its tightest window
 -- Assumes nothing.
 use Prim.Native.Nat.{ℕ, zero, suc, _+_, _*_, _-_, _/_, _≤_, _<_, zero-le}
@@ -14,7 +15,7 @@ use native.Mathlib.Omega.{arith}
 use mathlib.Core.Path.{_≡_, refl, sym, _∙_, ap, subst}
 use mathlib.Core.Logic.{_⊎_, ⊎-elim}
 use mathlib.Core.Bool.{Bool, true}
-use mathlib.Core.List.{List, [], _∷_, map, List·Memᴰ as Mem, List·Memᴰ·head as here, List·Memᴰ·tail as there}
+use mathlib.Core.List.{List, [], _∷_, map, List·Memᴰ as Mem, List·Memᴰ·head as here}
 use mathlib.Core.List.{List·Memᴰ·not-nil as not-nil, List·Memᴰ·cases-cons as cases-cons, Memᴰ·cast as mem-cast, flatten}
 use lib.ListN.{length, length-map, length-append}
 use Rattle.rings.specs.Words.{tabulate, filterBy, Pairwise}
@@ -33,6 +34,7 @@ use Rattle.rings.proofs.RangeLaws.{OfRange, Earlier, windows-e, windows-i, wind
 use Rattle.listing.specs.Tight.{nonempty, tightest, tight}
 use Rattle.listing.specs.Listing.{ListedRing, entryOf, listing, rowSum}
 use Rattle.listing.specs.Distinct.{sameRows, distinct, ringsOf, distinctRings}
+use Rattle.listing.specs.WindowCounts.{showing, windowsBehind}
 use Rattle.listing.specs.EachRing.{Sooner, EntryOf, IsListing, ofRing, ListedOnce, AreRings, RingOf, ringSum}
 use Rattle.listing.specs.LongestList.{longest, daysOf}
 use Rattle.listing.proofs.TightLaws.{nonempty-e, nonempty-i, tight-e, tightest-ring, tight-one}
@@ -63,7 +65,7 @@ windows-length lo hi = from (suc hi - lo) lo refl
         length-append (windowsFrom hi i) (flatten (tabulate (windowsFrom hi) (suc i) n))
         ∙ (ap (λ (m : ℕ). m + length (flatten (tabulate (windowsFrom hi) (suc i) n))) a ∙ (ap (λ (m : ℕ). suc n + m) b ∙ sym (longest-suc n)))
 
-filterBy-length : {A : Type 0} (p : A → Bool) (xs : List A) → length (filterBy p xs) ≤ length xs
+pub filterBy-length : {A : Type 0} (p : A → Bool) (xs : List A) → length (filterBy p xs) ≤ length xs
 unfolding filterBy
 filterBy-length p [] = le-refl 0
 filterBy-length p (x ∷ xs) =
@@ -89,6 +91,15 @@ module _ (t : Table) (q : Query) (lo hi : ℕ) where
 
   abbrev ringOf : Window → List Bool
   ringOf w = ring t q (w .start) (w .end)
+
+  pub rings-length : length (ringsOf t q lo hi) ≡ longest (daysOf lo hi)
+  unfolding ringsOf
+  rings-length = length-map (windows lo hi) ringOf ∙ windows-length lo hi
+
+  -- no test is passed by more windows than there are
+  pub passing-most : (p : List Bool → Bool) → length (filterBy p (ringsOf t q lo hi)) ≤ longest (daysOf lo hi)
+  passing-most p =
+      subst (λ (n : ℕ). length (filterBy p (ringsOf t q lo hi)) ≤ n) rings-length (filterBy-length p (ringsOf t q lo hi))
 
   -- two tight windows, one before the other, have different rings
   rings-differ : (v w : Window) → test v ≡ true → test w ≡ true → Earlier v w → Apart (ringOf v) (ringOf w)
@@ -253,7 +264,7 @@ module _ (t : Table) (q : Query) (lo hi : ℕ) where
       (mem-map (entryOf t q) (filterBy test (windows lo hi))
       (tights-i (record { start = x .start; end = x .end }) (record { from = o .from; order = o .order; to = o .to }) (o .is-tightest)))
 
-  pub listing-order : Pairwise Sooner (listing t q lo hi)
+  listing-order : Pairwise Sooner (listing t q lo hi)
   unfolding listing entryOf
   listing-order = pair-map (entryOf t q) Sooner (filterBy test (windows lo hi)) tights-order
 
@@ -281,7 +292,7 @@ module _ (t : Table) (q : Query) (lo hi : ℕ) where
 
   -- each window's ring, if not empty, is listed once and only once
   pub ring-listed : hi < never → (s e : ℕ) → lo ≤ s → e ≤ hi → nonempty (ring t q s e) ≡ true → ListedOnce t q lo hi s e
-  unfolding ofRing tight
+  unfolding ofRing tight windowsBehind
   ring-listed fits s e f l h =
       record {
         entry = x;
@@ -296,6 +307,7 @@ module _ (t : Table) (q : Query) (lo hi : ℕ) where
         from = g .from;
         to = g .to;
         counts = ap members (g .same);
+        shows = ap (showing t q lo hi) (g .same);
       }
     where
       g : Tightened s e

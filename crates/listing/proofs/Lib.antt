@@ -3,10 +3,13 @@ pub mod DistinctLaws
 pub mod CountLaws
 pub mod ReachedLaws
 pub mod StartLaws
+pub mod RunLaws
 pub mod ColumnLaws
 pub mod ProgressLaws
 pub mod EndsLaws
+pub mod GatherLaws
 pub mod RangeLaws
+pub mod WindowCountLaws
 pub mod PassLaws
 pub mod FoundLaws
 pub mod ReadingLaws

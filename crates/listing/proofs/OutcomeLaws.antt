@@ -87,7 +87,7 @@ by-list : (t : Table) (q : Query) (lo hi : ℕ) (a : Listed)
     → size t ≤ mostInput
     → Bounded (fromList a (listing t q lo hi))
 unfolding fromList stoppedBy ringsIn numberIn lineIn
-by-list t q lo hi (Listed.Rings n sum) e h =
+by-list t q lo hi (Listed.Rings n sum empty) e h =
     record { rings = omega (arith, rings-count t q lo hi (sym e) refl, rings-most t q lo hi (sym e) refl); number = omega arith; line = omega arith }
 by-list t q lo hi (Listed.Refused r) e h =
     stops (numberOf r) (inputLine r) (number-most r) (omega (arith, line-most r, refused-place t q lo hi (each mostListed) programScratch e))

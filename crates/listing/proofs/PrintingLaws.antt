@@ -2,7 +2,8 @@
 --     Printing, print-start, print-next, print-end    the loop that writes a line an entry
 --     put-wrote          what a call that prints leaves, where its bytes fit
 --     text-none, text-done    the answer for a listing's text, by the room that there is
---     entries-are, place-order    what the columns of a listing hold
+--     textOf             the columns of a listing that its text is made of
+--     entries-are, place-order    what they hold
 -- Assumes nothing.
 use Prim.Native.Nat.{ℕ, zero, suc, _+_, _*_, _≤_, _<_}
 use mathlib.Core.Path.{_≡_, refl, sym, ap, subst, _∙_}
@@ -10,7 +11,7 @@ use mathlib.Core.List.{List, [], _∷_, _++_, map, append-assoc, append-nil, Lis
 use native.Mathlib.Nat.{add-zero, zero-add, add-suc, suc-add, not-suc-le-zero, le-of-suc-le-suc}
 use native.Mathlib.Numerals.{add-one}
 use native.Mathlib.Omega.{arith}
-use lib.ListN.{length, getD, take, drop, take-append-drop, length-append, length-map, List·getD-append, List·getD-map}
+use lib.ListN.{length, getD, take, drop, take-append-drop, length-append, length-map}
 use borrow.Author.Tests.{le-leb, lt-leb}
 use Rattle.text.specs.Layout.{entryBytes}
 use Rattle.text.specs.Print.{header, listingLine, entryLines, listingText, pasted, putOf, written}
@@ -27,8 +28,9 @@ use Rattle.listing.specs.Listing.{ListedRing, span}
 use Rattle.listing.specs.ListingCall.{Columns, withEntries}
 use Rattle.listing.specs.Program.{found}
 use Rattle.listing.specs.ProgramText.{lineOf, listText, outcomeText, refusedOf, fitted, listAnswer, listOutput}
-use Rattle.listing.specs.ProgramSteps.{entryAt, entriesAt, ringLines, Prints}
+use Rattle.listing.specs.ProgramSteps.{TextColumns, textColumns, entryAt, entriesAt, ringLines, Prints}
 use Rattle.listing.specs.declared.Printed.{Printed}
+use Rattle.listing.proofs.ColumnLaws.{cell}
 
 -- ---- a line an entry
 
@@ -53,7 +55,7 @@ lines-length (x ∷ ls) =
     length-append (listingLine (x .start) (x .end) (span x) (x .rows)) (ringLines ls)
     ∙ omega (arith, line-length (x .start) (x .end) (span x) (x .rows), lines-length ls)
 
-module _ (c : Columns (List ℕ)) where
+module _ (c : TextColumns) where
   entries-length : (n : ℕ) → length (entriesAt c n) ≡ n
   unfolding entriesAt
   entries-length n = length-tabulate (entryAt c) 0 n
@@ -66,7 +68,7 @@ module _ (c : Columns (List ℕ)) where
       ∙ lines-more (tabulate (entryAt c) 0 i) (entryAt c i)
 
 -- the first i lines stand behind the header
-pub record Printing (c : Columns (List ℕ)) (old now : List ℕ) (at i : ℕ) : Type 0 where
+pub record Printing (c : TextColumns) (old now : List ℕ) (at i : ℕ) : Type 0 where
   pub next : at ≡ entryBytes * (i + 1)
   pub long : length now ≡ length old
   pub is : now ≡ pasted old entryBytes (ringLines (entriesAt c i))
@@ -80,7 +82,7 @@ unfolding putOf
 put-wrote out at bytes {r} h e q =
     q ∙ ap (λ (p : Put). written p out at bytes) (e ∙ pick-true _ _ _ (le-leb (at + length bytes) (length out) h))
 
-module _ (c : Columns (List ℕ)) where
+module _ (c : TextColumns) where
   pub print-start : (old : List ℕ) → Printing c old old entryBytes 0
   unfolding entriesAt tabulate ringLines entryLines pasted
   print-start old =
@@ -157,36 +159,31 @@ tabulate-list f d i (x ∷ ls) h =
 nothing : ListedRing
 nothing = record { start = 0; end = 0; rows = 0 }
 
-cell : (part : ListedRing → ℕ)
-    → part nothing ≡ 0
-    → (ls : List ListedRing) (old : List ℕ) (j : ℕ)
-    → j < length ls
-    → getD (over (map part ls) old) j 0 ≡ part (getD ls j nothing)
-unfolding over
-cell part z ls old j h =
-    let l : length (map part ls) ≡ length ls = length-map ls part in
-    List·getD-append (map part ls) (drop (length (map part ls)) old) 0 j (omega arith)
-    ∙ ap (getD (map part ls) j) (sym z) ∙ List·getD-map part ls j nothing
-
 mem-getD : (ls : List ListedRing) (d : ListedRing) (j : ℕ) → j < length ls → Mem (getD ls j d) ls
 mem-getD [] d j h = absurd (not-suc-le-zero h)
 mem-getD (x ∷ ls) d zero h = here refl
 mem-getD (x ∷ ls) d (suc j) h = there (mem-getD ls d j (le-of-suc-le-suc h))
 
-module _ (ls : List ListedRing) (old : Columns (List ℕ)) {c : Columns (List ℕ)} (e : c ≡ withEntries ls old) where
-  entry-is : (j : ℕ) → j < length ls → entryAt c j ≡ getD ls j nothing
+abbrev pub textOf : Columns (List ℕ) → TextColumns
+textOf c = textColumns (c .starts) (c .ends) (c .rows)
+
+-- whatever numbers stand in the column behind them
+module _ (f : ListedRing → ℕ) (ls : List ListedRing) (old : Columns (List ℕ)) {c : Columns (List ℕ)} (e : c ≡ withEntries f ls old) where
+  entry-is : (j : ℕ) → j < length ls → entryAt (textOf c) j ≡ getD ls j nothing
   unfolding entryAt nothing
   entry-is j h =
-      ap (λ (x : Columns (List ℕ)). entryAt x j) e
+      ap (λ (x : Columns (List ℕ)). entryAt (textOf x) j) e
       ∙ (λ i. record {
-        start = cell (λ x. x .start) refl ls (old .starts) j h i;
-        end = cell (λ x. x .end) refl ls (old .ends) j h i;
-        rows = cell (λ x. x .rows) refl ls (old .rows) j h i;
+        start = cell (λ x. x .start) ls (old .starts) nothing j h i;
+        end = cell (λ x. x .end) ls (old .ends) nothing j h i;
+        rows = cell (λ x. x .rows) ls (old .rows) nothing j h i;
       })
 
-  pub entries-are : {n : ℕ} → n ≡ length ls → entriesAt c n ≡ ls
+  pub entries-are : {n : ℕ} → n ≡ length ls → entriesAt (textOf c) n ≡ ls
   unfolding entriesAt
-  entries-are m = ap (tabulate (entryAt c) 0) m ∙ tabulate-list (entryAt c) nothing 0 ls (λ j h. ap (entryAt c) (zero-add j) ∙ entry-is j h)
+  entries-are m =
+      ap (tabulate (entryAt (textOf c)) 0) m
+      ∙ tabulate-list (entryAt (textOf c)) nothing 0 ls (λ j h. ap (entryAt (textOf c)) (zero-add j) ∙ entry-is j h)
 
   pub place-order : ((x : ListedRing) → Mem x ls → x .start ≤ x .end) → (j : ℕ) → j < length ls → getD (c .starts) j 0 ≤ getD (c .ends) j 0
   unfolding entryAt

@@ -5,27 +5,27 @@
 -- Assumes nothing.
 use Prim.Native.Nat.{ℕ, zero, suc, _+_, _-_, _≤_, _<_}
 use native.Mathlib.Nat.{le-trans}
-use native.Mathlib.Numerals.{add-one}
 use native.Mathlib.Omega.{arith}
 use mathlib.Core.Path.{_≡_, refl, sym, _∙_, ap}
 use mathlib.Core.Logic.{_⊎_, ⊎-elim}
 use mathlib.Core.Bool.{Bool, true, false}
 use mathlib.Core.List.{List, [], _∷_, _++_, map, flatten}
-use lib.ListN.{length, getD, replicate, length-replicate, getD-replicate}
+use lib.ListN.{getD, replicate, length-replicate, getD-replicate}
 use lib.Dec.{leb, eqb}
-use borrow.Author.Tests.{leb-true, leb-false, eq-eqb, ne-eqb}
+use borrow.Author.Tests.{leb-true, leb-false, ne-eqb}
 use Rattle.rings.specs.Words.{tabulate, consIf, filterBy}
 use Rattle.rings.specs.Table.{Table, size}
 use Rattle.rings.specs.CoreTimes.{never, rowTime}
 use Rattle.rings.specs.Windows.{Window, windowsFrom, windows}
 use Rattle.rings.specs.Starts.{CountsAt, Earliest}
 use Rattle.rings.specs.declared.Query.{Query}
-use Rattle.rings.proofs.WordLaws.{true-or-false, count-none, count-pos}
-use Rattle.rings.proofs.CoreTimeLaws.{row-time, row-past, row-later}
+use Rattle.rings.proofs.WordLaws.{true-or-false, count-none}
+use Rattle.rings.proofs.CoreTimeLaws.{row-time, row-later}
 use Rattle.listing.specs.Tight.{tight}
 use Rattle.listing.specs.Listing.{ListedRing, entryOf, listing}
 use Rattle.listing.specs.Inner.{startEntries, restFrom, Uncounted, FirstCounted}
 use Rattle.listing.proofs.StartLaws.{entries-are}
+use Rattle.listing.proofs.RunLaws.{starts-next, time-counted}
 use Rattle.listing.proofs.ColumnLaws.{map-append}
 use Rattle.listing.proofs.EndsLaws.{none-listed}
 
@@ -59,11 +59,8 @@ module _ (t : Table) (q : Query) where
   rest-first lo hi = starts-from hi (suc hi - lo) lo
 
   pub rest-next : (hi s : ℕ) → s ≤ hi → restFrom t q hi s ≡ startEntries t q hi s ++ restFrom t q hi (s + 1)
-  unfolding restFrom flatten tabulate
-  rest-next hi s h =
-      let m : suc hi - s ≡ suc (suc hi - (s + 1)) = omega arith in
-      ap (λ (n : ℕ). flatten (tabulate (startEntries t q hi) s n)) m
-      ∙ ap (λ (i : ℕ). startEntries t q hi s ++ flatten (tabulate (startEntries t q hi) i (suc hi - (s + 1)))) (sym (add-one s))
+  unfolding restFrom
+  rest-next hi s h = starts-next (startEntries t q hi) hi s h
 
   pub rest-end : (hi s : ℕ) → hi < s → restFrom t q hi s ≡ []
   unfolding restFrom flatten tabulate
@@ -82,17 +79,6 @@ module _ (t : Table) (q : Query) where
   from-next top F = record { each = λ j. le-trans (F .each j) (row-later t q _ (omega arith) (omega arith) j) }
 
   module _ (hi s : ℕ) (top : hi ≤ 1024) {xs : List ℕ} (T : CountsAt t q hi s xs) where
-    -- a day is counted if and only if it is a row's core time
-    time-counted : (j : ℕ) → rowTime t q hi s j < 1025 → getD xs (rowTime t q hi s j) 0 ≡ 0 → ⊥
-    time-counted j l z =
-        ⊎-elim (λ y. let n = row-past t q hi s j (leb-true (size t) j y) in omega arith)
-        (λ y. let a = T .each (rowTime t q hi s j) l in
-        let c =
-        count-pos (λ i. eqb (rowTime t q hi s i) (rowTime t q hi s j)) (size t) j (leb-false (size t) j y)
-        (eq-eqb (rowTime t q hi s j) (rowTime t q hi s j) refl) in
-        omega arith)
-        (true-or-false (leb (size t) j))
-
     no-time : (e : ℕ) → e < 1025 → ((j : ℕ) → rowTime t q hi s j ≡ e → ⊥) → getD xs e 0 ≡ 0
     no-time e l h = T .each e l ∙ count-none (λ j. eqb (rowTime t q hi s j) e) (size t) (λ j k. ne-eqb (rowTime t q hi s j) e (h j))
 
@@ -105,7 +91,7 @@ module _ (t : Table) (q : Query) where
                 λ j. ⊎-elim (λ y. leb-true r (rowTime t q hi s j) y)
                 (λ y. let l = leb-false r (rowTime t q hi s j) y in
                 let o = C .to in
-                absurd (time-counted j (omega arith) (C .before .none (rowTime t q hi s j) (F .each j) l)))
+                absurd (time-counted t q hi top T j (omega arith) (C .before .none (rowTime t q hi s j) (F .each j) l)))
                 (true-or-false (leb r (rowTime t q hi s j)));
           }
 

@@ -1,12 +1,13 @@
 -- The entries of one start, from its core times (src/list.rt).
---     listed-no, listed-by, listed-is      the two tests of `is_listed`: they say that [s, e] is tight
+--     listed-no, listed-by     the two tests of an end, as the code makes them
+--     one-more, no-more        one number more in a count
 --     entries-are, sum-small   the counts give the entries of the start; they sum up to no more than the rows
 -- Assumes nothing.
 use Prim.Native.Nat.{ℕ, zero, suc, _+_, _-_, _≤_, _<_, zero-le}
 use native.Mathlib.Nat.{le-refl, eq-or-lt-of-le}
 use native.Mathlib.Omega.{arith}
 use mathlib.Core.Path.{_≡_, refl, sym, _∙_, ap}
-use mathlib.Core.Logic.{_⊎_, ⊎-elim}
+use mathlib.Core.Logic.{⊎-elim}
 use mathlib.Core.Bool.{Bool, true, false}
 use mathlib.Core.List.{List, map}
 use lib.ListN.{getD}
@@ -26,11 +27,11 @@ use Rattle.listing.specs.Listing.{ListedRing, entryOf}
 use Rattle.listing.specs.Inner.{startEntries, sumOf, countEntries}
 use Rattle.listing.proofs.TightLaws.{tight-times, times-tight}
 
-one-more : (p : ℕ → Bool) (n : ℕ) → p n ≡ true → count p (suc n) ≡ suc (count p n)
+pub one-more : (p : ℕ → Bool) (n : ℕ) → p n ≡ true → count p (suc n) ≡ suc (count p n)
 unfolding count
 one-more p n h = sucIf-yes (count p n) h
 
-no-more : (p : ℕ → Bool) (n : ℕ) → p n ≡ false → count p (suc n) ≡ count p n
+pub no-more : (p : ℕ → Bool) (n : ℕ) → p n ≡ false → count p (suc n) ≡ count p n
 unfolding count
 no-more p n h = sucIf-no (count p n) h
 
@@ -100,7 +101,8 @@ module _ (t : Table) (q : Query) (hi s : ℕ) (top : hi ≤ 1024) {xs : List ℕ
       from (suc m) e total h et = let r = from m (suc e) (total + at xs e) (omega arith) (step e total (omega arith) et) in omega arith
 
   module _ {least : ℕ} (E : Earliest t q hi s least) where
-    pub listed-is : (e : ℕ) → s ≤ e → e ≤ hi → (ltb 0 (at xs e) and leb least e) ≡ tight t q s e
+    -- they say that [s, e] is tight
+    listed-is : (e : ℕ) → s ≤ e → e ≤ hi → (ltb 0 (at xs e) and leb least e) ≡ tight t q s e
     unfolding at
     listed-is e o h = same-truth (ltb 0 (getD xs e 0) and leb least e) (tight t q s e) to back
       where

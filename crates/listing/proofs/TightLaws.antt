@@ -5,7 +5,7 @@
 --     nonempty-e, nonempty-i   a ring is not empty exactly if it has a row
 --     tight-one                two tight windows with one ring are one
 -- Assumes nothing.
-use Prim.Native.Nat.{ℕ, pred, _-_, min, max, _≤_, _<_}
+use Prim.Native.Nat.{ℕ, pred, min, max, _≤_, _<_}
 use native.Mathlib.Nat.{le-trans, le-antisymm, eq-or-lt-of-le}
 use native.Mathlib.Omega.{arith}
 use mathlib.Core.Path.{_≡_, refl, sym, _∙_, ap, subst}

@@ -19,6 +19,7 @@ use Rattle.rings.specs.declared.Query.{Query}
 use Rattle.listing.specs.Tight.{nonempty, tightest}
 use Rattle.listing.specs.Listing.{ListedRing, listing}
 use Rattle.listing.specs.Distinct.{sameRows}
+use Rattle.listing.specs.WindowCounts.{showing, windowsBehind}
 
 -- 01: "ordered by start, then end"
 abbrev pub Sooner : ListedRing → ListedRing → Type 0
@@ -51,6 +52,8 @@ pub record ListedOnce (t : Table) (q : Query) (lo hi s e : ℕ) : Type 0 where
   pub from : s ≤ entry .start
   pub to : entry .end ≤ e
   pub counts : entry .rows ≡ members (ring t q s e)
+  -- its number of windows is that of all windows of the range whose ring is this one
+  pub shows : windowsBehind t q lo hi entry ≡ showing t q lo hi (ring t q s e)
 
 pub record RingOf (t : Table) (q : Query) (lo hi : ℕ) (m : List Bool) : Type 0 where
   pub start : ℕ

@@ -1,6 +1,7 @@
 pub mod Tight
 pub mod Listing
 pub mod Distinct
+pub mod WindowCounts
 pub mod ListingCall
 pub mod LongestList
 pub mod Examples

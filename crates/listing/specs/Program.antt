@@ -71,7 +71,7 @@ unfoldable pub tableOf : List ℕ → Table
 tableOf rows = record { days = daysOf rows; first = firstsOf rows; second = secondsOf rows }
 
 unfoldable pub fromList : Listed → List ListedRing → Outcome
-fromList (Listed.Rings n sum) ls = found ls
+fromList (Listed.Rings n sum empty) ls = found ls
 fromList (Listed.Refused r) ls = stoppedBy r
 
 -- 01: "then lists into columns of 2,048"

@@ -4,7 +4,9 @@
 --     rowsOf a           how many rows an input has
 --     asked a d f s      the outcome of what is asked, the rows standing in front of the columns d, f, s
 --     Asks o a d f s     an input of the outcome o asks for a
---     entryAt, entriesAt    the entry at a place of a listing's columns, and the first n
+--     TextColumns        the columns of a listing that its text is made of: its starts, its ends, its rows
+--     textColumns x y z  these three
+--     entryAt, entriesAt    the entry at a place of these columns, and the first n
 --     ringLines ls       the lines of a listing, without the header
 --     Rising c n         the columns have n entries, and each starts by its end
 --     Printable c n output    the same, and an output with room for their text
@@ -21,7 +23,6 @@ use Rattle.rings.specs.Words.{tabulate}
 use Rattle.rings.specs.Table.{tableOf}
 use Rattle.rings.specs.declared.Query.{Query}
 use Rattle.listing.specs.Listing.{ListedRing}
-use Rattle.listing.specs.ListingCall.{Columns}
 use Rattle.listing.specs.Program.{Outcome, stopped, readerLine, unlessRefused, mostListed, listed}
 use Rattle.listing.specs.ProgramText.{lineOf, listAnswer, listOutput}
 use Rattle.listing.specs.declared.Printed.{Printed}
@@ -49,23 +50,31 @@ pub record Asks (o : Outcome) (a : Asked) (d f s : List ℕ) : Type 0 where
   pub most : rowsOf a ≤ mostRows
   pub is : o ≡ asked a d f s
 
-unfoldable pub entryAt : Columns (List ℕ) → ℕ → ListedRing
+pub record TextColumns : Type 0 where
+  pub starts : List ℕ
+  pub ends : List ℕ
+  pub rows : List ℕ
+
+abbrev pub textColumns : List ℕ → List ℕ → List ℕ → TextColumns
+textColumns x y z = record { starts = x; ends = y; rows = z }
+
+unfoldable pub entryAt : TextColumns → ℕ → ListedRing
 entryAt c i = record { start = getD (c .starts) i 0; end = getD (c .ends) i 0; rows = getD (c .rows) i 0 }
 
-unfoldable pub entriesAt : Columns (List ℕ) → ℕ → List ListedRing
+unfoldable pub entriesAt : TextColumns → ℕ → List ListedRing
 entriesAt c n = tabulate (entryAt c) 0 n
 
 unfoldable pub ringLines : List ListedRing → List ℕ
 ringLines ls = entryLines (map lineOf ls)
 
-pub record Rising (c : Columns (List ℕ)) (n : ℕ) : Type 0 where
+pub record Rising (c : TextColumns) (n : ℕ) : Type 0 where
   pub most : n ≤ mostListed
   pub in-starts : n ≤ length (c .starts)
   pub in-ends : n ≤ length (c .ends)
   pub in-rows : n ≤ length (c .rows)
   pub order : (i : ℕ) → i < n → getD (c .starts) i 0 ≤ getD (c .ends) i 0
 
-pub record Printable (c : Columns (List ℕ)) (n : ℕ) (output : List ℕ) : Type 0 where
+pub record Printable (c : TextColumns) (n : ℕ) (output : List ℕ) : Type 0 where
   pub rising : Rising c n
   pub room : entryBytes * (n + 1) ≤ length output
 

@@ -13,9 +13,9 @@ pub use rings::Query;
 pub use rings::Refusal;
 pub use rings::Verdict;
 
-// Listing's answer: how many rings, and the sum of their rows. Longest list answers a `Counted`.
+// Listing's answer: how many rings, the sum of their rows, and how many windows have no ring. Longest list answers a `Counted`.
 pub enum Listed {
-    Rings { count: usize, sum: u64 },
+    Rings { count: usize, sum: u64, empty: u64 },
     Refused(Refusal),
 }
 

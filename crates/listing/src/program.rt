@@ -10,8 +10,7 @@ ghost use Rattle.text.specs.Table.{place, tableReadOf};
 ghost use Rattle.text.specs.Print.{pasted};
 ghost use Rattle.listing.specs.Program.{found, placeLine, readerLine, tableOf, listed, fromRows, outcome};
 ghost use Rattle.listing.specs.ProgramText.{refusedOf, listAnswer, listOutput};
-ghost use Rattle.listing.specs.ListingCall.{columnsOf};
-ghost use Rattle.listing.specs.ProgramSteps.{Readable, askedBy, Asks, Rising, entriesAt, ringLines, Printable, Prints};
+ghost use Rattle.listing.specs.ProgramSteps.{Readable, askedBy, Asks, Rising, textColumns, entriesAt, ringLines, Printable, Prints};
 use crate::Listed;
 use crate::Printed;
 use crate::list::list_rings;
@@ -175,9 +174,9 @@ fn read_input(input: &[u8], days: &mut [u16], first: &mut [u16], second: &mut [u
 
 // The lines of the first `count` entries, behind the header.
 fn write_lines(starts: &[u16], ends: &[u16], rows: &[u16], count: usize, output: &mut [u8])
-    requires { ⌜ Printable (columnsOf (now starts) (now ends) (now rows)) count (now output) ⌝ }
+    requires { ⌜ Printable (textColumns (now starts) (now ends) (now rows)) count (now output) ⌝ }
     ensures { λ _. ⌜ (
-        let c = columnsOf (now (starts .entry)) (now (ends .entry)) (now (rows .entry)) in
+        let c = textColumns (now (starts .entry)) (now (ends .entry)) (now (rows .entry)) in
         now (output .exit) ≡ pasted (now (output .entry)) entryBytes (ringLines (entriesAt c count))) ⌝ }
 {
     let mut at: usize = ENTRY_BYTES;
@@ -199,9 +198,9 @@ fn write_listing(
     count: usize,
     output: &mut [u8],
 ) -> Printed
-    requires { ⌜ Rising (columnsOf (now starts) (now ends) (now rows)) count ⌝ }
+    requires { ⌜ Rising (textColumns (now starts) (now ends) (now rows)) count ⌝ }
     ensures { λ r. ⌜ (
-        let o = found (entriesAt (columnsOf (now (starts .entry)) (now (ends .entry)) (now (rows .entry))) count) in
+        let o = found (entriesAt (textColumns (now (starts .entry)) (now (ends .entry)) (now (rows .entry))) count) in
         Prints o r (now (output .entry)) (now (output .exit))) ⌝ }
 {
     let size = ENTRY_BYTES * (count + 1);
@@ -231,6 +230,7 @@ fn print_rings(
     let mut starts = [0u16; MOST_LISTED];
     let mut ends = [0u16; MOST_LISTED];
     let mut rows = [0u16; MOST_LISTED];
+    let mut windows = [0u32; MOST_LISTED];
     let mut scratch = [0u16; SCRATCH];
     let rings = list_rings(
         days,
@@ -242,10 +242,15 @@ fn print_rings(
         &mut starts,
         &mut ends,
         &mut rows,
+        &mut windows,
         &mut scratch,
     );
     match rings {
-        Listed::Rings { count, sum: _ } => {
+        Listed::Rings {
+            count,
+            sum: _,
+            empty: _,
+        } => {
             return write_listing(&starts, &ends, &rows, count, output);
         }
         Listed::Refused(r) => {

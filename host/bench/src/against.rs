@@ -4,8 +4,8 @@
 //! differ by more than what a change is allowed, two archives in one run do not.
 
 use crate::tables::Case;
+use crate::{earlier, new, old, Bench, Engine, Op, Rings, Three};
 use crate::{full_cases, median, now, ring_windows, starts, window_room};
-use crate::{new, old, Bench, Engine, Op, Three};
 use rumbleog::{longest_list, scratch_for, ACCOUNTS};
 use std::ffi::{c_char, c_int, c_void, CStr, CString};
 use std::ptr::NonNull;
@@ -65,6 +65,7 @@ impl Library {
 struct Answer {
     told: Vec<Option<u64>>,
     three: Option<Three>,
+    windows: Vec<u32>,
     columns: Vec<Vec<u16>>,
     marks: Vec<Vec<u8>>,
 }
@@ -97,13 +98,18 @@ fn answer(engine: Engine, op: Op, case: &Case) -> Answer {
             answer.three = Some(three);
         }
         _ => {
-            let mut three = Three::new(longest_list(case.range()).unwrap_or(0) as usize);
-            let found = engine.list(case, &mut three, &mut scratch);
+            let mut rings = Rings::new(longest_list(case.range()).unwrap_or(0) as usize);
+            let found = engine.list(case, &mut rings, &mut scratch);
             answer.told.extend([
-                found.map(|found| found.0 as u64),
-                found.map(|found| found.1),
+                found.map(|found| found.count as u64),
+                found.map(|found| found.sum),
             ]);
-            answer.three = Some(three);
+            answer.three = Some(rings.three);
+            // What an earlier archive has not cannot be compared.
+            if !earlier::found() {
+                answer.told.push(found.map(|found| found.empty));
+                answer.windows = rings.windows;
+            }
         }
     }
     answer.columns.push(scratch);
@@ -161,6 +167,12 @@ pub fn against(old_file: &str, new_file: &str) {
     unsafe {
         old::c::load(|name| libraries[0].find(name));
         new::c::load(|name| libraries[1].find(name));
+        if let Some(listing) = libraries[0].find("rumbleog_listing") {
+            earlier::look(listing);
+        }
+    }
+    if earlier::found() {
+        println!("{old_file} lists without windows and empty: these are not compared.");
     }
     let cases = full_cases();
     let entries: Vec<usize> = cases.iter().map(same_answers).collect();

@@ -8,6 +8,7 @@
 //!   bench --against OLD.so NEW.so  two archives on the full tables, by turns
 
 mod against;
+mod earlier;
 mod peers;
 mod report;
 mod tables;
@@ -93,17 +94,40 @@ impl Three {
     }
 }
 
+/// Columns lent for a listing: the fourth has the windows behind each ring.
+pub struct Rings {
+    three: Three,
+    windows: Vec<u32>,
+}
+
+impl Rings {
+    pub fn new(places: usize) -> Rings {
+        Rings {
+            three: Three::new(places),
+            windows: vec![1; places],
+        }
+    }
+}
+
+/// What a listing tells.
+#[derive(Clone, Copy, Debug, PartialEq, Eq)]
+pub struct Found {
+    count: usize,
+    sum: u64,
+    empty: u64,
+}
+
 impl Engine {
-    /// Number of rings (and the sum of their rows), or none if refused.
-    pub fn list(self, case: &Case, out: &mut Three, scratch: &mut [u16]) -> Option<(usize, u64)> {
+    /// The rings of a case, or none if refused.
+    pub fn list(self, case: &Case, out: &mut Rings, scratch: &mut [u16]) -> Option<Found> {
         let listing = match self {
             Engine::Archive => raw::listing,
             Engine::Peer => peer::listing,
-            Engine::Old => old::listing,
+            Engine::Old => earlier::listing,
             Engine::New => new::listing,
         };
-        let Three { a, b, c } = out;
-        let (mut place, mut count, mut sum) = (0, 0, 0);
+        let Three { a, b, c } = &mut out.three;
+        let (mut place, mut count, mut sum, mut empty) = (0, 0, 0, 0);
         let number = listing(
             case.lend(),
             case.query(),
@@ -111,12 +135,15 @@ impl Engine {
             a,
             b,
             c,
+            &mut out.windows,
             scratch,
             &mut place,
             &mut count,
             &mut sum,
+            &mut empty,
         );
-        (number == number::OK).then_some((count as usize, sum))
+        let count = count as usize;
+        (number == number::OK).then_some(Found { count, sum, empty })
     }
 
     /// Number of entries, or the refusal.
@@ -285,18 +312,24 @@ fn check(case: &Case) -> (usize, usize) {
     let rows = table.days.len();
     let mut scratch = vec![7; scratch_for(rows)];
     let room = longest_list(case.range()).unwrap_or(0) as usize;
-    let mut list = Three::new(room);
-    let Some((count, sum)) = Engine::Archive.list(case, &mut list, &mut scratch) else {
+    let mut rings = Rings::new(room);
+    let Some(found) = Engine::Archive.list(case, &mut rings, &mut scratch) else {
         must(false, case, "the archive refuses, or");
         return (0, 0);
     };
+    let count = found.count;
+    let (list, behind) = (&rings.three, &rings.windows[..count]);
     must(
-        sum == list.c[..count].iter().map(|&n| u64::from(n)).sum::<u64>(),
+        found.sum == list.c[..count].iter().map(|&n| u64::from(n)).sum::<u64>(),
         case,
         "the sum",
     );
-    let mut other = Three::new(room);
-    let same = Engine::Peer.list(case, &mut other, &mut scratch) == Some((count, sum));
+    let behind_or_none = found.empty + behind.iter().map(|&n| u64::from(n)).sum::<u64>();
+    must(behind_or_none == room as u64, case, "the windows' sum");
+    let mut other = Rings::new(room);
+    let same = Engine::Peer.list(case, &mut other, &mut scratch) == Some(found);
+    let same = same && other.windows[..count] == *behind;
+    let other = other.three;
     let same = same && other.a[..count] == list.a[..count] && other.b[..count] == list.b[..count];
     must(
         same && other.c[..count] == list.c[..count],
@@ -358,8 +391,8 @@ fn check(case: &Case) -> (usize, usize) {
 /// Seconds of one run of an operation on a case. The buffers are the caller's.
 pub struct Bench<'a> {
     case: &'a Case,
-    room: Three,
-    exact: Three,
+    room: Rings,
+    exact: Rings,
     windows: Three,
     scratch: Vec<u16>,
     marks: Vec<u8>,
@@ -373,8 +406,8 @@ impl<'a> Bench<'a> {
         let rows = case.table.days.len();
         Bench {
             case,
-            room: Three::new(longest_list(case.range()).unwrap_or(0) as usize),
-            exact: Three::new(rings),
+            room: Rings::new(longest_list(case.range()).unwrap_or(0) as usize),
+            exact: Rings::new(rings),
             windows: Three::new(entries),
             scratch: vec![1; scratch_for(rows)],
             marks: vec![1; rows],
@@ -484,7 +517,7 @@ fn measure(case: &Case) -> Measured {
 fn search(number: u64) {
     let mut worst: Vec<(f64, f64, String)> = Vec::new();
     let mut scratch = vec![1; scratch_for(16_384)];
-    let mut room = Three::new(524_800);
+    let mut room = Rings::new(524_800);
     for seed in 0..number {
         let case = tables::drawn(seed, 16_384);
         let before = now();
@@ -494,7 +527,7 @@ fn search(number: u64) {
         let before = now();
         let _ = Engine::Archive.windows(&case, &mut windows, &mut scratch);
         let minimal = now() - before;
-        let rings = found.map_or(0, |found| found.0);
+        let rings = found.map_or(0, |found| found.count);
         let name = format!("{}: {rings} rings", case.name);
         worst.push((listing, minimal, name));
         if seed % 50 == 49 {

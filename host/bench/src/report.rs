@@ -1,7 +1,7 @@
 //! The benchmark's page: ratios, growth, bounds, memory.
 
 use crate::tables::{plain_case, Class};
-use crate::{Bench, Engine, Measured, Op, Three};
+use crate::{Bench, Engine, Measured, Op, Rings};
 use std::fmt::Write;
 use std::process::Command;
 
@@ -185,13 +185,13 @@ fn stack_of(bench: &mut Bench, op: Op) -> usize {
 pub fn memory_of(op: Op) {
     let case = plain_case(16_384);
     let mut scratch = vec![1; rumbleog::scratch_for(16_384)];
-    let mut room = Three::new(2_000_000);
+    let mut room = Rings::new(2_000_000);
     let entries = Engine::Archive
-        .windows(&case, &mut room, &mut scratch)
+        .windows(&case, &mut room.three, &mut scratch)
         .unwrap_or(0);
     let rings = Engine::Archive
         .list(&case, &mut room, &mut scratch)
-        .map_or(0, |found| found.0);
+        .map_or(0, |found| found.count);
     drop((room, scratch));
     let mut bench = Bench::new(&case, rings, entries);
     let before = peak();

@@ -13,7 +13,7 @@ use rumbleog::{
 use std::collections::{BTreeMap, BTreeSet};
 
 /// What a call returns: the number of the refusal, its place (line, for the
-/// listing program), the count (length of text) and the sum.
+/// listing program), the count (length of text), the sum and the empty windows.
 #[derive(Clone, Copy, Debug, Default, PartialEq, Eq)]
 pub struct Answer {
     /// Number of the refusal, `OK` for none.
@@ -24,6 +24,8 @@ pub struct Answer {
     pub count: u64,
     /// Sum of rows of a listing; 0 on a refusal and for other calls.
     pub sum: u64,
+    /// Windows with no ring, of a listing; 0 on a refusal and for other calls.
+    pub empty: u64,
 }
 
 fn refused(number: u32, place: usize) -> Answer {
@@ -280,22 +282,31 @@ pub fn minimal_windows(
     counted(list.len())
 }
 
-/// The distinct nonempty rings, each as first row day, last row day and number
-/// of rows, by start, then end.
-pub fn ring_list(table: Table, query: Query, range: Days) -> Vec<(u16, u16, u16)> {
-    let distinct: BTreeSet<RowSet> = all_rings(table, query, range).into_values().collect();
-    let mut list = Vec::new();
-    for ring in distinct {
+/// A ring as it is listed: first row day, last row day, number of rows, number
+/// of windows whose ring it is.
+pub type Listed = (u16, u16, u16, u32);
+
+/// The distinct nonempty rings by start, then end, and the number of windows
+/// with no ring.
+pub fn ring_list(table: Table, query: Query, range: Days) -> (Vec<Listed>, u64) {
+    let mut windows: BTreeMap<RowSet, u32> = BTreeMap::new();
+    for ring in all_rings(table, query, range).into_values() {
+        *windows.entry(ring).or_default() += 1;
+    }
+    let (mut list, mut empty) = (Vec::new(), 0);
+    for (ring, windows) in windows {
         let days = ring.iter().map(|&row| table.days[row]);
-        if let (Some(first), Some(last)) = (days.clone().min(), days.max()) {
-            list.push((first, last, ring.len() as u16));
+        match (days.clone().min(), days.max()) {
+            (Some(first), Some(last)) => list.push((first, last, ring.len() as u16, windows)),
+            _ => empty = u64::from(windows),
         }
     }
     list.sort();
-    list
+    (list, empty)
 }
 
 /// Listing.
+#[allow(clippy::too_many_arguments)]
 pub fn listing(
     table: Table,
     query: Query,
@@ -303,6 +314,7 @@ pub fn listing(
     start: &mut [u16],
     end: &mut [u16],
     rows: &mut [u16],
+    windows: &mut [u32],
     scratch: &mut [u16],
 ) -> Answer {
     if let Some(refusal) = table_refusal(table) {
@@ -314,22 +326,24 @@ pub fn listing(
     if range_is_bad(&range) {
         return refused(BAD_RANGE, 0);
     }
-    if start.len() != end.len() || start.len() != rows.len() {
+    let places = start.len();
+    if end.len() != places || rows.len() != places || windows.len() != places {
         return refused(BAD_LENGTH, 0);
     }
     if scratch_is_short(table, scratch) {
         return refused(SCRATCH, 0);
     }
     scratch.fill(0);
-    let list = ring_list(table, query, range);
-    if list.len() > start.len() {
+    let (list, empty) = ring_list(table, query, range);
+    if list.len() > places {
         return refused(NO_ROOM, 0);
     }
     for (at, &entry) in list.iter().enumerate() {
-        (start[at], end[at], rows[at]) = entry;
+        (start[at], end[at], rows[at], windows[at]) = entry;
     }
     Answer {
-        sum: list.iter().map(|&(_, _, rows)| u64::from(rows)).sum(),
+        sum: list.iter().map(|&(_, _, rows, _)| u64::from(rows)).sum(),
+        empty,
         ..counted(list.len())
     }
 }
@@ -444,8 +458,18 @@ pub fn list_text(input: &[u8]) -> Result<Vec<u8>, Answer> {
     };
     let mut list = [[0; MOST_LISTED]; 3];
     let [start, end, size] = &mut list;
+    let mut windows = [0; MOST_LISTED];
     let mut scratch = vec![0; 8_192 + 4 * rows];
-    let listed = listing(table, Query { k }, ts..=te, start, end, size, &mut scratch);
+    let listed = listing(
+        table,
+        Query { k },
+        ts..=te,
+        start,
+        end,
+        size,
+        &mut windows,
+        &mut scratch,
+    );
     match listed.number {
         OK => {}
         BAD_DAY | BAD_ACCOUNTS | DAY_FALLS => {

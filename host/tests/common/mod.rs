@@ -55,6 +55,12 @@ impl Cell for u16 {
     }
 }
 
+impl Cell for u32 {
+    fn pattern(rng: &mut Rng) -> u32 {
+        rng.next() as u32
+    }
+}
+
 const GUARD: usize = 24;
 
 /// A buffer to lend, patterned inside and with canaries on both sides.
@@ -203,7 +209,7 @@ pub fn window_ring(
         number,
         place,
         count,
-        sum: 0,
+        ..Answer::default()
     }
 }
 
@@ -244,10 +250,11 @@ pub fn minimal_windows(
         number,
         place,
         count,
-        sum: 0,
+        ..Answer::default()
     }
 }
 
+#[allow(clippy::too_many_arguments)]
 pub fn listing(
     table: Table,
     query: Query,
@@ -255,17 +262,20 @@ pub fn listing(
     start: &mut [u16],
     end: &mut [u16],
     rows: &mut [u16],
+    windows: &mut [u32],
     scratch: &mut [u16],
 ) -> Answer {
-    let (mut place, mut count, mut sum) = (NOISE, NOISE, NOISE);
+    let (mut place, mut count, mut sum, mut empty) = (NOISE, NOISE, NOISE, NOISE);
     let number = raw::listing(
-        table, query, range, start, end, rows, scratch, &mut place, &mut count, &mut sum,
+        table, query, range, start, end, rows, windows, scratch, &mut place, &mut count, &mut sum,
+        &mut empty,
     );
     Answer {
         number,
         place,
         count,
         sum,
+        empty,
     }
 }
 
@@ -286,7 +296,7 @@ pub fn longest_list(range: Days) -> Answer {
         number,
         place,
         count,
-        sum: 0,
+        ..Answer::default()
     }
 }
 
@@ -297,7 +307,7 @@ pub fn read_table(text: &[u8], days: &mut [u16], first: &mut [u16], second: &mut
         number,
         place,
         count,
-        sum: 0,
+        ..Answer::default()
     }
 }
 
@@ -308,7 +318,7 @@ pub fn list(input: &[u8], output: &mut [u8]) -> Answer {
         number,
         place: line,
         count: length,
-        sum: 0,
+        ..Answer::default()
     }
 }
 
@@ -338,6 +348,25 @@ pub fn small_table(rng: &mut Rng, most_rows: usize) -> Owned {
         let b = rng.pick(&accounts);
         if a != b {
             table.push(((from + rng.below(days)) as u16, a.min(b), a.max(b)));
+        }
+    }
+    Owned::sorted(&table)
+}
+
+/// A valid table whose rows lie on few days, with many days without rows
+/// between them.
+pub fn sparse_table(rng: &mut Rng, most_rows: usize) -> Owned {
+    let span = rng.from(4, 12);
+    let from = rng.pick(&[1, 2, 5, 500, 1_024 + 1 - span]);
+    let days: Vec<usize> = (0..rng.from(1, 4))
+        .map(|_| from + rng.below(span))
+        .collect();
+    let accounts = rng.from(3, 5);
+    let mut table = Vec::new();
+    for _ in 0..rng.from(0, most_rows) {
+        let (a, b) = (rng.below(accounts) as u16, rng.below(accounts) as u16);
+        if a != b {
+            table.push((rng.pick(&days) as u16, a.min(b), a.max(b)));
         }
     }
     Owned::sorted(&table)
@@ -407,6 +436,18 @@ pub fn some_range(rng: &mut Rng, table: &Owned) -> Days {
         6 => 1_019..=1_024,
         _ => a.min(1_024)..=b.min(1_024),
     }
+}
+
+/// A range that begins and ends some days about the table's first and last day,
+/// so mostly where nothing is.
+pub fn wide_range(rng: &mut Rng, table: &Owned) -> Days {
+    let first = table.days.first().map_or(9, |&day| day.clamp(1, 1_024));
+    let last = table.days.last().map_or(9, |&day| day.clamp(first, 1_024));
+    let from = (first + rng.below(3) as u16).saturating_sub(rng.below(5) as u16);
+    let to = (last + rng.below(5) as u16).saturating_sub(rng.below(3) as u16);
+    // Never wide, also where a damaged table's days are far apart.
+    let from = from.clamp(1, 1_024);
+    from..=to.min(1_024).min(from + 19).max(from)
 }
 
 /// A length that should be `right`: mostly is.

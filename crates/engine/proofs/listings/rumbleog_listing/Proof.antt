@@ -14,6 +14,9 @@ of-listed-requires c κs = search needs
 sum-of-requires : tie.Need-sum-of-requires
 sum-of-requires c κs = search needs
 
+empty-of-requires : tie.Need-empty-of-requires
+empty-of-requires c κs = search needs
+
 same-length : tie.Need-same-length
 same-length c = search needs
 
@@ -26,17 +29,22 @@ same-length-3 c = search needs
 same-length-4 : tie.Need-same-length-4
 same-length-4 c = search needs
 
+same-length-5 : tie.Need-same-length-5
+same-length-5 c = search needs
+
 returns : tie.Need-returns
 returns c =
-    let of-listed = c .before .of-listed in
-    let list-rings = c .before .before .before .before .before .before .before .before .before .before .list-rings in
+    let sum-of = c .before .sum-of in
+    let of-listed = c .before .before .of-listed in
+    let list-rings = c .before .before .before .before .before .before .before .before .before .before .before .before
+    .before .list-rings in
     listing-told _ _ _ _ _ _ (list-rings .ensures .0) (list-rings .ensures .1 .0) (list-rings .ensures .1 .1)
-    (of-listed .ensures) (c .sum-of .ensures)
+    (of-listed .ensures) (sum-of .ensures) (c .empty-of .ensures)
 
 pub rumbleog-listing-spec : {M : Type 1} → statement M
 rumbleog-listing-spec =
     tie.close
     (
-    tie.spec list-rings-requires of-listed-requires sum-of-requires same-length same-length-2 same-length-3
-    same-length-4 returns
+    tie.spec list-rings-requires of-listed-requires sum-of-requires empty-of-requires same-length same-length-2
+    same-length-3 same-length-4 same-length-5 returns
     )

@@ -16,11 +16,6 @@ abbrev μ-loop : tie.MeasureT-loop
 loop-holds : tie.Need-loop-holds Inv-loop μ-loop
 loop-holds c = (uncounted-start _ _, omega (arith, c .pre .order))
 
-cast-if1 : tie.Need-cast-if1 Inv-loop μ-loop
-cast-if1 c =
-    let pre = c .before .before .pre in
-    omega (arith, c .loop-test .taken, pre .last)
-
 mul-if1 : tie.Need-mul-if1 Inv-loop μ-loop
 mul-if1 c =
     let pre = c .before .before .pre in
@@ -63,7 +58,4 @@ returns-2 c =
 pub first-counted-spec : {M : Type 1} → statement M
 first-counted-spec =
     tie.close
-    (
-    tie.spec Inv-loop μ-loop loop-holds cast-if1 mul-if1 shared-slice-read-if1 returns add-day loop-less loop-again
-    returns-2
-    )
+    (tie.spec Inv-loop μ-loop loop-holds mul-if1 shared-slice-read-if1 returns add-day loop-less loop-again returns-2)

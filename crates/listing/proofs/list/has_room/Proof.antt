@@ -1,4 +1,3 @@
-use native.Mathlib.Omega.{arith}
 use Rattle.listing.proofs.FoundLaws.{room-most, room-counted}
 use borrow.Author.Needs.{needs}
 use Rattle.listing.proofs.list.has_room.Statement.{statement}
@@ -18,9 +17,7 @@ cast-most : tie.Need-cast-most
 cast-most c = search needs
 
 most-requires : tie.Need-most-requires
-most-requires c κs =
-    let pre = c .before .before .before .before .before .before .before .pre in
-    omega (arith, pre .asked .from, pre .asked .order, pre .asked .to)
+most-requires c κs = search needs
 
 cast-longest : tie.Need-cast-longest
 cast-longest c = search needs
@@ -28,7 +25,7 @@ cast-longest c = search needs
 returns : tie.Need-returns
 returns c =
     let most = c .before .most in
-    let pre = c .before .before .before .before .before .before .before .before .before .pre in
+    let pre = c .before .before .before .before .before .before .before .before .before .before .pre in
     room-most _ _ _ _ _ (pre .prepared) (most .ensures) (c .if1 .taken)
 
 pass-requires : tie.Need-pass-requires
@@ -46,9 +43,12 @@ same-length-3 c = search needs
 same-length-4 : tie.Need-same-length-4
 same-length-4 c = search needs
 
+same-length-5 : tie.Need-same-length-5
+same-length-5 c = search needs
+
 returns-2 : tie.Need-returns-2
 returns-2 c =
-    let pass = c .before .before .before .before .before .before .before .before .before .pass in
+    let pass = c .before .before .before .before .before .before .before .before .before .before .before .pass in
     room-counted _ _ _ _ (pass .ensures)
 
 pub has-room-spec : {M : Type 1} → statement M
@@ -56,5 +56,5 @@ has-room-spec =
     tie.close
     (
     tie.spec add-most sub-most cast-most most-requires cast-longest returns pass-requires same-length same-length-2
-    same-length-3 same-length-4 returns-2
+    same-length-3 same-length-4 same-length-5 returns-2
     )

@@ -2,8 +2,7 @@
 -- Assumes nothing.
 use Prim.Native.Nat.{_-_, _≤_}
 use native.Mathlib.Omega.{arith}
-use Rattle.listing.specs.ListingCall.{columnsOf}
-use Rattle.listing.specs.ProgramSteps.{entryAt}
+use Rattle.listing.specs.ProgramSteps.{textColumns, entryAt}
 use Rattle.listing.specs.Listing.{span}
 use Rattle.listing.proofs.PrintingLaws.{Printing, print-start, print-next, print-end}
 use Rattle.listing.proofs.program.write_lines.Statement.{statement}
@@ -11,7 +10,7 @@ use Rattle.listing.proofs.program.write_lines.Tie as tie
 
 abbrev Inv-loop : tie.InvT-loop
 Inv-loop starts ends rows count output₀ at₀ i₀ output at i =
-    (i ≤ count) × Printing (columnsOf starts ends rows) output₀ output at i
+    (i ≤ count) × Printing (textColumns starts ends rows) output₀ output at i
 
 abbrev μ-loop : tie.MeasureT-loop
 μ-loop starts ends rows count output₀ at₀ i₀ output at i = count - i
@@ -19,7 +18,7 @@ abbrev μ-loop : tie.MeasureT-loop
 loop-holds : tie.Need-loop-holds Inv-loop μ-loop
 loop-holds c =
     let args = c .before .before .before .before .args in
-    (omega arith, print-start (columnsOf (args .starts .now) (args .ends .now) (args .rows .now)) (args .output .now))
+    (omega arith, print-start (textColumns (args .starts .now) (args .ends .now) (args .rows .now)) (args .output .now))
 
 mul-start : tie.Need-mul-start Inv-loop μ-loop
 mul-start c =
@@ -97,7 +96,7 @@ loop-again c =
     let pre = c .before .before .before .before .before .before .before .before .before .before .before .before
     .before .pre in (
       omega (arith, loop-test .taken),
-      print-next (columnsOf (args .starts .now) (args .ends .now) (args .rows .now)) (loop .inv .1) (loop-test .taken)
+      print-next (textColumns (args .starts .now) (args .ends .now) (args .rows .now)) (loop .inv .1) (loop-test .taken)
           (pre .room)
           (put-line .ensures .answers) (put-line .ensures .holds),
     )
@@ -111,7 +110,7 @@ returns : tie.Need-returns Inv-loop μ-loop
 returns c =
     let loop = c .before .loop in
     let args = c .before .before .before .before .before .before .args in
-    print-end (columnsOf (args .starts .now) (args .ends .now) (args .rows .now)) (loop .inv .1) (loop .inv .0)
+    print-end (textColumns (args .starts .now) (args .ends .now) (args .rows .now)) (loop .inv .1) (loop .inv .0)
     (c .loop-test .left)
 
 pub write-lines-spec : {M : Type 1} → statement M

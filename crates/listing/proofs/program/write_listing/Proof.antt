@@ -1,5 +1,5 @@
 use Rattle.listing.proofs.PrintingLaws.{text-none, text-done}
-use Rattle.listing.specs.ListingCall.{columnsOf}
+use Rattle.listing.specs.ProgramSteps.{textColumns}
 use Rattle.rings.specs.Refusals.{placeOf}
 use native.Mathlib.Omega.{arith}
 use borrow.Author.Needs.{needs}
@@ -25,7 +25,7 @@ returns : tie.Need-returns
 returns c =
     let if1 = c .before .if1 in
     let args = c .before .before .before .before .before .before .args in
-    text-none (columnsOf (args .starts .now) (args .ends .now) (args .rows .now)) (args .output .now)
+    text-none (textColumns (args .starts .now) (args .ends .now) (args .rows .now)) (args .output .now)
     (args .count) (if1 .taken) ((c .refused) .ensures)
 
 put-header-requires : tie.Need-put-header-requires
@@ -44,7 +44,7 @@ returns-2 c =
     let if1 = c .before .before .before .before .before .before .before .before .if1 in
     let args = c .before .before .before .before .before .before .before .before .before .before .before .before
     .before .args in
-    text-done (columnsOf (args .starts .now) (args .ends .now) (args .rows .now)) (args .output .now)
+    text-done (textColumns (args .starts .now) (args .ends .now) (args .rows .now)) (args .output .now)
     (args .count) (if1 .left) (put-header .ensures .answers) (put-header .ensures .holds)
     (write-lines .ensures)
 
