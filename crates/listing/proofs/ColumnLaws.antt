@@ -20,7 +20,7 @@ use Rattle.rings.specs.Buffers.{over}
 use Rattle.rings.proofs.WordLaws.{clash}
 use Rattle.listing.specs.Listing.{ListedRing}
 use Rattle.listing.specs.ListingCall.{Columns, OneLength, columnsOf, withEntries}
-use Rattle.listing.specs.Inner.{filled, filledIf, put, writtenOf, Entering}
+use Rattle.listing.specs.Inner.{filled, filledIf, writtenOf, Entering}
 
 pub map-append : {A B : Type 0} (f : A → B) (xs ys : List A) → map f (xs ++ ys) ≡ map f xs ++ map f ys
 map-append f [] ys = refl
@@ -155,6 +155,10 @@ alike-kept A S =
       rows = omega (arith, A .rows, S .rows, S .starts);
       windows = omega (arith, A .windows, S .windows, S .starts);
     }
+
+abbrev put : ℕ → ListedRing → ℕ → Columns (List ℕ) → Columns (List ℕ)
+put n x w c =
+    columnsOf (set (c .starts) n (x .start)) (set (c .ends) n (x .end)) (set (c .rows) n (x .rows)) (set (c .windows) n w)
 
 pub data Putting (writes : Bool) (n : ℕ) (x : ListedRing) (w : ℕ) (old new : Columns (List ℕ)) : Type 0 where
   pass : writes ≡ false → new ≡ old → Putting writes n x w old new

@@ -1,6 +1,5 @@
 -- What a listing lists, and how many rings a range has.
 --     windows-length           the windows of a range number n(n+1)/2
---     filterBy-length          what is filtered is no longer than it was
 --     rings-length, passing-most    as many rings as windows, where each counts; no test is passed by more
 --     listing-most, rings-most no listing has more entries, and no range has more rings
 --     distinct-listed          a listing has as many entries as the range has distinct rings that are not empty
@@ -65,7 +64,7 @@ windows-length lo hi = from (suc hi - lo) lo refl
         length-append (windowsFrom hi i) (flatten (tabulate (windowsFrom hi) (suc i) n))
         ∙ (ap (λ (m : ℕ). m + length (flatten (tabulate (windowsFrom hi) (suc i) n))) a ∙ (ap (λ (m : ℕ). suc n + m) b ∙ sym (longest-suc n)))
 
-pub filterBy-length : {A : Type 0} (p : A → Bool) (xs : List A) → length (filterBy p xs) ≤ length xs
+filterBy-length : {A : Type 0} (p : A → Bool) (xs : List A) → length (filterBy p xs) ≤ length xs
 unfolding filterBy
 filterBy-length p [] = le-refl 0
 filterBy-length p (x ∷ xs) =

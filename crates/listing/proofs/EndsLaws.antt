@@ -45,6 +45,9 @@ uncounted-next {xs} {low} {day} U z =
       none = λ e a b. ⊎-elim (λ y. ap (λ (d : ℕ). getD xs d 0) y ∙ z) (λ l. U .none e a l) (eq-or-lt-of-le (omega arith));
     }
 
+uncounted-less : {xs : List ℕ} {day low : ℕ} → Uncounted xs day low → day < low → Uncounted xs (day + 1) low
+uncounted-less U l = record { order = omega arith; none = λ e a b. U .none e (omega arith) b }
+
 pub counted-one : {xs : List ℕ} {low hi day : ℕ} → Uncounted xs low day → day ≤ hi → (getD xs day 0 ≡ 0 → ⊥) → FirstCounted xs low hi day
 counted-one U o h = record { before = U; to = omega arith; counted = λ a z. h z }
 
@@ -93,9 +96,9 @@ module _ (xs : List ℕ) (least s te e total : ℕ) (o : e ≤ te) where
       ap (countEntries xs least s e total) (days-next te e o)
       ∙ ap (λ (d : ℕ). consIf (ltb 0 added and leb least e) here (countEntries xs least s d (total + added) (te + 1 - (e + 1)))) (sym (add-one e))
 
-  -- where the test says so
-  entries-by : {b c : Bool} → b ≡ (ltb 0 added and leb least e) → b ≡ c → countEntries xs least s e total (te + 1 - e) ≡ consIf c here later
-  entries-by eb h = entries-next ∙ ap (λ (d : Bool). consIf d here later) (sym eb ∙ h)
+  -- by what the test says
+  entries-by : {b : Bool} → b ≡ (ltb 0 added and leb least e) → countEntries xs least s e total (te + 1 - e) ≡ consIf b here later
+  entries-by eb = entries-next ∙ ap (λ (d : Bool). consIf d here later) (sym eb)
 
 -- no end before the least time is listed
 pub none-listed : (xs : List ℕ) (least s e total m : ℕ) → e + m ≤ least → countEntries xs least s e total m ≡ []
@@ -120,17 +123,14 @@ module _ (xs : List ℕ) (least s te low total : ℕ) where
       let h : getD xs e 0 ≡ 0 = U .none e (le-refl e) (omega arith) in
       let k : total + getD xs e 0 ≡ total = omega arith in
       let l : e ≤ te = omega arith in
-      let later-none : Uncounted xs (e + 1) low = record { order = omega arith; none = λ i a b. U .none i (omega arith) b } in
-      entries-next xs least s te e total l
-      ∙ (ap (λ (b : Bool). consIf b (here xs least s te e total l) (later xs least s te e total l)) (sym (listed-no least e h))
-      ∙ (ap (λ (c : ℕ). countEntries xs least s (e + 1) c (te + 1 - (e + 1))) k ∙ none-counted m (e + 1) o (omega arith) later-none))
+      entries-by xs least s te e total l (listed-no least e h)
+      ∙ (ap (λ (c : ℕ). countEntries xs least s (e + 1) c (te + 1 - (e + 1))) k ∙ none-counted m (e + 1) o (omega arith) (uncounted-less U (omega arith)))
 
 sum-skip : (xs : List ℕ) (te low m e : ℕ) → low ≤ te + 1 → e + m ≡ low → Uncounted xs e low → sumOf xs e (te + 1 - e) ≡ sumOf xs low (te + 1 - low)
 sum-skip xs te low zero e o d U = let h : e ≡ low = omega arith in ap (λ (c : ℕ). sumOf xs c (te + 1 - c)) h
 sum-skip xs te low (suc m) e o d U =
     let h : getD xs e 0 ≡ 0 = U .none e (le-refl e) (omega arith) in
-    let later-none : Uncounted xs (e + 1) low = record { order = omega arith; none = λ i a b. U .none i (omega arith) b } in
-    let r = sum-skip xs te low m (e + 1) o (omega arith) later-none in
+    let r = sum-skip xs te low m (e + 1) o (omega arith) (uncounted-less U (omega arith)) in
     let n = sum-next xs te e (omega arith) in
     omega arith
 
@@ -246,7 +246,7 @@ module _ {xs g : List ℕ} {f : Frame} {low least : ℕ} {writes : Bool} {p : Pa
         -- the entry of the run, if it is listed, then those from the next core time on
         entries-run : countEntries xs least (f .start) e total (f .stop + 1 - e) ≡ consIf (leb least e) row behind-run
         entries-run =
-            entries-by xs least (f .start) (f .stop) e total o (listed-by least e (E .counted o)) refl
+            entries-by xs least (f .start) (f .stop) e total o (listed-by least e (E .counted o))
             ∙ ap (consIf (leb least e) row)
             (none-counted xs least (f .start) (f .stop) next (total + getD xs e 0) (next - (e + 1)) (e + 1) (C .to)
             (omega (arith, C .before .order)) (C .before))

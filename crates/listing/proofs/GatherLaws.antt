@@ -1,4 +1,5 @@
--- The windows behind the rings of a start, gathered from start to start (specs/Inner.antt, Gathered; src/list.rt: pass).
+-- The windows behind the rings of a start, gathered from start to start (src/list.rt: pass).
+--     Gathered t q lo hi from s xs g    g holds for each core time at s the windows of the starts before `from` whose ring it ends
 --     gather-start       before the first start nothing is gathered
 --     gather-number      of an entry, what is gathered and the runs of the starts alike are all windows behind its ring
 --     gather-small       no more than a range has
@@ -21,11 +22,18 @@ use Rattle.rings.specs.declared.Query.{Query}
 use Rattle.rings.specs.declared.frame.Frame.{Frame}
 use Rattle.rings.proofs.WordLaws.{true-or-false, same-or}
 use Rattle.listing.specs.WindowCounts.{showing, windowsBehind}
-use Rattle.listing.specs.Inner.{Uncounted, showingAt, Gathered, Run, Regathered, mostWindows, Gathering}
+use Rattle.listing.specs.Inner.{Uncounted, Run, Regathered, mostWindows, Gathering}
 use Rattle.listing.specs.declared.list.Passed.{Passed}
 use Rattle.listing.proofs.EndsLaws.{first-exists}
-use Rattle.listing.proofs.RunLaws.{longest-small, showing-next, showing-most, not-before, run-ring, run-length, same-ring, same-counts, same-showing}
-use Rattle.listing.proofs.RunLaws.{last-start, fresh}
+use Rattle.listing.proofs.RunLaws.{showingAt, longest-small, showing-next, showing-most, not-before, run-ring, run-length, same-ring, same-counts}
+use Rattle.listing.proofs.RunLaws.{same-showing, last-start, fresh}
+
+-- the starts from `from` to s have the same rings, of which nothing is gathered yet
+pub record Gathered (t : Table) (q : Query) (lo hi from s : ℕ) (xs g : List ℕ) : Type 0 where
+  pub long : length g ≡ 1025
+  pub each : (e : ℕ) → s ≤ e → e ≤ hi → (getD xs e 0 ≡ 0 → ⊥)
+      → getD g e 0 + (s - from) * showingAt t q hi s (ring t q s e) + showing t q s hi (ring t q s e) ≡ showing t q lo hi (ring t q s e)
+  pub none : (e : ℕ) → e ≤ hi → getD xs e 0 ≡ 0 → getD g e 0 ≡ 0
 
 -- no start is alike yet
 none-alike : (n k : ℕ) → (n - n) * k ≡ 0

@@ -19,14 +19,14 @@ use Rattle.listing.specs.Listing.{listing}
 use Rattle.listing.specs.WindowCounts.{emptyWindows, windowsBehind}
 use Rattle.listing.specs.LongestList.{longest}
 use Rattle.listing.specs.ListingCall.{Columns, OneLength}
-use Rattle.listing.specs.Inner.{startEntries, restFrom, FirstCounted, Gathered, Progress, dayPlaces, mostRows, Counting, EndsAhead}
+use Rattle.listing.specs.Inner.{startEntries, restFrom, FirstCounted, Progress, dayPlaces, mostRows, Counting, EndsAhead}
 use Rattle.listing.specs.Inner.{Numbered, EndsListed, InRange, Passing}
 use Rattle.listing.specs.declared.list.Passed.{Passed}
 use Rattle.listing.proofs.StartLaws.{sum-small, entries-are}
 use Rattle.listing.proofs.ColumnLaws.{SameLengths, same-places, lengths-on, alike-kept}
 use Rattle.listing.proofs.ProgressLaws.{progress-start, progress-as}
 use Rattle.listing.proofs.EndsLaws.{start-as}
-use Rattle.listing.proofs.GatherLaws.{gather-start, gather-number, gather-small, gather-since, gather-next}
+use Rattle.listing.proofs.GatherLaws.{Gathered, gather-start, gather-number, gather-small, gather-since, gather-next}
 use Rattle.listing.proofs.RangeLaws.{rest-first, rest-next, rest-end, TimesFrom, from-start, from-counted, from-uncounted, from-next, rest-quiet}
 use Rattle.listing.proofs.WindowCountLaws.{empty-next, empty-quiet, empty-end}
 

@@ -1,5 +1,6 @@
 -- The windows behind a ring, start by start. For one start the ends fall into runs with one ring each: from one core
 -- time of a row to the next.
+--     showingAt t q hi s m     of the windows that start on s, the number of those whose ring is m
 --     filterBy-none            a list of which nothing passes, filtered
 --     starts-next, passing-next     what is listed start by start: the first start, then the later ones
 --     showing-next             the windows that show a row set are those of the first start and those of the later starts
@@ -38,11 +39,15 @@ use Rattle.listing.specs.Tight.{nonempty}
 use Rattle.listing.specs.Distinct.{sameRows, ringsOf}
 use Rattle.listing.specs.LongestList.{longest, daysOf}
 use Rattle.listing.specs.WindowCounts.{showing}
-use Rattle.listing.specs.Inner.{FirstCounted, showingAt}
+use Rattle.listing.specs.Inner.{FirstCounted}
 use Rattle.listing.proofs.TightLaws.{nonempty-e, nonempty-i}
 use Rattle.listing.proofs.DistinctLaws.{same-rows-e, same-rows-i}
 use Rattle.listing.proofs.CountLaws.{passing-most}
 use Rattle.listing.proofs.StartLaws.{one-more, no-more}
+
+-- before s no window ends: its ring has no row
+unfoldable pub showingAt : Table → Query → ℕ → ℕ → List Bool → ℕ
+showingAt t q hi s m = count (λ e. sameRows m (ring t q s e)) (suc hi)
 
 -- ---- counts
 

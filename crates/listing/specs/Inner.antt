@@ -8,15 +8,12 @@
 --                                          say; total rows have earlier core times
 --     Uncounted xs s low       no day from s on is counted in xs before low
 --     FirstCounted xs low hi r    r is the first day from low to hi that is counted in xs, hi + 1 if none is
---   The windows behind the rings of a start
---     showingAt t q hi s m     of the windows that start on s, the number of those whose ring is m
---     Gathered t q lo hi from s xs g    g holds for each core time at s the windows of the starts before `from` whose ring it ends
+--   The runs of a start
 --     Run xs hi e next         the day e is counted in xs, and next is the day counted next, hi + 1 if none is: between them the ring stays
 --     Regathered               g' is g with the runs of the ends before e gathered, or taken where the end is listed
 --   Columns
 --     filled v n m xs          xs with v at m places from n on
 --     filledIf b v n m xs      the same where b says so, else xs
---     put n x w c              the columns c with the entry x at place n, w windows behind it
 --     writtenOf b ls           the entries ls where b says that they are written, else none
 --     Progress f b goal rest   of the entries goal all but rest are counted, summed up and, where b says so, written, f x windows behind x
 --   Steps, by what they ask and what they promise
@@ -36,9 +33,8 @@ use mathlib.Core.Bool.{Bool, true, false}
 use mathlib.Core.List.{List, [], _++_, map, flatten}
 use lib.ListN.{length, getD, set}
 use lib.Dec.{leb, ltb}
-use Rattle.rings.specs.Words.{_and_, at, count, tabulate, consIf, filterBy}
+use Rattle.rings.specs.Words.{_and_, at, tabulate, consIf, filterBy}
 use Rattle.rings.specs.Table.{Table, size}
-use Rattle.rings.specs.Ring.{ring}
 use Rattle.rings.specs.Sound.{Sound}
 use Rattle.rings.specs.Starts.{Prepared}
 use Rattle.rings.specs.Windows.{windowsFrom}
@@ -49,9 +45,8 @@ use Rattle.rings.specs.declared.Query.{Query}
 use Rattle.rings.specs.declared.refusal.Refusal.the-variants.{NoRoom}
 use Rattle.listing.specs.Tight.{tight}
 use Rattle.listing.specs.Listing.{ListedRing, entryOf, listing, rowSum}
-use Rattle.listing.specs.Distinct.{sameRows}
-use Rattle.listing.specs.WindowCounts.{showing, emptyWindows, windowsBehind}
-use Rattle.listing.specs.ListingCall.{Columns, OneLength, columnsOf, withEntries, summed, listingColumns}
+use Rattle.listing.specs.WindowCounts.{emptyWindows, windowsBehind}
+use Rattle.listing.specs.ListingCall.{Columns, OneLength, withEntries, summed, listingColumns}
 use Rattle.listing.specs.declared.Listed.{Listed}
 use Rattle.listing.specs.declared.list.Passed.{Passed}
 
@@ -85,18 +80,7 @@ pub record FirstCounted (xs : List ℕ) (low hi r : ℕ) : Type 0 where
   pub to : r ≤ hi + 1
   pub counted : r ≤ hi → getD xs r 0 ≡ 0 → ⊥
 
--- ---- the windows behind the rings of a start
-
--- before s no window ends: its ring has no row
-unfoldable pub showingAt : Table → Query → ℕ → ℕ → List Bool → ℕ
-showingAt t q hi s m = count (λ e. sameRows m (ring t q s e)) (suc hi)
-
--- the starts from `from` to s have the same rings, of which nothing is gathered yet
-pub record Gathered (t : Table) (q : Query) (lo hi from s : ℕ) (xs g : List ℕ) : Type 0 where
-  pub long : length g ≡ 1025
-  pub each : (e : ℕ) → s ≤ e → e ≤ hi → (getD xs e 0 ≡ 0 → ⊥)
-      → getD g e 0 + (s - from) * showingAt t q hi s (ring t q s e) + showing t q s hi (ring t q s e) ≡ showing t q lo hi (ring t q s e)
-  pub none : (e : ℕ) → e ≤ hi → getD xs e 0 ≡ 0 → getD g e 0 ≡ 0
+-- ---- the runs of a start
 
 pub record Run (xs : List ℕ) (hi e next : ℕ) : Type 0 where
   pub counted : getD xs e 0 ≡ 0 → ⊥
@@ -117,10 +101,6 @@ filled v n (suc m) xs = set (filled v n m xs) (n + m) v
 unfoldable pub filledIf : Bool → ℕ → ℕ → ℕ → List ℕ → List ℕ
 filledIf true v n m xs = filled v n m xs
 filledIf false v n m xs = xs
-
-abbrev pub put : ℕ → ListedRing → ℕ → Columns (List ℕ) → Columns (List ℕ)
-put n x w c =
-    columnsOf (set (c .starts) n (x .start)) (set (c .ends) n (x .end)) (set (c .rows) n (x .rows)) (set (c .windows) n w)
 
 unfoldable pub writtenOf : Bool → List ListedRing → List ListedRing
 writtenOf true ls = ls
