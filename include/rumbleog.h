@@ -70,6 +70,9 @@ enum rumbleog_refusal {
 /* Bytes of listing text for that many rings: a header and a line a ring. */
 #define RUMBLEOG_TEXT_FOR(rings) ((size_t)22 * ((size_t)1 + (size_t)(rings)))
 
+/* Bytes of table text for that many rows: a line a row. */
+#define RUMBLEOG_TABLE_TEXT_FOR(rows) ((size_t)18 * (size_t)(rows))
+
 /* A table: days, first accounts, second accounts. */
 #define RUMBLEOG_TABLE                                  \
     const uint16_t *days, size_t days_length,           \
@@ -90,7 +93,8 @@ uint32_t rumbleog_list(const uint8_t *input, size_t input_length,
                        uint64_t *line, uint64_t *length);
 
 /* Checks a table: 1; 2; then the lowest faulty row by its first fault, 3, 4,
- * 5. Every other call that takes a table runs these checks first. */
+ * 5. Every other call that takes a table runs these checks first, but for
+ * rumbleog_write_table. */
 uint32_t rumbleog_check_table(RUMBLEOG_TABLE, uint64_t *place);
 
 /* Marks the ring of the window [s, e] for k: marks[row] is 1 or 0.
@@ -178,6 +182,16 @@ uint32_t rumbleog_read_table(const uint8_t *text, size_t text_length,
                              uint16_t *first, size_t first_length,
                              uint16_t *second, size_t second_length,
                              uint64_t *place, uint64_t *count);
+
+/* Writes rows as text: a line of 18 bytes a row, laid out as
+ * rumbleog_read_table reads it. It takes any three columns of one length, with
+ * any numbers, and does not check the table. What that call reads comes out
+ * again byte for byte, and what is written reads back as it was.
+ * Checks: 1; 10 text below RUMBLEOG_TABLE_TEXT_FOR(rows) bytes. length: bytes
+ * written. Bytes past them keep their contents. */
+uint32_t rumbleog_write_table(RUMBLEOG_TABLE,
+                              uint8_t *text, size_t text_length,
+                              uint64_t *place, uint64_t *length);
 
 #ifdef __cplusplus
 }

@@ -3,6 +3,8 @@
  *   host list FILE           lists the rings of FILE: a query line, then rows
  *   host ring FILE K S E     marks the ring of [S, E] for K in FILE's rows
  *                            (FILE as above; its query line is passed over)
+ *   host copy FILE           prints FILE again: the query line as it stands, the
+ *                            rows read and written
  *
  * A refusal is printed as the listing program prints it: `refused`, the number
  * in 5 columns and the input line in 6, or 0. Exit status 0 for an answer, 1
@@ -85,49 +87,84 @@ static int list(const uint8_t *input, size_t input_length)
     return status;
 }
 
-/* Rows by the reader, then one window's ring: a line for each row, its mark
- * first. */
-static int ring(const uint8_t *input, size_t input_length, uint16_t k, uint16_t s, uint16_t e)
+/* The rows of an input, in three columns of one allocation. */
+struct rows {
+    uint16_t *days, *first, *second;
+    size_t count;
+};
+
+/* Rows by the reader, behind the query line. 0, or the status to end with;
+ * the columns are to be freed, by their days. */
+static int read_rows(const uint8_t *input, size_t input_length, struct rows *rows)
 {
+    *rows = (struct rows){NULL, NULL, NULL, 0};
     if (input_length < QUERY)
         return refused(RUMBLEOG_BAD_LINE, 1);
-    const uint8_t *text = input + QUERY;
-    size_t text_length = input_length - QUERY;
-    size_t most = text_length / LINE + 1, scratch_length = RUMBLEOG_SCRATCH_FOR(most);
+    size_t most = (input_length - QUERY) / LINE + 1;
+    uint64_t place, count;
     uint16_t *columns = malloc(3 * most * sizeof *columns);
+    if (columns == NULL)
+        return trouble("no memory");
+    rows->days = columns;
+    rows->first = columns + most;
+    rows->second = columns + 2 * most;
+    uint32_t number = rumbleog_read_table(input + QUERY, input_length - QUERY, rows->days, most,
+                                          rows->first, most, rows->second, most, &place, &count);
+    if (number != RUMBLEOG_OK)
+        return refused(number, place == 0 ? 0 : place + 1);
+    rows->count = (size_t)count;
+    return 0;
+}
+
+/* One window's ring: a line for each row, its mark first. */
+static int ring(const struct rows *rows, uint16_t k, uint16_t s, uint16_t e)
+{
+    size_t count = rows->count, scratch_length = RUMBLEOG_SCRATCH_FOR(count);
     uint16_t *scratch = malloc(scratch_length * sizeof *scratch);
-    uint8_t *marks = malloc(most);
-    uint64_t place, count, ones;
+    uint8_t *marks = malloc(count + 1);
+    uint64_t place, ones;
     int status = 0;
-    if (columns == NULL || scratch == NULL || marks == NULL) {
+    if (scratch == NULL || marks == NULL) {
         status = trouble("no memory");
         goto done;
     }
-    uint16_t *days = columns, *first = columns + most, *second = columns + 2 * most;
-    uint32_t number = rumbleog_read_table(text, text_length, days, most, first, most, second,
-                                          most, &place, &count);
-    if (number != RUMBLEOG_OK) {
-        status = refused(number, place == 0 ? 0 : place + 1);
-        goto done;
-    }
-    size_t rows = (size_t)count;
-    number = rumbleog_window_ring(days, rows, first, rows, second, rows, k, s, e, marks, rows,
-                                  scratch, scratch_length, &place, &ones);
+    uint32_t number = rumbleog_window_ring(rows->days, count, rows->first, count, rows->second,
+                                           count, k, s, e, marks, count, scratch, scratch_length,
+                                           &place, &ones);
     if (number != RUMBLEOG_OK) {
         int at_row = RUMBLEOG_BAD_DAY <= number && number <= RUMBLEOG_DAY_FALLS;
         status = refused(number, at_row ? place + 2 : 0);
         goto done;
     }
-    int written = printf("%" PRIu64 " of %" PRIu64 " rows\n", ones, count);
-    for (size_t row = 0; row < rows && written >= 0; row++)
-        written = printf("%" PRIu8 "%5" PRIu16 "%6" PRIu16 "%6" PRIu16 "\n", marks[row], days[row],
-                         first[row], second[row]);
+    int written = printf("%" PRIu64 " of %zu rows\n", ones, count);
+    for (size_t row = 0; row < count && written >= 0; row++)
+        written = printf("%" PRIu8 "%5" PRIu16 "%6" PRIu16 "%6" PRIu16 "\n", marks[row],
+                         rows->days[row], rows->first[row], rows->second[row]);
     if (written < 0)
         status = unwritten();
 done:
-    free(columns);
     free(scratch);
     free(marks);
+    return status;
+}
+
+/* The query line as it is, then the rows by the writer: the input again. */
+static int copy(const uint8_t *input, const struct rows *rows)
+{
+    size_t count = rows->count, room = QUERY + RUMBLEOG_TABLE_TEXT_FOR(count);
+    uint8_t *text = malloc(room);
+    uint64_t place, length;
+    int status = 0;
+    if (text == NULL)
+        return trouble("no memory");
+    memcpy(text, input, QUERY);
+    uint32_t number = rumbleog_write_table(rows->days, count, rows->first, count, rows->second,
+                                           count, text + QUERY, room - QUERY, &place, &length);
+    if (number != RUMBLEOG_OK)
+        status = refused(number, place);
+    else if (fwrite(text, 1, QUERY + (size_t)length, stdout) != QUERY + length)
+        status = unwritten();
+    free(text);
     return status;
 }
 
@@ -147,17 +184,24 @@ int main(int argc, char **argv)
     uint16_t k, s, e;
     size_t length;
     int status;
-    if (!(argc == 3 && strcmp(argv[1], "list") == 0) &&
+    int lists = argc == 3 && strcmp(argv[1], "list") == 0;
+    int copies = argc == 3 && strcmp(argv[1], "copy") == 0;
+    if (!lists && !copies &&
         !(argc == 6 && strcmp(argv[1], "ring") == 0 && argument(argv[3], &k) &&
           argument(argv[4], &s) && argument(argv[5], &e)))
-        return trouble("use: host list FILE, or host ring FILE K S E");
+        return trouble("use: host list FILE, host ring FILE K S E, or host copy FILE");
     uint8_t *input = contents(argv[2], &length);
     if (input == NULL)
         return trouble("cannot read the file");
-    if (argc == 3)
+    if (lists) {
         status = list(input, length);
-    else
-        status = ring(input, length, k, s, e);
+    } else {
+        struct rows rows;
+        status = read_rows(input, length, &rows);
+        if (status == 0)
+            status = copies ? copy(input, &rows) : ring(&rows, k, s, e);
+        free(rows.days);
+    }
     free(input);
     /* What was printed may still lie in stdout's buffer. */
     if (fclose(stdout) != 0 && status != 2)

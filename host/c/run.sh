@@ -26,12 +26,24 @@ one() {
     if [ -n "$update" ]; then
         cp "$out" "$here/expected/$name.txt"
     fi
-    if [ $got -eq "$status" ] && cmp -s "$out" "$here/expected/$name.txt"; then
+    judge "$name" "$status" "$here/expected/$name.txt"
+}
+
+# again NAME: an example's rows, read and written, are its file.
+again() {
+    $under "$host" copy "$examples/$1.txt" > "$out"
+    got=$?
+    judge "$1 again" 0 "$examples/$1.txt"
+}
+
+# judge NAME STATUS FILE: what was printed, and the status, are these.
+judge() {
+    if [ $got -eq "$2" ] && cmp -s "$out" "$3"; then
         passed=$((passed + 1))
     else
         failed=$((failed + 1))
-        echo "c-host: $name: status $got (expected $status)"
-        diff "$here/expected/$name.txt" "$out" | head -5
+        echo "c-host: $1: status $got (expected $2)"
+        diff "$3" "$out" | head -5
     fi
 }
 
@@ -44,6 +56,11 @@ one broken-field 1 list "$examples/broken-field.txt"
 one broken-ring 1 ring "$examples/broken-day.txt" 2 1 6
 one wrong-k 1 ring "$examples/season.txt" 0 1 6
 one wrong-window 1 ring "$examples/season.txt" 2 5 4
+one broken-copy 1 copy "$examples/broken-field.txt"
+# The writer takes any columns: also those of a table whose days fall.
+again season
+again market
+again broken-day
 
 # An output that cannot be written is told, by its status and on standard error.
 full() {
@@ -65,6 +82,8 @@ if [ -c /dev/full ]; then
     full market list "$examples/market.txt"
     full market-ring ring "$examples/market.txt" 3 10 40
     full broken-day list "$examples/broken-day.txt"
+    full season-copy copy "$examples/season.txt"
+    full market-copy copy "$examples/market.txt"
 else
     echo "c-host: no /dev/full here: writing to a full disk is not tried"
 fi

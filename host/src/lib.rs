@@ -49,6 +49,11 @@ pub const fn text_for(rings: usize) -> usize {
     22 * (1 + rings)
 }
 
+/// Bytes of table text for that many rows.
+pub const fn table_text_for(rows: usize) -> usize {
+    18 * rows
+}
+
 /// Three lent columns: days, first accounts, second accounts.
 #[derive(Clone, Copy, Debug, PartialEq, Eq)]
 pub struct Table<'a> {
@@ -224,4 +229,14 @@ pub fn read_table(
     let number = raw::read_table(text, days, first, second, &mut place, &mut count);
     judged(number, place)?;
     Ok(count as usize)
+}
+
+/// Writes any three columns of one length, be they a table or not, as text; the
+/// number of bytes. Text that [`read_table`] accepts comes out again byte for
+/// byte. Refuses 1, 10.
+pub fn write_table(table: Table, text: &mut [u8]) -> Result<usize, Refusal> {
+    let (mut place, mut length) = (0, 0);
+    let number = raw::write_table(table, text, &mut place, &mut length);
+    judged(number, place)?;
+    Ok(length as usize)
 }

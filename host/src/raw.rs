@@ -6,7 +6,7 @@
 //! the refusal, one of [`number`](crate::number). The C functions themselves are
 //! in [`c`].
 
-/// The nine C functions, with the parameters of the header: written here, and
+/// The C functions, with the parameters of the header: written here, and
 /// handed to the macro `$make` of this module.
 #[macro_export]
 #[doc(hidden)]
@@ -152,6 +152,19 @@ macro_rules! c_functions {
                 place: *mut u64,
                 count: *mut u64,
             )
+
+            write_table(
+                days: *const u16,
+                days_length: usize,
+                first: *const u16,
+                first_length: usize,
+                second: *const u16,
+                second_length: usize,
+                text: *mut u8,
+                text_length: usize,
+                place: *mut u64,
+                length: *mut u64,
+            )
         }
     };
 }
@@ -210,7 +223,7 @@ macro_rules! loaded {
     };
 }
 
-/// Declares the nine calls of the header: a module `c` with the C functions, and
+/// Declares the calls of the header: a module `c` with the C functions, and
 /// over each a safe function. `linked` with a prefix are those of a linked
 /// library; this module has the archive's, the benchmark those of its C peer.
 /// `loaded` are those of an archive that the benchmark loads.
@@ -470,6 +483,30 @@ macro_rules! foreign_calls {
                     second.len(),
                     place,
                     count,
+                )
+            }
+        }
+
+        /// The header's `write_table`.
+        pub fn write_table(
+            table: Table,
+            text: &mut [u8],
+            place: &mut u64,
+            length: &mut u64,
+        ) -> u32 {
+            // SAFETY: live slices, each with its own length; what is written is borrowed alone.
+            unsafe {
+                c::write_table(
+                    table.days.as_ptr(),
+                    table.days.len(),
+                    table.first.as_ptr(),
+                    table.first.len(),
+                    table.second.as_ptr(),
+                    table.second.len(),
+                    text.as_mut_ptr(),
+                    text.len(),
+                    place,
+                    length,
                 )
             }
         }

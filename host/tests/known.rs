@@ -129,6 +129,35 @@ fn season_rings() {
     assert!(out[length..].iter().all(|&byte| byte == b'#'));
 }
 
+/// The season's columns as text are its file behind the query line.
+#[test]
+fn season_written() {
+    let file = std::fs::read("../examples/season.txt").unwrap();
+    let rows = &file[16..];
+    assert_eq!(rows.len(), lib::table_text_for(6));
+    let mut text = vec![b'#'; 200];
+    let length = lib::write_table(season().lend(), &mut text).unwrap();
+    assert_eq!(&text[..length], rows);
+    assert!(text[length..].iter().all(|&byte| byte == b'#'));
+}
+
+/// 02, S-2: "any three columns of equal length", so rows that no table has, "days
+/// up to 65,535 included", and no rows.
+#[test]
+fn any_columns_written() {
+    let columns = Table {
+        days: &[65_535, 0, 1_025],
+        first: &[65_535, 0, 4_096],
+        second: &[65_535, 0, 9],
+    };
+    let mut text = [b'#'; 55];
+    assert_eq!(lib::write_table(columns, &mut text), Ok(54));
+    let lines = b"65535 65535 65535\n    0     0     0\n 1025  4096     9\n#";
+    assert_eq!(text, *lines);
+    assert_eq!(lib::write_table(Owned::default().lend(), &mut text), Ok(0));
+    assert_eq!(text, *lines);
+}
+
 /// 02, S-1: "In 01's example they are 2, 2, 1, 2, 1 and 13."
 #[test]
 fn season_windows_behind_rings() {
@@ -289,6 +318,23 @@ fn null_slices() {
         )
     };
     assert_eq!((number, place, count), (OK, 0, 0));
+    (place, length) = (7, 7);
+    // SAFETY: NULL with length 0.
+    let number = unsafe {
+        lib::raw::c::write_table(
+            none,
+            0,
+            none,
+            0,
+            none,
+            0,
+            std::ptr::null_mut(),
+            0,
+            &mut place,
+            &mut length,
+        )
+    };
+    assert_eq!((number, place, length), (OK, 0, 0));
 }
 
 #[test]
@@ -499,6 +545,14 @@ fn wrappers_name_refusals() {
         Err(Refusal::BadNumber(2))
     );
     assert_eq!(read(&"    1     1     2\n".repeat(3)), Err(Refusal::NoRoom));
+    let mut text = [b'#'; 108];
+    // 1 before 10, and one byte of text space too few.
+    let none = &mut text[..0];
+    assert_eq!(lib::write_table(fifth, none), Err(Refusal::ColumnsDiffer));
+    let short = &mut text[1..];
+    assert_eq!(lib::write_table(t, short), Err(Refusal::NoRoom));
+    assert_eq!(text, [b'#'; 108]);
+    assert_eq!(lib::write_table(t, &mut text), Ok(108));
     assert_eq!(lib::longest_list(1..=1_024), Ok(524_800));
     assert_eq!(lib::longest_list(backwards), Err(Refusal::BadRange));
 }
@@ -583,7 +637,7 @@ fn variants(source: &str, name: &str) -> Vec<(Option<u32>, String)> {
     found
 }
 
-/// The same vocabulary in Rattle: rings and text, each as its enum declares its
+/// The same vocabulary in Rattle: rings and text, each as its enums declare its
 /// refusals and as its one function tells their numbers, have between them
 /// every number, and none by another word.
 #[test]
@@ -591,6 +645,7 @@ fn one_vocabulary_in_rattle() {
     let read = |path: &str| std::fs::read_to_string(path).expect(path);
     let refusal = read("../crates/rings/src/refusal.rt");
     let table = read("../crates/text/src/table.rt");
+    let writer = read("../crates/text/src/writer.rt");
     let report = read("../crates/text/src/report.rt");
     let word = |line: &str, prefix: &str| {
         let (_, rest) = line.split_once(prefix)?;
@@ -598,12 +653,15 @@ fn one_vocabulary_in_rattle() {
         Some(word.to_string())
     };
 
-    // As declared. A reader's answer that is no refusal has no number.
+    // As declared. An answer of the reader or the writer that is no refusal has no number.
     let of_rings = variants(&refusal, "Refusal");
-    let of_text = variants(&table, "TableRead");
-    assert_eq!(of_text[0], (None, "Rows".to_string()));
+    let of_reader = variants(&table, "TableRead");
+    assert_eq!(of_reader[0], (None, "Rows".to_string()));
+    let of_writer = variants(&writer, "TableWritten");
+    assert_eq!(of_writer[0], (None, "Text".to_string()));
+    let of_text = of_reader[1..].iter().chain(&of_writer[1..]);
     let mut declared = Vec::new();
-    for (number, name) in of_rings.iter().chain(&of_text[1..]) {
+    for (number, name) in of_rings.iter().chain(of_text) {
         let number = number.unwrap_or_else(|| panic!("{name} has no number above it"));
         declared.push((number, name.clone()));
     }

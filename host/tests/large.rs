@@ -7,7 +7,7 @@ mod common;
 #[allow(dead_code)]
 mod tables;
 
-use common::Rng;
+use common::{brute, Rng};
 use rumbleog::{self as lib, Days, Listed, Query, Refusal, Table, Windows, NEVER};
 use tables::{cases, Case, Columns};
 
@@ -460,6 +460,35 @@ fn the_longest_lists() {
         .unwrap_or(0);
     assert!(longest > 65_535, "{longest} entries only");
     println!("longest minimal-window list: {longest} entries");
+}
+
+/// As text and back, in exactly the text space that it takes; a byte less is a 10.
+fn through_text(table: Table) {
+    let rows = table.days.len();
+    let mut text = vec![b'#'; lib::table_text_for(rows)];
+    let short = &mut text[1..];
+    assert_eq!(lib::write_table(table, short), Err(Refusal::NoRoom));
+    assert!(text.iter().all(|&byte| byte == b'#'));
+    assert_eq!(lib::write_table(table, &mut text), Ok(text.len()));
+    assert!(text == brute::table_text(table).into_bytes());
+    let mut read = List::of(rows);
+    let List { a, b, c } = &mut read;
+    assert_eq!(lib::read_table(&text, a, b, c), Ok(rows));
+    assert!(read.a == table.days && read.b == table.first && read.c == table.second);
+}
+
+#[test]
+fn tables_as_text() {
+    for case in cases(16_384) {
+        through_text(case.lend());
+    }
+    // More rows than a table has, and than 16 bits count: text has no limit.
+    let column: Vec<u16> = (0..70_000).map(|row| row as u16).collect();
+    through_text(Table {
+        days: &column,
+        first: &column,
+        second: &column,
+    });
 }
 
 /// Eight threads at once on one table: each call touches what it is lent.

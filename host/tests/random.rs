@@ -1,4 +1,4 @@
-//! Every call that takes a table against the brute-force version, on seeded
+//! Every call that checks a table against the brute-force version, on seeded
 //! random small tables, valid and damaged.
 
 mod common;
@@ -7,37 +7,6 @@ use common::brute::{self, Answer, RowSet};
 use common::*;
 use rumbleog::number::*;
 use rumbleog::{Days, Query, Table, Windows, LAST_DAY};
-
-/// The columns of a table, lent between canaries.
-struct LentTable {
-    days: Lent<u16>,
-    first: Lent<u16>,
-    second: Lent<u16>,
-}
-
-impl LentTable {
-    fn new(rng: &mut Rng, table: &Owned) -> LentTable {
-        LentTable {
-            days: Lent::holding(rng, &table.days),
-            first: Lent::holding(rng, &table.first),
-            second: Lent::holding(rng, &table.second),
-        }
-    }
-
-    fn lend(&self) -> Table<'_> {
-        Table {
-            days: self.days.get(),
-            first: self.first.get(),
-            second: self.second.get(),
-        }
-    }
-
-    fn kept(&self) {
-        self.days.kept("days");
-        self.first.kept("first");
-        self.second.kept("second");
-    }
-}
 
 /// A table for a case: one in five is damaged.
 fn case_table(rng: &mut Rng, most_rows: usize) -> Owned {

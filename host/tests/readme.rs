@@ -76,6 +76,27 @@ fn minimal_windows_and_recall() -> Result<(), Refusal> {
 }
 
 #[test]
+fn table_text_in_and_out() -> Result<(), Refusal> {
+    // Received as text: a line a payment.
+    let received = b"    1     1     2\n    2     2     3\n    2     1     3\n";
+    let (mut days, mut first, mut second) = ([0; 3], [0; 3], [0; 3]);
+    let rows = read_table(received, &mut days, &mut first, &mut second)?;
+    assert_eq!(rows, 3);
+    assert_eq!((days, first, second), ([1, 2, 2], [1, 2, 1], [2, 3, 3]));
+
+    // Sent on as text, byte for byte the same.
+    let table = Table {
+        days: &days,
+        first: &first,
+        second: &second,
+    };
+    let mut sent = vec![0; table_text_for(rows)];
+    let length = write_table(table, &mut sent)?;
+    assert_eq!(sent[..length], received[..]);
+    Ok(())
+}
+
+#[test]
 fn a_listing() -> Result<(), Refusal> {
     // Every ring of days 1 to 6 once, by its tightest window. There is always room.
     let places = longest_list(1..=6)? as usize;

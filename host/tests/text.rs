@@ -1,13 +1,14 @@
-//! The reader and the listing program: text around every refusal.
+//! The reader, the writer and the listing program: text around every refusal.
 
 mod common;
 
-use common::brute::{self, Answer};
+use common::brute::{self, counted};
 use common::*;
 use rumbleog::number::*;
-use rumbleog::Query;
+use rumbleog::{table_text_for, Query, Table};
 
-/// Compares the reader on one text and these column lengths.
+/// Compares the reader on one text and these column lengths. Text that it
+/// accepts comes out of the writer again, byte for byte.
 fn read(rng: &mut Rng, text: &[u8], lengths: [usize; 3]) -> u32 {
     let lent = Lent::holding(rng, text);
     let [mut days, mut first, mut second] = lengths.map(|n| Lent::<u16>::new(rng, n));
@@ -34,6 +35,46 @@ fn read(rng: &mut Rng, text: &[u8], lengths: [usize; 3]) -> u32 {
     first.holds(&want[1], "first");
     second.holds(&want[2], "second");
     lent.kept("text");
+    if got.number == OK {
+        let rows = got.count as usize;
+        let table = Table {
+            days: &days.get()[..rows],
+            first: &first.get()[..rows],
+            second: &second.get()[..rows],
+        };
+        let mut again = Lent::<u8>::new(rng, text.len());
+        let written = write_table(table, again.get_mut());
+        assert_eq!(written, counted(text.len()), "text that was read");
+        again.holds(text, "text written again");
+    }
+    got.number
+}
+
+/// Compares the writer on these columns and this text space. What it writes
+/// reads back as it was.
+fn write(rng: &mut Rng, table: &Owned, space: usize) -> u32 {
+    let lent = LentTable::new(rng, table);
+    let mut text = Lent::<u8>::new(rng, space);
+    let mut want = text.get().to_vec();
+    let expected = brute::write_table(table.lend(), &mut want);
+    let got = write_table(lent.lend(), text.get_mut());
+    assert_eq!(got, expected, "{space} bytes: {table:?}");
+    text.holds(&want, "text");
+    lent.kept();
+    if got.number == OK {
+        let rows = table.rows();
+        let [mut days, mut first, mut second] = [rows; 3].map(|n| Lent::<u16>::new(rng, n));
+        let read = read_table(
+            &text.get()[..got.count as usize],
+            days.get_mut(),
+            first.get_mut(),
+            second.get_mut(),
+        );
+        assert_eq!(read, counted(rows), "text that was written");
+        days.holds(&table.days, "days read back");
+        first.holds(&table.first, "first read back");
+        second.holds(&table.second, "second read back");
+    }
     got.number
 }
 
@@ -48,17 +89,7 @@ fn listed(rng: &mut Rng, input: &[u8]) -> u32 {
         let mut want = output.get().to_vec();
         let expected = match &answer {
             Err(refusal) => *refusal,
-            Ok(text) if text.len() > room => Answer {
-                number: NO_ROOM,
-                ..Answer::default()
-            },
-            Ok(text) => {
-                want[..text.len()].copy_from_slice(text);
-                Answer {
-                    count: text.len() as u64,
-                    ..Answer::default()
-                }
-            }
+            Ok(text) => brute::put(text, &mut want),
         };
         let got = list(lent.get(), output.get_mut());
         assert_eq!(
@@ -233,6 +264,125 @@ fn reader_places() {
     let short = read(&mut rng, text.as_bytes(), [20_000, 19_999, 20_000]);
     assert_eq!(short, NO_ROOM);
     println!("reader places: {cases} cases");
+}
+
+/// A number of 16 bits: of each number of digits, often the first or the last.
+fn some_number(rng: &mut Rng) -> u16 {
+    let digits = [
+        (0, 9),
+        (10, 99),
+        (100, 999),
+        (1_000, 9_999),
+        (10_000, 65_535),
+    ];
+    let (low, high) = rng.pick(&digits);
+    let number = match rng.below(4) {
+        0 => low,
+        1 => high,
+        _ => rng.from(low, high),
+    };
+    number as u16
+}
+
+/// Columns of these lengths with any numbers: mostly no table.
+fn some_columns(rng: &mut Rng, lengths: [usize; 3]) -> Owned {
+    let [days, first, second] =
+        lengths.map(|length| (0..length).map(|_| some_number(rng)).collect());
+    Owned {
+        days,
+        first,
+        second,
+    }
+}
+
+/// Text space: 1 comes before 10, one byte too few is a 10, and what is left
+/// over is kept.
+#[test]
+fn writer_places() {
+    let mut rng = Rng(28);
+    let mut cases = 0;
+    for a in 0..5 {
+        for b in 0..5 {
+            for c in 0..5 {
+                let table = some_columns(&mut rng, [a, b, c]);
+                for space in 0..=18 * 5 {
+                    let expected = if a != b || b != c {
+                        COLUMNS_DIFFER
+                    } else if space < 18 * a {
+                        NO_ROOM
+                    } else {
+                        OK
+                    };
+                    assert_eq!(write(&mut rng, &table, space), expected);
+                    cases += 1;
+                }
+            }
+        }
+    }
+    println!("writer places: {cases} cases");
+}
+
+/// Every number of 16 bits once in each column: more rows than a table has.
+#[test]
+fn each_number_written() {
+    let mut rng = Rng(29);
+    let days: Vec<u16> = (0..=65_535).collect();
+    let table = Owned {
+        first: days.iter().rev().copied().collect(),
+        second: days.iter().map(|day| day.rotate_left(3)).collect(),
+        days,
+    };
+    let space = table_text_for(65_536);
+    assert_eq!(write(&mut rng, &table, space), OK);
+    assert_eq!(write(&mut rng, &table, space + 1), OK);
+    assert_eq!(write(&mut rng, &table, space - 1), NO_ROOM);
+}
+
+/// Random columns, mostly of one length: text space for them, a byte or a line
+/// less, none, and more.
+#[test]
+fn random_columns() {
+    let mut rng = Rng(30);
+    let mut seen = [0; 16];
+    let tables = 10_000;
+    for _ in 0..tables {
+        let rows = rng.below(12);
+        let lengths = [rows; 3].map(|rows| some_length(&mut rng, rows));
+        let table = some_columns(&mut rng, lengths);
+        let room = table_text_for(table.rows());
+        let less = |bytes| room.saturating_sub(bytes);
+        for space in [room, less(1), less(18), 0, room + 1, room + 40] {
+            seen[write(&mut rng, &table, space) as usize] += 1;
+        }
+    }
+    println!("write_table: {tables} random tables, 6 spaces each; by refusal number {seen:?}");
+    met(&seen, &[OK, COLUMNS_DIFFER, NO_ROOM]);
+}
+
+/// Random rows as text, most with a byte or two replaced. Some are still text of
+/// a table, another one: it comes out as it is.
+#[test]
+fn random_rows() {
+    let mut rng = Rng(31);
+    let mut seen = [0; 16];
+    let mut damaged = 0;
+    let cases = 40_000;
+    for _ in 0..cases {
+        let rows = rng.below(8);
+        let whole = some_columns(&mut rng, [rows; 3]).text().into_bytes();
+        let mut text = whole.clone();
+        for _ in 0..rng.below(3).min(rows) {
+            let at = rng.below(text.len());
+            text[at] = rng.pick(b"  0123456789\nx");
+        }
+        let number = read(&mut rng, &text, [rows; 3]);
+        seen[number as usize] += 1;
+        damaged += u32::from(number == OK && text != whole);
+    }
+    println!("read_table: {cases} random texts; by refusal number {seen:?}");
+    println!("read_table: {damaged} damaged texts read, and written again");
+    assert!(damaged > 1_000, "{damaged} damaged texts read");
+    met(&seen, &[OK, BAD_LINE, BAD_FIELD, BAD_NUMBER]);
 }
 
 /// Random tables as text, valid and damaged, with random damage of bytes.

@@ -1,5 +1,6 @@
 -- An export hands on what its call answered: v is the answer that came back, a the answer by the definition, n the numbers told.
 --     refusal-told       the numbers of a refusal
+--     of-text            the numbers of what text tells
 --     told               n for a report of v is n for the report of a
 --     *-told             one for each call with buffers: its buffers at exit go by a as they go by v
 use Prim.Native.Nat.{ℕ}
@@ -18,13 +19,16 @@ use Rattle.rings.specs.declared.refusal.Told.{Told as RingsTold}
 use Rattle.rings.specs.declared.refusal.Verdict.{Verdict}
 use Rattle.rings.specs.declared.refusal.Counted.{Counted}
 use Rattle.text.specs.Table.{filled}
+use Rattle.text.specs.Writer.{textAfter}
+use Rattle.text.specs.declared.report.Report.{Report as TextReport}
 use Rattle.text.specs.declared.table.TableRead.{TableRead}
+use Rattle.text.specs.declared.writer.TableWritten.{TableWritten}
 use Rattle.listing.specs.ListingCall.{Columns as RingColumns, listingColumns, listingScratch, listingReport, listingSum, listingEmpty}
 use Rattle.listing.specs.Program.{Outcome}
 use Rattle.listing.specs.ProgramText.{listOutput, printedReport}
 use Rattle.listing.specs.declared.Listed.{Listed}
 use Rattle.listing.specs.declared.Printed.{Printed}
-use Rattle.engine.specs.Numbers.{readReport, numbers}
+use Rattle.engine.specs.Numbers.{readReport, writtenReport, numbers}
 use Rattle.engine.specs.declared.numbers.Numbers.{Numbers}
 
 -- the equations of the numbers
@@ -37,6 +41,10 @@ pub told : {A : Type 0} (report : A → Report) {v a : A} {n : Numbers} → v �
 told report {n = n} e h =
     let f = h ∙ ap (λ x. numbers (report x)) e in
     record { number = ap (λ x. x .number) f; place = ap (λ x. x .place) f; count = ap (λ x. x .count) f }
+
+-- what text tells, as the numbers told
+abbrev pub of-text : TextReport → Numbers
+of-text t = record { number = t .number; place = t .place; count = t .count }
 
 -- a refusal of rings, by its number and its place
 abbrev row : ℕ → ℕ → Numbers
@@ -91,6 +99,16 @@ pub read-told : (new new′ new″ old old′ old″ : List ℕ) {v a : TableRea
 read-told new new′ new″ old old′ old″ answer x x′ x″ h =
     let n = told readReport answer h in
     (n .number, n .place, n .count, x ∙ ap (λ v. filled v new old) answer, x′ ∙ ap (λ v. filled v new′ old′) answer, x″ ∙ ap (λ v. filled v new″ old″) answer)
+
+pub write-told : (text old : List ℕ) {v a : TableWritten} {n : Numbers} {after : List ℕ}
+    → v ≡ a → after ≡ textAfter v text old → n ≡ numbers (writtenReport v)
+    → (n .number ≡ writtenReport a .number)
+    × (n .place ≡ writtenReport a .place)
+    × (n .count ≡ writtenReport a .count)
+    × (after ≡ textAfter a text old)
+write-told text old answer after h =
+    let n = told writtenReport answer h in
+    (n .number, n .place, n .count, after ∙ ap (λ v. textAfter v text old) answer)
 
 pub minimal-told : (t : Table) (q : Query) (ts te : ℕ) (old old′ old″ before : List ℕ) {v a : Counted} {n : Numbers} {rows starts ends scratch : List ℕ}
     → v ≡ a

@@ -12,3 +12,4 @@ mod recalling;
 mod ring;
 mod times;
 mod windows;
+mod writing;

@@ -1,14 +1,17 @@
 // An answer as the numbers that a host gets. What they are is defined with the answers, in the parts below.
 ghost use mathlib.Core.Path.{_≡_};
 ghost use Rattle.rings.specs.Refusals.{placeNumber, refused, verdictReport, countedReport};
-ghost use Rattle.engine.specs.Numbers.{readReport, numbers};
+ghost use Rattle.engine.specs.Numbers.{readReport, writtenReport, numbers};
 use rings::Counted;
 use rings::Place;
 use rings::Refusal;
 use rings::Verdict;
 use rings::tell;
+use text::Report;
 use text::TableRead;
+use text::TableWritten;
 use text::report_table;
+use text::report_written;
 
 // The refusal's number, 0 for none; its place; the count, 0 on a refusal.
 pub struct Numbers {
@@ -67,14 +70,27 @@ pub(crate) fn of_counted(c: Counted) -> Numbers
     }
 }
 
-// The table reader.
-pub(crate) fn of_read(t: TableRead) -> Numbers
-    ensures { λ n. ⌜ n ≡ numbers (readReport t) ⌝ }
+// What text tells in numbers.
+fn of_report(told: Report) -> Numbers
+    ensures { λ n. ⌜ n ≡ record { number = told .number; place = told .place; count = told .count } ⌝ }
 {
-    let told = report_table(t);
     Numbers {
         number: told.number,
         place: told.place as u64,
         count: told.count as u64,
     }
+}
+
+// The table reader.
+pub(crate) fn of_read(t: TableRead) -> Numbers
+    ensures { λ n. ⌜ n ≡ numbers (readReport t) ⌝ }
+{
+    of_report(report_table(t))
+}
+
+// The table writer: the count is that of its bytes.
+pub(crate) fn of_written(t: TableWritten) -> Numbers
+    ensures { λ n. ⌜ n ≡ numbers (writtenReport t) ⌝ }
+{
+    of_report(report_written(t))
 }

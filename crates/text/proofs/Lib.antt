@@ -7,6 +7,9 @@ pub mod PasteLaws
 pub mod RowsLaws
 pub mod TableLaws
 pub mod PrintLaws
+pub mod WriterLaws
 pub mod ReadBack
+pub mod PrintBack
+pub mod RoundTrips
 pub mod ListingLaws
 pub mod Examples

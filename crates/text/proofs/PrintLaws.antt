@@ -17,6 +17,7 @@
 --   field-wide       of a call that writes a number: it does not fit
 --   field-fits       it does
 --   line-pieces      a listing's line is its pieces, one behind the other
+--   three-pieces     any three pieces, and byte 10
 --   refused          the word `refused`
 --   refused-pieces   the line of a refusal is its pieces
 --   line-length      how long a listing's line is
@@ -146,6 +147,23 @@ module _ (out : List ℕ) (at : ℕ) {o₁ o₂ o₃ o₄ o₅ : List ℕ} {a b 
 abbrev pub refused : List ℕ
 refused = 114 ∷ 101 ∷ 102 ∷ 117 ∷ 115 ∷ 101 ∷ 100 ∷ []
 
+-- any three pieces, and byte 10 behind them
+module _ (out : List ℕ) (at : ℕ) {o₁ o₂ o₃ o₄ : List ℕ} {a b c r : ℕ} (s t u : List ℕ) (k m n : ℕ) where
+  pub three-pieces : length s ≡ k → length t ≡ m → length u ≡ n → at + (k + m + n + 1) ≤ length out
+      → WrittenAt out at k s a o₁
+      → WrittenAt o₁ a m t b o₂
+      → WrittenAt o₂ b n u c o₃
+      → WrittenAt o₃ c 1 (10 ∷ []) r o₄
+      → WrittenAt out at (k + m + n + 1) (s ++ t ++ u ++ 10 ∷ []) r o₄
+  three-pieces e₁ e₂ e₃ h w₁ w₂ w₃ w₄ =
+      let p₁ : Pieces s out o₁ at a = piece-first _ k e₁ (omega arith) w₁ in
+      let p₂ : Pieces (s ++ t) out o₂ at b = piece-more _ m p₁ e₂ (omega (arith, w₁ .behind)) w₂ in
+      let p₃ : Pieces (s ++ t ++ u) out o₃ at c = piece-more _ n p₂ e₃ (omega (arith, w₁ .behind, w₂ .behind)) w₃ in
+      record {
+        behind = omega (arith, w₁ .behind, w₂ .behind, w₃ .behind, w₄ .behind);
+        holds = piece-more _ 1 p₃ refl (omega (arith, w₁ .behind, w₂ .behind, w₃ .behind)) w₄ .is;
+      }
+
 module _ (out : List ℕ) {o₁ o₂ o₃ o₄ : List ℕ} {a b c r : ℕ} (number line : ℕ) (h : refusedBytes ≤ length out) where
   pub refused-pieces : WrittenAt out 0 7 refused a o₁
       → WrittenAt o₁ a numberWidth (printed numberWidth number) b o₂
@@ -154,15 +172,9 @@ module _ (out : List ℕ) {o₁ o₂ o₃ o₄ : List ℕ} {a b c r : ℕ} (numb
       → WrittenAt out 0 refusedBytes (refusedLine number line) r o₄
   unfolding refusedLine
   refused-pieces w₁ w₂ w₃ w₄ =
-      let p₁ : Pieces refused out o₁ 0 a = piece-first _ 7 refl (omega arith) w₁ in
-      let p₂ : Pieces (refused ++ printed numberWidth number) out o₂ 0 b =
-      piece-more _ numberWidth p₁ (printed-length numberWidth number) (omega (arith, w₁ .behind)) w₂ in
-      let p₃ : Pieces (refused ++ printed numberWidth number ++ printed placeWidth line) out o₃ 0 c =
-      piece-more _ placeWidth p₂ (printed-length placeWidth line) (omega (arith, w₁ .behind, w₂ .behind)) w₃ in
-      record {
-        behind = omega (arith, w₁ .behind, w₂ .behind, w₃ .behind, w₄ .behind);
-        holds = piece-more _ 1 p₃ refl (omega (arith, w₁ .behind, w₂ .behind, w₃ .behind)) w₄ .is;
-      }
+      let number-size = printed-length numberWidth number in
+      let line-size = printed-length placeWidth line in
+      three-pieces out 0 refused _ _ 7 numberWidth placeWidth refl number-size line-size (omega arith) w₁ w₂ w₃ w₄
 
 pub line-length : (start end span rows : ℕ) → length (listingLine start end span rows) ≡ entryBytes
 unfolding listingLine

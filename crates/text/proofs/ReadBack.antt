@@ -6,12 +6,14 @@
 --   row-back       a printed line of a table reads back as its row
 --   Small          a row of numbers of 16 bits
 --   AllSmall       rows of such numbers
---   table-back     a table's text reads back as its rows
---   days-back      its days
---   firsts-back    its first accounts
---   seconds-back   its second accounts
+--   table-back     the lines of some rows read back as these rows
+--   days-back firsts-back seconds-back   their days, first and second accounts
+--   Bits16         a column of numbers of 16 bits
+--   Lent           three such columns
+--   text-rows      the text of three such columns of one length reads back as their rows
+--   text-columns   its columns are these
 -- Assumes nothing.
-use Prim.Native.Nat.{ℕ, zero, suc, _+_, _-_, _*_, _/_, _%_, _^_, _≤_, _<_, min}
+use Prim.Native.Nat.{ℕ, zero, suc, _+_, _-_, _*_, _/_, _%_, _^_, _≤_, _<_, suc-le-suc}
 use mathlib.Core.Path.{_≡_, refl, sym, ap, _∙_}
 use mathlib.Core.Bool.{Bool, true, false, cond, _&&_}
 use mathlib.Core.Logic.{_⊎_, inl, inr}
@@ -23,12 +25,13 @@ use lib.Arith.{mod-mul}
 use lib.Dec.{ltb, lit<, lit≤}
 use lib.ListN.{length, getD, take, drop, length-append}
 use lib.Seq.{take-at, drop-at, getD-at}
-use borrow.Author.Tests.{eq-eqb, le-leb}
+use borrow.Author.Tests.{eq-eqb}
 use Rattle.text.specs.Layout.{largest, mostDigits, dayWidth, accountWidth}
 use Rattle.text.specs.Decimal.{unblank, allDigits, isNumeral, value, fieldOf}
 use Rattle.text.specs.Line.{prepend, linesOf, isWhole, judged, fieldAt, lineAs, rowOf}
-use Rattle.text.specs.Table.{dayOf, firstOf, secondOf, daysOf, firstsOf, secondsOf, faultOr, judgedFrom, roomFor, tableReadOf}
-use Rattle.text.specs.Print.{columnOf, printed, tableLine, TableRow, tableText}
+use Rattle.text.specs.Table.{dayOf, firstOf, secondOf, daysOf, firstsOf, secondsOf, faultOr, judgedFrom, Columns, columns}
+use Rattle.text.specs.Print.{columnOf, printed}
+use Rattle.text.specs.Writer.{tableLine, TableRow, tableLines, tableRows, tableText}
 use Rattle.text.specs.declared.decimal.Field.the-variants.{Number, Large}
 use Rattle.text.specs.declared.lines.Line.{Line}
 use Rattle.text.specs.declared.lines.Line.the-variants.{Row}
@@ -37,6 +40,8 @@ use Rattle.text.proofs.Tests.{lt-or-le, both-true, pick-true}
 use Rattle.text.proofs.FieldLaws.{unblank-at, unblank-past, digit-yes, numeral-one, numeral-more, number-field, large-field}
 use Rattle.text.proofs.SplitLaws.{lines-end, lines-more, prepend-cons}
 use Rattle.text.proofs.PrintLaws.{column-unit, column-blank, column-digit, below-power, printed-length}
+use Rattle.text.proofs.RowsLaws.{columnsOf}
+use Rattle.text.proofs.WriterLaws.{SameLength, rowsOf, rows-length}
 
 -- the columns of places k - 1 down to 0 are digits, with the value n % 10 ^ k
 record Digits (k n : ℕ) : Type 0 where
@@ -226,38 +231,94 @@ small-back : (r : TableRow) → Small r → rowOf (tableLine (r .day) (r .first)
 unfolding rowIn
 small-back r s = row-back (r .day) (r .first) (r .second) (s .day-fits) (s .first-fits) (s .second-fits)
 
-judged-back : (n : ℕ) (rs : List TableRow) → AllSmall rs → judgedFrom n (linesOf (tableText rs)) ≡ Rows (n + length rs)
-unfolding judgedFrom tableText linesOf rowIn
+judged-back : (n : ℕ) (rs : List TableRow) → AllSmall rs → judgedFrom n (linesOf (tableLines rs)) ≡ Rows (n + length rs)
+unfolding judgedFrom tableLines linesOf rowIn
 judged-back n [] a = ap Rows (sym (add-zero n))
 judged-back n (r ∷ rs) a =
     let e : n + 1 + length rs ≡ n + suc (length rs) = omega arith in
-    ap (judgedFrom n) (row-lines (r .day) (r .first) (r .second) (tableText rs))
-    ∙ ap (λ (x : Line). faultOr (n + 1) x (judgedFrom (n + 1) (linesOf (tableText rs)))) (small-back r (a .0))
+    ap (judgedFrom n) (row-lines (r .day) (r .first) (r .second) (tableLines rs))
+    ∙ ap (λ (x : Line). faultOr (n + 1) x (judgedFrom (n + 1) (linesOf (tableLines rs)))) (small-back r (a .0))
     ∙ judged-back (n + 1) rs (a .1) ∙ ap Rows e
 
 column-back : (f : Line → ℕ) (rs : List TableRow) → AllSmall rs
-    → map (λ (l : List ℕ). f (rowOf l)) (linesOf (tableText rs)) ≡ map (λ (r : TableRow). f (rowIn r)) rs
-unfolding tableText linesOf
+    → map (λ (l : List ℕ). f (rowOf l)) (linesOf (tableLines rs)) ≡ map (λ (r : TableRow). f (rowIn r)) rs
+unfolding tableLines linesOf
 column-back f [] a = refl
 column-back f (r ∷ rs) a =
-    ap (map (λ (l : List ℕ). f (rowOf l))) (row-lines (r .day) (r .first) (r .second) (tableText rs))
-    ∙ ap (λ (x : ℕ). x ∷ map (λ (l : List ℕ). f (rowOf l)) (linesOf (tableText rs))) (ap f (small-back r (a .0)))
+    ap (map (λ (l : List ℕ). f (rowOf l))) (row-lines (r .day) (r .first) (r .second) (tableLines rs))
+    ∙ ap (λ (x : ℕ). x ∷ map (λ (l : List ℕ). f (rowOf l)) (linesOf (tableLines rs))) (ap f (small-back r (a .0)))
     ∙ ap (λ (xs : List ℕ). f (rowIn r) ∷ xs) (column-back f rs (a .1))
 
--- a table's text reads back as its rows, where the columns have room
+-- the lines of some rows read back as these rows
 module _ (rs : List TableRow) (a : AllSmall rs) where
-  pub table-back : (d f s : ℕ) → length rs ≤ min d (min f s) → tableReadOf (tableText rs) d f s ≡ Rows (length rs)
-  unfolding tableReadOf
-  table-back d f s h = ap (roomFor (min d (min f s))) (judged-back 0 rs a ∙ ap Rows (zero-add (length rs))) ∙ pick-true _ _ _ (le-leb _ _ h)
+  pub table-back : judgedFrom 0 (linesOf (tableLines rs)) ≡ Rows (length rs)
+  table-back = judged-back 0 rs a ∙ ap Rows (zero-add (length rs))
 
-  pub days-back : daysOf (tableText rs) ≡ map (λ (r : TableRow). r .day) rs
+  pub days-back : daysOf (tableLines rs) ≡ map (λ (r : TableRow). r .day) rs
   unfolding daysOf rowIn
   days-back = column-back dayOf rs a
 
-  pub firsts-back : firstsOf (tableText rs) ≡ map (λ (r : TableRow). r .first) rs
+  pub firsts-back : firstsOf (tableLines rs) ≡ map (λ (r : TableRow). r .first) rs
   unfolding firstsOf rowIn
   firsts-back = column-back firstOf rs a
 
-  pub seconds-back : secondsOf (tableText rs) ≡ map (λ (r : TableRow). r .second) rs
+  pub seconds-back : secondsOf (tableLines rs) ≡ map (λ (r : TableRow). r .second) rs
   unfolding secondsOf rowIn
   seconds-back = column-back secondOf rs a
+
+-- ---- three columns
+
+-- each number of a column is one of 16 bits
+pub record Bits16 (xs : List ℕ) : Type 0 where
+  pub each : (i : ℕ) → i < length xs → getD xs i 0 < 2 ^ 16
+
+tail-fits : {x : ℕ} {xs : List ℕ} → Bits16 (x ∷ xs) → Bits16 xs
+tail-fits b = record { each = λ i h. b .each (suc i) (suc-le-suc h) }
+
+rows-small : (days first second : List ℕ) → Bits16 days → Bits16 first → Bits16 second → AllSmall (tableRows days first second)
+unfolding tableRows
+rows-small [] first second d f s = tt
+rows-small (x ∷ days) [] second d f s = tt
+rows-small (x ∷ days) (y ∷ first) [] d f s = tt
+rows-small (x ∷ days) (y ∷ first) (z ∷ second) d f s = (
+  record { day-fits = d .each 0 (omega arith); first-fits = f .each 0 (omega arith); second-fits = s .each 0 (omega arith) },
+  rows-small days first second (tail-fits d) (tail-fits f) (tail-fits s),
+)
+
+-- the columns of the rows of three columns of one length are these
+rows-columns : (days first second : List ℕ) → length first ≡ length days → length second ≡ length days
+    → (map (λ (r : TableRow). r .day) (tableRows days first second) ≡ days)
+    × (map (λ (r : TableRow). r .first) (tableRows days first second) ≡ first)
+    × (map (λ (r : TableRow). r .second) (tableRows days first second) ≡ second)
+unfolding tableRows
+rows-columns [] [] [] e q = (refl, refl, refl)
+rows-columns [] [] (z ∷ second) e q = let f : ⊥ = omega arith in absurd f
+rows-columns [] (y ∷ first) second e q = let f : ⊥ = omega arith in absurd f
+rows-columns (x ∷ days) [] second e q = let f : ⊥ = omega arith in absurd f
+rows-columns (x ∷ days) (y ∷ first) [] e q = let f : ⊥ = omega arith in absurd f
+rows-columns (x ∷ days) (y ∷ first) (z ∷ second) e q =
+    let so = rows-columns days first second (omega arith) (omega arith) in
+    (ap (λ (l : List ℕ). x ∷ l) (so .0), ap (λ (l : List ℕ). y ∷ l) (so .1), ap (λ (l : List ℕ). z ∷ l) (so .2))
+
+-- three columns as a call is lent them
+pub record Lent (c : Columns) : Type 0 where
+  pub days : Bits16 (c .days)
+  pub first : Bits16 (c .first)
+  pub second : Bits16 (c .second)
+
+module _ (c : Columns) (same : SameLength c) (lent : Lent c) where
+  small : AllSmall (rowsOf c)
+  small = rows-small (c .days) (c .first) (c .second) (lent .days) (lent .first) (lent .second)
+
+  pub text-rows : judgedFrom 0 (linesOf (tableText c)) ≡ Rows (length (c .days))
+  unfolding tableText
+  text-rows = table-back (rowsOf c) small ∙ ap Rows (rows-length same)
+
+  pub text-columns : columnsOf (tableText c) ≡ c
+  unfolding tableText
+  text-columns =
+      let are = rows-columns (c .days) (c .first) (c .second) (same .first) (same .second) in
+      let days = days-back (rowsOf c) small ∙ are .0 in
+      let first = firsts-back (rowsOf c) small ∙ are .1 in
+      let second = seconds-back (rowsOf c) small ∙ are .2 in
+      λ i. columns (days i) (first i) (second i)

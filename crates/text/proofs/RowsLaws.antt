@@ -7,6 +7,7 @@
 --   line-end        behind the last row the reader stays
 --   on-row          where the reader moves there is a row
 --   no-row-left     where it stays there is none left
+--   columnsOf       its columns
 --   column-length   a column has as many numbers as there are rows
 --   Writing         through the loop that writes one row a turn: its invariant
 --   writing-none    at its start
@@ -41,7 +42,7 @@ use Rattle.text.proofs.PasteLaws.{Pasting, pasting-none, pasting-on, pa
 no-rows : {A : Type 0} (n c : ℕ) → BadLine n ≡ Rows c → A
 no-rows n c e = zero-not-one (cc)
 
-rest-rows : (n c : ℕ) (r : Line) (later : TableRead) → faultOr n r later ≡ Rows c → later ≡ Rows c
+pub rest-rows : (n c : ℕ) (r : Line) (later : TableRead) → faultOr n r later ≡ Rows c → later ≡ Rows c
 rest-rows n c (line.Row d a b) later e = e
 rest-rows n c line.End later e = e
 rest-rows n c line.BadLine later e = no-rows n c e
@@ -69,7 +70,7 @@ rows-whole n c (l ∷ ls) e zero h = row-whole (n + 1) c l (judgedFrom (n + 1) l
 rows-whole n c (l ∷ ls) e (suc i) h =
     rows-whole (n + 1) c ls (rest-rows (n + 1) c (rowOf l) (judgedFrom (n + 1) ls) e) i (le-of-suc-le-suc h)
 
-row-passed : (n c : ℕ) (r : Line) (later : TableRead) → is-end r ≡ 0 → faultOr n r later ≡ Rows c → passed r ≡ 1
+pub row-passed : (n c : ℕ) (r : Line) (later : TableRead) → is-end r ≡ 0 → faultOr n r later ≡ Rows c → passed r ≡ 1
 row-passed n c (line.Row d a b) later z e = refl
 row-passed n c line.End later z e = sym z
 row-passed n c line.BadLine later z e = no-rows n c e
@@ -141,6 +142,9 @@ module _ (text : List ℕ) (c : ℕ) (so : judgedFrom 0 (linesOf text) ≡ Rows 
       -- so it is the number that the loop stores
       stored : {r : Line} {x : ℕ} → r ≡ stepAt text i → x ≡ f r → x ≡ getD column i 0
       stored e q = q ∙ ap f e ∙ sym column-at
+
+abbrev pub columnsOf : List ℕ → Columns
+columnsOf text = columns (daysOf text) (firstsOf text) (secondsOf text)
 
 -- ---- a text's rows, written into three columns row by row
 

@@ -59,7 +59,7 @@ unfolding firstLine
 first-more b bs e = rw (lines-more b bs e) (prepend-first b (linesOf bs))
 
 -- a byte is the line's end or it is not
-line-end-or-not : (b : ℕ) → (b ≡ 10) ⊎ (b ≡ 10 → ⊥)
+pub line-end-or-not : (b : ℕ) → (b ≡ 10) ⊎ (b ≡ 10 → ⊥)
 line-end-or-not b = ⊎-elim (λ t. inl (eqb-true b 10 t)) (λ t. inr (eqb-false b 10 t)) (true-or-false (eqb b 10))
 
 pub first-length : (s : List ℕ) → length (firstLine s) ≤ length s

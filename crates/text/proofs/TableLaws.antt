@@ -10,28 +10,34 @@
 --   reads-short     too few places
 --   reads-fit       places enough
 --   reads-all       all is read
+--   read-accepted   a call that has read was lent a text of rows alone
+--   read-columns    and its columns, cut at its count, are the text's
+--   read-rows       what a call that was lent such a text has answered and left: all of its rows
+--   read-none       or nothing
 -- Assumes nothing.
 use Prim.Native.Nat.{ℕ, _+_, _*_, _≤_, _<_, min}
 use mathlib.Core.Path.{_≡_, refl, sym, ap, _∙_}
-use mathlib.Core.Bool.{true}
+use mathlib.Core.Bool.{Bool, true, false, cond}
 use mathlib.Core.Logic.{⊎-elim}
 use mathlib.Core.List.{List, [], _∷_, _++_}
 use native.Mathlib.Omega.{arith}
-use lib.ListN.{length, drop, length-drop}
+use lib.ListN.{length, take, drop, length-drop}
+use lib.Seq.{take-at}
+use lib.Dec.{leb}
 use borrow.Author.Tests.{lt-leb, le-leb}
 use Rattle.text.specs.Layout.{tableLayout, lineBytes}
 use Rattle.text.specs.Line.{linesOf, firstLine, isWhole, stepAs, rowOf, stepAt, passed, stepFrom}
-use Rattle.text.specs.Table.{daysOf, firstsOf, secondsOf, faultOr, judgedFrom, roomFor, tableReadOf, filled, Columns, RowsFit}
-use Rattle.text.specs.Table.{RowsWritten, TableReads}
+use Rattle.text.specs.Table.{daysOf, firstsOf, secondsOf, faultOr, judgedFrom, roomFor, tableReadOf, filled, Columns, columns, RowsFit}
+use Rattle.text.specs.Table.{dayOf, firstOf, secondOf, RowsWritten, TableReads, number}
 use Rattle.text.specs.declared.lines.Line.{Line}
 use Rattle.text.specs.declared.lines.Line.the-variants as line
 use Rattle.text.specs.declared.lines.Step.{Step}
 use Rattle.text.specs.declared.table.TableRead.{TableRead}
-use Rattle.text.specs.declared.table.TableRead.the-variants.{Rows, NoRoom}
+use Rattle.text.specs.declared.table.TableRead.the-variants.{Rows, BadLine, BadField, BadNumber, NoRoom}
 use Rattle.text.proofs.Tests.{true-or-false, pick-true, pick-false, zero-not-one}
 use Rattle.text.proofs.LineLaws.{next-start, step-none, step-short, whole-fits, step-found, step-line, is-end, never-end}
 use Rattle.text.proofs.SplitLaws.{lines-first, whole-size}
-use Rattle.text.proofs.RowsLaws.{all-rows}
+use Rattle.text.proofs.RowsLaws.{all-rows, columnsOf, column-length}
 
 -- ---- the lowest fault from line n on
 
@@ -182,3 +188,55 @@ module _ (text : List ℕ) (old : Columns) {r : TableRead} (is : r ≡ judgedFro
           first-hold = kept-from (firstsOf text) (old .first) all (w .first-hold);
           second-hold = kept-from (secondsOf text) (old .second) all (w .second-hold);
         }
+
+-- ---- what a call of the reader has answered
+
+abbrev places : Columns → ℕ
+places c = min (length (c .days)) (min (length (c .first)) (length (c .second)))
+
+-- an answer that is a number of rows had room for them
+rows-fit : (b : Bool) (m n : ℕ) → cond b (Rows m) NoRoom ≡ Rows n → Rows m ≡ Rows n
+rows-fit true m n e = e
+rows-fit false m n e = let z : ⊥ = omega (arith, ap number e) in absurd z
+
+rows-judged : (room n : ℕ) (j : TableRead) → roomFor room j ≡ Rows n → j ≡ Rows n
+rows-judged room n (Rows m) e = rows-fit (leb m room) m n e
+rows-judged room n (BadLine m) e = e
+rows-judged room n (BadField m) e = e
+rows-judged room n (BadNumber m) e = e
+rows-judged room n NoRoom e = e
+
+module _ {text : List ℕ} {old new : Columns} {n : ℕ} (r : TableReads text old (Rows n) new) where
+  pub read-accepted : judgedFrom 0 (linesOf text) ≡ Rows n
+  unfolding tableReadOf
+  read-accepted = rows-judged (places old) n _ (sym (r .answers))
+
+  pub read-columns : columns (take n (new .days)) (take n (new .first)) (take n (new .second)) ≡ columnsOf text
+  unfolding daysOf firstsOf secondsOf
+  read-columns =
+      let days = ap (take n) (r .days-hold) ∙ take-at _ _ n (column-length text n read-accepted dayOf) in
+      let first = ap (take n) (r .first-hold) ∙ take-at _ _ n (column-length text n read-accepted firstOf) in
+      let second = ap (take n) (r .second-hold) ∙ take-at _ _ n (column-length text n read-accepted secondOf) in
+      λ i. columns (days i) (first i) (second i)
+
+module _ {text : List ℕ} {old new : Columns} {answer : TableRead} {n : ℕ} (rows : judgedFrom 0 (linesOf text) ≡ Rows n)
+    (r : TableReads text old answer new) where
+  by-places : answer ≡ roomFor (places old) (Rows n)
+  unfolding tableReadOf
+  by-places = r .answers ∙ ap (roomFor (places old)) rows
+
+  left : {a : TableRead} → answer ≡ a
+      → new ≡ columns (filled a (daysOf text) (old .days)) (filled a (firstsOf text) (old .first)) (filled a (secondsOf text) (old .second))
+  left e =
+      let days = r .days-hold ∙ ap (λ (a : TableRead). filled a (daysOf text) (old .days)) e in
+      let first = r .first-hold ∙ ap (λ (a : TableRead). filled a (firstsOf text) (old .first)) e in
+      let second = r .second-hold ∙ ap (λ (a : TableRead). filled a (secondsOf text) (old .second)) e in
+      λ i. columns (days i) (first i) (second i)
+
+  pub read-rows : n ≤ min (length (old .days)) (min (length (old .first)) (length (old .second)))
+      → (answer ≡ Rows n)
+      × (new ≡ columns (daysOf text ++ drop n (old .days)) (firstsOf text ++ drop n (old .first)) (secondsOf text ++ drop n (old .second)))
+  read-rows h = let a = by-places ∙ pick-true _ _ _ (le-leb _ _ h) in (a, left a)
+
+  pub read-none : min (length (old .days)) (min (length (old .first)) (length (old .second))) < n → (answer ≡ NoRoom) × (new ≡ old)
+  read-none h = let a = by-places ∙ pick-false _ _ _ (lt-leb _ _ h) in (a, left a)

@@ -4,5 +4,6 @@ pub mod Line
 pub mod Reader
 pub mod Table
 pub mod Print
+pub mod Writer
 pub mod Report
 pub mod TextNumbers

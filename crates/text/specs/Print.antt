@@ -17,8 +17,6 @@
 --   entryLines   the lines of some entries
 --   listingText  the text of a listing
 --   refusedLine  the line of a refusal
---   tableLine    a line of a table
---   TableRow tableText   the rows of a table, and its text
 -- Assumes nothing.
 use Prim.Native.Nat.{ℕ, zero, suc, _+_, _/_, _%_, _^_}
 use mathlib.Core.Path.{_≡_}
@@ -26,7 +24,7 @@ use mathlib.Core.Bool.{Bool, cond, _&&_}
 use mathlib.Core.List.{List, [], _∷_, _++_}
 use lib.Dec.{leb, ltb}
 use lib.ListN.{length, take, drop}
-use Rattle.text.specs.Layout.{dayWidth, accountWidth, rowsWidth, numberWidth, placeWidth}
+use Rattle.text.specs.Layout.{dayWidth, rowsWidth, numberWidth, placeWidth}
 use Rattle.text.specs.declared.print.Put.{Put}
 use Rattle.text.specs.declared.print.Put.the-variants.{Wrote, NoRoom}
 
@@ -112,18 +110,3 @@ listingText es = header ++ entryLines es
 -- "A refusal prints only `refused`, its number in 5 columns and in 6 the input line"
 unfoldable pub refusedLine : ℕ → ℕ → List ℕ
 refusedLine number line = 114 ∷ 101 ∷ 102 ∷ 117 ∷ 115 ∷ 101 ∷ 100 ∷ [] ++ printed numberWidth number ++ printed placeWidth line ++ 10 ∷ []
-
--- 01, Reader: "day in 5 columns, accounts in 6 and 6, then byte 10"
-unfoldable pub tableLine : ℕ → ℕ → ℕ → List ℕ
-tableLine day first second = printed dayWidth day ++ printed accountWidth first ++ printed accountWidth second ++ 10 ∷ []
-
--- "A row is one payment: a day .. and two accounts"
-pub record TableRow : Type 0 where
-  pub day : ℕ
-  pub first : ℕ
-  pub second : ℕ
-
--- one line each
-unfoldable pub tableText : List TableRow → List ℕ
-tableText [] = []
-tableText (r ∷ rs) = tableLine (r .day) (r .first) (r .second) ++ tableText rs

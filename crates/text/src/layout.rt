@@ -21,7 +21,7 @@ pub(crate) const MOST_DIGITS: usize = 5;
 // The widths of a table's line, of the query line, of a listing's line and of the line of a refusal.
 pub(crate) const DAY_WIDTH: usize = 5;
 
-const ACCOUNT_WIDTH: usize = 6;
+pub(crate) const ACCOUNT_WIDTH: usize = 6;
 
 const QUERY_WIDTH: usize = 5;
 

@@ -6,6 +6,7 @@ mod print;
 pub mod reader;
 mod report;
 mod table;
+mod writer;
 
 pub use decimal::Field;
 pub use decimal::read_field;
@@ -28,5 +29,8 @@ pub use reader::read_line;
 pub use report::Report;
 pub use report::report_query;
 pub use report::report_table;
+pub use report::report_written;
 pub use table::TableRead;
 pub use table::read_table;
+pub use writer::TableWritten;
+pub use writer::write_table;

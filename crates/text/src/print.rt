@@ -61,7 +61,7 @@ fn has_room(len: usize, at: usize, size: usize) -> bool
     at <= len - size
 }
 
-fn write_bytes(out: &mut [u8], at: usize, bytes: &[u8]) -> usize
+pub(crate) fn write_bytes(out: &mut [u8], at: usize, bytes: &[u8]) -> usize
     requires { ⌜ at + length (now bytes) ≤ length (now out) ⌝ }
     ensures { λ r. ⌜ WrittenAt (now (out .entry)) at (length (now (bytes .entry))) (now (bytes .entry)) r (now (out .exit)) ⌝ }
 {
@@ -73,7 +73,7 @@ fn write_bytes(out: &mut [u8], at: usize, bytes: &[u8]) -> usize
     at + j
 }
 
-fn write_field(out: &mut [u8], at: usize, width: usize, n: u16) -> usize
+pub(crate) fn write_field(out: &mut [u8], at: usize, width: usize, n: u16) -> usize
     requires { ⌜ at + width ≤ length (now out) ⌝ }
     ensures { λ r. ⌜ WrittenAt (now (out .entry)) at width (printed width n) r (now (out .exit)) ⌝ }
 {

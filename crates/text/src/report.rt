@@ -1,9 +1,10 @@
-// What a reader tells a host in numbers: 01's refusal number, 0 for none; its line, counted from 1, 0 where there is
-// none; the rows read.
+// What the reader and the writer tell a host in numbers: 01's refusal number, 0 for none; its line, counted from 1, 0
+// where there is none; the rows read or the bytes written.
 ghost use mathlib.Core.Path.{_≡_};
-ghost use Rattle.text.specs.Report.{tableReport, queryReport};
+ghost use Rattle.text.specs.Report.{tableReport, queryReport, writtenReport};
 use crate::lines::QueryRead;
 use crate::table::TableRead;
+use crate::writer::TableWritten;
 
 pub struct Report {
     pub number: u32,
@@ -11,7 +12,9 @@ pub struct Report {
     pub count: usize,
 }
 
-// 01's numbers of the reader's refusals, by the words of the variants.
+// 01's numbers of these refusals, by the words of the variants.
+const COLUMNS_DIFFER: u32 = 1;
+
 const NO_ROOM: u32 = 10;
 
 const BAD_LINE: u32 = 11;
@@ -56,5 +59,20 @@ pub fn report_query(read: QueryRead) -> Report
         QueryRead::BadLine => refused(BAD_LINE, 1),
         QueryRead::BadField => refused(BAD_FIELD, 1),
         QueryRead::BadNumber => refused(BAD_NUMBER, 1),
+    }
+}
+
+// Of a table's text that is written.
+pub fn report_written(written: TableWritten) -> Report
+    ensures { λ r. ⌜ r ≡ writtenReport written ⌝ }
+{
+    match written {
+        TableWritten::Text(n) => Report {
+            number: 0,
+            place: 0,
+            count: n,
+        },
+        TableWritten::ColumnsDiffer => refused(COLUMNS_DIFFER, 0),
+        TableWritten::NoRoom => refused(NO_ROOM, 0),
     }
 }

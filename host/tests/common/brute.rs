@@ -36,7 +36,8 @@ fn refused(number: u32, place: usize) -> Answer {
     }
 }
 
-fn counted(count: usize) -> Answer {
+/// Success, with this count.
+pub fn counted(count: usize) -> Answer {
     Answer {
         count: count as u64,
         ..Answer::default()
@@ -113,9 +114,14 @@ pub fn all_rings(table: Table, query: Query, range: Days) -> BTreeMap<(u16, u16)
 
 // ---- checks ----
 
+fn columns_differ(table: Table) -> bool {
+    let rows = table.days.len();
+    table.first.len() != rows || table.second.len() != rows
+}
+
 fn table_refusal(table: Table) -> Option<Answer> {
     let rows = table.days.len();
-    if table.first.len() != rows || table.second.len() != rows {
+    if columns_differ(table) {
         return Some(refused(COLUMNS_DIFFER, 0));
     }
     if rows > MOST_ROWS {
@@ -435,6 +441,33 @@ pub fn read_table(text: &[u8], days: &mut [u16], first: &mut [u16], second: &mut
     counted(rows.len())
 }
 
+/// Rows as text, a line a row.
+pub fn table_text(table: Table) -> String {
+    (0..table.days.len())
+        .map(|row| {
+            let [a, b] = accounts_of(table, row);
+            format!("{:>5}{a:>6}{b:>6}\n", table.days[row])
+        })
+        .collect()
+}
+
+/// A text into the space lent for it, all of it or nothing.
+pub fn put(text: &[u8], space: &mut [u8]) -> Answer {
+    if text.len() > space.len() {
+        return refused(NO_ROOM, 0);
+    }
+    space[..text.len()].copy_from_slice(text);
+    counted(text.len())
+}
+
+/// Writer.
+pub fn write_table(table: Table, text: &mut [u8]) -> Answer {
+    if columns_differ(table) {
+        return refused(COLUMNS_DIFFER, 0);
+    }
+    put(table_text(table).as_bytes(), text)
+}
+
 /// The listing program's text, or its refusal with the input line.
 pub fn list_text(input: &[u8]) -> Result<Vec<u8>, Answer> {
     if input.len() > MOST_INPUT {
@@ -483,17 +516,4 @@ pub fn list_text(input: &[u8]) -> Result<Vec<u8>, Answer> {
         text += &format!("{:>5}{:>5}{:>5}{:>6}\n", start[i], end[i], span, size[i]);
     }
     Ok(text.into_bytes())
-}
-
-/// The listing program as a call: text in, text out; `place` is the input line
-/// and `count` the length of the text.
-pub fn list(input: &[u8], output: &mut [u8]) -> Answer {
-    match list_text(input) {
-        Err(refusal) => refusal,
-        Ok(text) if text.len() > output.len() => refused(NO_ROOM, 0),
-        Ok(text) => {
-            output[..text.len()].copy_from_slice(&text);
-            counted(text.len())
-        }
-    }
 }

@@ -161,12 +161,38 @@ impl Owned {
     }
 
     pub fn text(&self) -> String {
-        (0..self.rows())
-            .map(|i| {
-                let (d, a, b) = (self.days[i], self.first[i], self.second[i]);
-                format!("{d:>5}{a:>6}{b:>6}\n")
-            })
-            .collect()
+        brute::table_text(self.lend())
+    }
+}
+
+/// The columns of a table, lent between canaries.
+pub struct LentTable {
+    days: Lent<u16>,
+    first: Lent<u16>,
+    second: Lent<u16>,
+}
+
+impl LentTable {
+    pub fn new(rng: &mut Rng, table: &Owned) -> LentTable {
+        LentTable {
+            days: Lent::holding(rng, &table.days),
+            first: Lent::holding(rng, &table.first),
+            second: Lent::holding(rng, &table.second),
+        }
+    }
+
+    pub fn lend(&self) -> Table<'_> {
+        Table {
+            days: self.days.get(),
+            first: self.first.get(),
+            second: self.second.get(),
+        }
+    }
+
+    pub fn kept(&self) {
+        self.days.kept("days");
+        self.first.kept("first");
+        self.second.kept("second");
     }
 }
 
@@ -307,6 +333,17 @@ pub fn read_table(text: &[u8], days: &mut [u16], first: &mut [u16], second: &mut
         number,
         place,
         count,
+        ..Answer::default()
+    }
+}
+
+pub fn write_table(table: Table, text: &mut [u8]) -> Answer {
+    let (mut place, mut length) = (NOISE, NOISE);
+    let number = raw::write_table(table, text, &mut place, &mut length);
+    Answer {
+        number,
+        place,
+        count: length,
         ..Answer::default()
     }
 }
