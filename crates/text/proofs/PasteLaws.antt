@@ -5,21 +5,25 @@
 --   pasting-more    after a turn
 --   pasting-on      the same where the next number is told
 --   pasting-all     at its end
+--   pasting-next    the next place is as it was
 --   pasted-length   the buffer keeps its length
 --   pasted-start    written from the start
+--   pasted-at       what stands at a written place
+--   pasted-over     written over in its whole length
 --   pasted-pasted   two pieces, one behind the other, are their join
 --   Pieces          through calls that write one piece behind the other: what stands so far
 --   piece-first     the first piece
 --   piece-more      one more
 -- Assumes nothing.
-use Prim.Native.Nat.{ℕ, _+_, _≤_, _<_}
+use Prim.Native.Nat.{ℕ, suc, _+_, _≤_, _<_}
 use mathlib.Core.Path.{_≡_, refl, sym, ap, subst, _∙_}
-use mathlib.Core.List.{List, _++_, append-assoc}
+use mathlib.Core.List.{List, _∷_, _++_, append-assoc}
 use native.Mathlib.Nat.{zero-add, add-assoc}
 use native.Mathlib.Numerals.{add-one}
 use native.Mathlib.Omega.{arith}
-use lib.ListN.{length, getD, take, drop, set, length-set, length-append}
-use lib.Seq.{paste, paste-zero, paste-suc, length-paste, take-length, length-take-le, take-at, drop-at, drop-drop}
+use lib.ListN.{length, getD, take, drop, set, length-set, length-append, List·getD-append}
+use lib.Seq.{paste, paste-zero, paste-suc, length-paste, length-paste-head, take-length, length-take-le, take-at, drop-at, drop-drop}
+use lib.Seq.{drop-cons, getD-at, getD-append-add}
 use Rattle.text.specs.Print.{pasted, WrittenAt}
 
 -- ---- one element a turn
@@ -58,6 +62,15 @@ pasting-all {s} {d} {now} {at} {c} {j} p h =
     let e : j ≡ length s = omega arith in
     p .is ∙ rw (e, take-length s)
 
+-- the next place is as it was
+pub pasting-next : {s d now : List ℕ} {at c j : ℕ} → Pasting s d now at c j → j < c → getD now (at + j) 0 ≡ getD d (at + j) 0
+pasting-next {s} {d} {now} {at} {c} {j} p h =
+    let front : List ℕ = take at d ++ take j s in
+    let size : length front ≡ at + j = length-paste-head d at s j (omega arith) (omega arith) in
+    let behind : drop (at + j) d ≡ getD d (at + j) 0 ∷ drop (suc (at + j)) d = drop-cons d (at + j) 0 (omega arith) in
+    ap (λ (l : List ℕ). getD l (at + j) 0) (p .is ∙ ap (λ (l : List ℕ). front ++ l) behind)
+    ∙ getD-at front (getD d (at + j) 0) (drop (suc (at + j)) d) 0 (at + j) size
+
 -- ---- the whole
 
 pub pasted-length : (d : List ℕ) (at : ℕ) (s : List ℕ) → at + length s ≤ length d → length (pasted d at s) ≡ length d
@@ -69,6 +82,29 @@ pasted-length d at s h =
 pub pasted-start : (d s : List ℕ) (n : ℕ) → length s ≡ n → pasted d 0 s ≡ s ++ drop n d
 unfolding pasted
 pasted-start d s n e = rw (e, zero-add n)
+
+-- the written elements stand in their places
+pub pasted-at : (d : List ℕ) (at : ℕ) (s : List ℕ) (j : ℕ) → at + length s ≤ length d → j < length s → getD (pasted d at s) (at + j) 0 ≡ getD s j 0
+unfolding pasted
+pasted-at d at s j h l =
+    let head : length (take at d) ≡ at = length-take-le at d (omega arith) in
+    let size : length (take at d ++ s) ≡ at + length s = length-append (take at d) s ∙ ap (λ (k : ℕ). k + length s) head in
+    List·getD-append (take at d ++ s) (drop (at + length s) d) 0 (at + j) (omega arith)
+    ∙ ap (λ (k : ℕ). getD (take at d ++ s) (k + j) 0) (sym head) ∙ getD-append-add (take at d) s j 0
+
+-- what is written over in its whole length is as if it had never stood there
+pub pasted-over : (d : List ℕ) (at : ℕ) (s t : List ℕ) → length s ≡ length t → at + length s ≤ length d
+    → pasted (pasted d at s) at t ≡ pasted d at t
+unfolding pasted
+pasted-over d at s t e h =
+    let front : List ℕ = take at d ++ s in
+    let rest : List ℕ = drop (at + length s) d in
+    let head : length (take at d) ≡ at = length-take-le at d (omega arith) in
+    let size : length front ≡ at + length s = length-append (take at d) s ∙ ap (λ (k : ℕ). k + length s) head in
+    let a : take at (front ++ rest) ≡ take at d = ap (take at) (append-assoc (take at d) s rest) ∙ take-at (take at d) (s ++ rest) at head in
+    let b : drop (at + length t) (front ++ rest) ≡ drop (at + length t) d =
+    ap (λ (k : ℕ). drop (at + k) (front ++ rest)) (sym e) ∙ drop-at front rest (at + length s) size ∙ ap (λ (k : ℕ). drop (at + k) d) e in
+    rw (a, b)
 
 -- two pieces, one behind the other, are their join
 pub pasted-pasted : (d : List ℕ) (at : ℕ) (s t : List ℕ) → at + length s ≤ length d

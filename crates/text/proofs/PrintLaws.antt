@@ -3,9 +3,19 @@
 --   column-unit      a column, by the code's cases: the units
 --   column-blank     a blank
 --   column-digit     a digit
+--   column-is-blank  the same by the code's test for a blank
+--   column-is-digit  or a digit
+--   quotient-digit   a quotient is ten times the next one, and the digit
 --   below-power      a number of 16 bits is below 10 ^ 5
+--   digit-place      so its digits have a place in the table
 --   printed-length   a printed field has its width
 --   printed-at       and these columns
+--   blanks           so many blanks
+--   columns-none     through the loop that writes columns over them: at its start
+--   columns-blank    the next place has its blank
+--   columns-more     after a turn
+--   columns-long     the buffer keeps its length
+--   columns-all      at its end
 --   fits-none        whether a number fits, by the code's cases: no column
 --   fits-place       by its place value
 --   fits-wide        five columns or more
@@ -23,21 +33,24 @@
 --   line-length      how long a listing's line is
 --   refused-length   how long the line of a refusal is
 -- Assumes nothing.
-use Prim.Native.Nat.{ℕ, zero, suc, _+_, _-_, _/_, _%_, _^_, _≤_, _<_}
-use mathlib.Core.Path.{_≡_, refl, sym, ap, _∙_}
-use mathlib.Core.Bool.{Bool, true, false, not}
+use Prim.Native.Nat.{ℕ, zero, suc, _+_, _-_, _*_, _/_, _%_, _^_, _≤_, _<_}
+use mathlib.Core.Path.{_≡_, refl, sym, ap, subst, _∙_}
+use mathlib.Core.Bool.{Bool, true, false, not, _&&_, true≢false}
 use mathlib.Core.Logic.{⊎-elim}
 use mathlib.Core.List.{List, [], _∷_, _++_}
-use native.Mathlib.Nat.{div-one, pow-le-pow-right, not-suc-le-zero, le-of-suc-le-suc}
+use native.Mathlib.Nat.{div-one, div-add-mod, div-div-eq-div-mul, pow-suc, pow-le-pow-right, not-suc-le-zero, le-of-suc-le-suc}
+use native.Mathlib.Numerals.{add-one}
 use native.Mathlib.Omega.{arith}
 use lib.Dec.{leb, ltb, lit<}
-use lib.ListN.{length, getD, length-append}
+use lib.ListN.{length, getD, set, replicate, length-append, length-replicate, getD-replicate}
 use borrow.Author.Tests.{lt-ltb, le-ltb, lt-leb, le-leb, leb-true, leb-false}
 use Rattle.text.specs.Layout.{mostDigits, dayWidth, rowsWidth, numberWidth, placeWidth, entryBytes, refusedBytes}
-use Rattle.text.specs.Print.{columnOf, printed, fits, putOf, fieldPut, listingLine, refusedLine, WrittenAt, Puts, PutsField}
+use Rattle.text.specs.Print.{columnOf, printed, fits, pasted, putOf, fieldPut, listingLine, refusedLine, BlankAt, WrittenAt, Puts}
+use Rattle.text.specs.Print.{PutsField}
 use Rattle.text.specs.declared.print.Put.{Put}
 use Rattle.text.specs.declared.print.Put.the-variants.{Wrote, NoRoom}
-use Rattle.text.proofs.Tests.{true-or-false, and-false, pick-true, pick-false, negated-true, negated-false}
+use Rattle.text.proofs.Tests.{true-or-false, lt-or-le, and-false, both-true, pick-true, pick-false, negated-true, negated-false}
+use Rattle.text.proofs.PasteLaws.{Pasting, pasting-none, pasting-more, pasting-next, pasting-all, pasted-length, pasted-at, pasted-over}
 use Rattle.text.proofs.PasteLaws.{Pieces, piece-first, piece-more}
 
 -- ---- columns
@@ -54,9 +67,33 @@ pub column-digit : (k n : ℕ) → 10 ^ k ≤ n → columnOf k n ≡ 48 + n / 10
 unfolding columnOf
 column-digit k n h = rw (le-ltb n (10 ^ k) h, and-false (ltb 0 k))
 
+-- a column, by the code's test for a blank
+module _ (k n : ℕ) {b : Bool} (e : b ≡ (ltb 0 k && ltb n (10 ^ k))) where
+  pub column-is-blank : b ≡ true → columnOf k n ≡ 32
+  unfolding columnOf
+  column-is-blank t = pick-true _ _ _ (sym e ∙ t)
+
+  pub column-is-digit : b ≡ false → columnOf k n ≡ 48 + n / 10 ^ k % 10
+  unfolding columnOf
+  column-is-digit t = pick-false _ _ _ (sym e ∙ t)
+
+-- a quotient is ten times the next one, and the digit
+pub quotient-digit : (k n : ℕ) → 10 * (n / 10 ^ (k + 1)) + n / 10 ^ k % 10 ≡ n / 10 ^ k
+quotient-digit k n =
+    let power : 10 ^ k * 10 ≡ 10 ^ (k + 1) = sym (pow-suc 10 k) ∙ ap (λ (m : ℕ). 10 ^ m) (sym (add-one k)) in
+    let next : n / 10 ^ k / 10 ≡ n / 10 ^ (k + 1) = div-div-eq-div-mul n (10 ^ k) 10 ∙ ap (λ (m : ℕ). n / m) power in
+    ap (λ (q : ℕ). 10 * q + n / 10 ^ k % 10) (sym next) ∙ div-add-mod (n / 10 ^ k) 10
+
 -- a number of 16 bits has no digit at place 5 or above
 pub below-power : (k n : ℕ) → mostDigits ≤ k → n < 2 ^ 16 → n < 10 ^ k
 below-power k n h l = let m : 10 ^ mostDigits ≤ 10 ^ k = pow-le-pow-right (lit< tt) h in omega arith
+
+-- so where a digit stands the table of place values has its place
+pub digit-place : (k n : ℕ) {b : Bool} → b ≡ (ltb 0 k && ltb n (10 ^ k)) → b ≡ false → n < 2 ^ 16 → k < mostDigits
+digit-place k n e t l = ⊎-elim (λ h. h) (λ h. absurd (none h)) (lt-or-le k mostDigits)
+  where
+    none : mostDigits ≤ k → ⊥
+    none h = true≢false (sym (both-true _ _ (lt-ltb 0 k (omega arith)) (lt-ltb n (10 ^ k) (below-power k n h l))) ∙ sym e ∙ t)
 
 -- ---- printed fields
 
@@ -70,6 +107,46 @@ unfolding printed
 printed-at zero n j h = absurd (not-suc-le-zero h)
 printed-at (suc k) n zero h = ap (λ (p : ℕ). columnOf p n) (omega arith)
 printed-at (suc k) n (suc j) h = printed-at k n j (le-of-suc-le-suc h) ∙ ap (λ (p : ℕ). columnOf p n) (omega arith)
+
+-- ---- blanks, and columns over them
+
+abbrev pub blanks : ℕ → List ℕ
+blanks width = replicate width 32
+
+-- through the loop that writes the columns of a number over blanks
+module _ (out : List ℕ) (at width n : ℕ) {blanked : List ℕ} (room : at + width ≤ length out) (e : blanked ≡ pasted out at (blanks width)) where
+  size : length (blanks width) ≡ width
+  size = length-replicate width 32
+
+  long : length blanked ≡ length out
+  long = ap length e ∙ pasted-length out at (blanks width) (omega (arith, size))
+
+  pub columns-none : Pasting (printed width n) blanked blanked at width 0
+  columns-none = pasting-none _ _ _ _ (printed-length width n) (omega (arith, long))
+
+  module _ {now : List ℕ} {j : ℕ} (p : Pasting (printed width n) blanked now at width j) where
+    -- the next place has its blank
+    pub columns-blank : j < width → BlankAt now (at + j)
+    columns-blank h =
+        let before : getD blanked (at + j) 0 ≡ 32 =
+        ap (λ (l : List ℕ). getD l (at + j) 0) e ∙ pasted-at out at (blanks width) j (omega (arith, size)) (omega (arith, size))
+        ∙ getD-replicate width j 32 0 h in
+        record { within = omega (arith, p .long, p .room); blank = pasting-next p h ∙ before }
+
+    pub columns-more : {now′ : List ℕ} → j < width → now′ ≡ set now (at + j) (columnOf (width - 1 - j) n)
+        → Pasting (printed width n) blanked now′ at width (j + 1)
+    columns-more h w =
+        subst (λ (l : List ℕ). Pasting (printed width n) blanked l at width (j + 1)) (sym w)
+        (pasting-more (at + j) _ p h refl (sym (printed-at width n j h)))
+
+    pub columns-long : length now ≡ length out
+    columns-long = p .long ∙ long
+
+    -- the field stands, as if there had been no blanks
+    pub columns-all : width ≤ j → now ≡ pasted out at (printed width n)
+    columns-all h =
+        pasting-all p h ∙ ap (λ (l : List ℕ). pasted l at (printed width n)) e
+        ∙ pasted-over out at (blanks width) (printed width n) (size ∙ sym (printed-length width n)) (omega (arith, size))
 
 -- ---- what fits
 

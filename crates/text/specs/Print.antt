@@ -7,6 +7,7 @@
 --   putOf        the answer of a call that writes these bytes
 --   fieldPut     the answer of a call that writes a number in a field
 --   written      what the buffer holds after that answer
+--   BlankAt      a blank stands at a position
 --   WrittenAt    some bytes are written from a position on
 --   Puts         the answer of a call that writes these bytes, and the buffer after it
 --   PutsField    the same for a number in a field
@@ -18,12 +19,12 @@
 --   listingText  the text of a listing
 --   refusedLine  the line of a refusal
 -- Assumes nothing.
-use Prim.Native.Nat.{ℕ, zero, suc, _+_, _/_, _%_, _^_}
+use Prim.Native.Nat.{ℕ, zero, suc, _+_, _/_, _%_, _^_, _<_}
 use mathlib.Core.Path.{_≡_}
 use mathlib.Core.Bool.{Bool, cond, _&&_}
 use mathlib.Core.List.{List, [], _∷_, _++_}
 use lib.Dec.{leb, ltb}
-use lib.ListN.{length, take, drop}
+use lib.ListN.{length, getD, take, drop}
 use Rattle.text.specs.Layout.{dayWidth, rowsWidth, numberWidth, placeWidth}
 use Rattle.text.specs.declared.print.Put.{Put}
 use Rattle.text.specs.declared.print.Put.the-variants.{Wrote, NoRoom}
@@ -58,6 +59,11 @@ fieldPut out at width n = cond (fits width n) (putOf out at (printed width n)) N
 abbrev pub written : Put → List ℕ → ℕ → List ℕ → List ℕ
 written (Wrote next) out at bytes = pasted out at bytes
 written NoRoom out at bytes = out
+
+-- a place of the buffer, and a blank (byte 32) there
+pub record BlankAt (out : List ℕ) (at : ℕ) : Type 0 where
+  pub within : at < length out
+  pub blank : getD out at 0 ≡ 32
 
 -- `size` bytes from `at` on, and `next` is the position behind them
 pub record WrittenAt (out : List ℕ) (at size : ℕ) (bytes : List ℕ) (next : ℕ) (now : List ℕ) : Type 0 where

@@ -1,10 +1,12 @@
 // Printing into a lent slice. A call writes all of its bytes or none, and keeps every byte around them.
 ghost use mathlib.Core.Path.{_≡_};
-ghost use Prim.Native.Nat.{_+_, _≤_};
-ghost use lib.ListN.{length};
-ghost use lib.Dec.{leb};
-ghost use Rattle.text.specs.Layout.{entryBytes, refusedBytes};
-ghost use Rattle.text.specs.Print.{columnOf, printed, fits, header, listingLine, refusedLine, WrittenAt, Puts, PutsField};
+ghost use mathlib.Core.Bool.{_&&_};
+ghost use Prim.Native.Nat.{_+_, _/_, _%_, _^_, _≤_, _<_};
+ghost use lib.ListN.{length, set, replicate};
+ghost use lib.Dec.{leb, ltb};
+ghost use Rattle.text.specs.Layout.{mostDigits, entryBytes, refusedBytes};
+ghost use Rattle.text.specs.Print.{columnOf, printed, fits, pasted, header, listingLine, refusedLine};
+ghost use Rattle.text.specs.Print.{BlankAt, WrittenAt, Puts, PutsField};
 use crate::decimal::place;
 use crate::layout::DAY_WIDTH;
 use crate::layout::ENTRY_BYTES;
@@ -20,22 +22,36 @@ pub enum Put {
     NoRoom,
 }
 
-// What stands in the column of place k of a printed number.
-fn column(k: usize, n: u16) -> u8
-    ensures { λ r. ⌜ r ≡ columnOf k n ⌝ }
+// A number without its last k digits.
+fn quotient(k: usize, n: u16) -> u64
+    ensures { λ r. ⌜ r ≡ n / 10 ^ k ⌝ }
+{
+    if MOST_DIGITS <= k {
+        return 0;
+    }
+    n as u64 / place(k)
+}
+
+// The byte of the digit at place k. The digits before it are taken off by the next quotient, which the column before
+// has worked out: a remainder would be one more division.
+fn digit(k: usize, n: u16) -> u8
+    requires { ⌜ k < mostDigits ⌝ }
+    ensures { λ r. ⌜ r ≡ 48 + n / 10 ^ k % 10 ⌝ }
+{
+    48 + (quotient(k, n) - 10 * quotient(k + 1, n)) as u8
+}
+
+// The number has no digit at place k. The units always stand.
+fn is_blank(k: usize, n: u16) -> bool
+    ensures { λ r. ⌜ r ≡ (ltb 0 k && ltb n (10 ^ k)) ⌝ }
 {
     if k == 0 {
-        return 48 + (n % 10) as u8;
+        return false;
     }
     if MOST_DIGITS <= k {
-        return 32;
+        return true;
     }
-    let value = place(k);
-    let whole = n as u64;
-    if whole < value {
-        return 32;
-    }
-    48 + (whole / value % 10) as u8
+    (n as u64) < place(k)
 }
 
 // A number fits a field: there is a column, and no digit is lost.
@@ -73,13 +89,37 @@ pub(crate) fn write_bytes(out: &mut [u8], at: usize, bytes: &[u8]) -> usize
     at + j
 }
 
+fn write_blanks(out: &mut [u8], at: usize, width: usize)
+    requires { ⌜ at + width ≤ length (now out) ⌝ }
+    ensures { λ _. ⌜ now (out .exit) ≡ pasted (now (out .entry)) at (replicate width 32) ⌝ }
+{
+    let mut j: usize = 0;
+    while j < width {
+        out[at + j] = 32;
+        j += 1;
+    }
+}
+
+// The column of place k, where a blank stands.
+fn write_column(out: &mut [u8], at: usize, k: usize, n: u16)
+    requires { ⌜ BlankAt (now out) at ⌝ }
+    ensures { λ _. ⌜ now (out .exit) ≡ set (now (out .entry)) at (columnOf k n) ⌝ }
+{
+    if is_blank(k, n) {
+        return;
+    }
+    out[at] = digit(k, n);
+}
+
+// Blanks first, many at a time; then the digits that there are.
 pub(crate) fn write_field(out: &mut [u8], at: usize, width: usize, n: u16) -> usize
     requires { ⌜ at + width ≤ length (now out) ⌝ }
     ensures { λ r. ⌜ WrittenAt (now (out .entry)) at width (printed width n) r (now (out .exit)) ⌝ }
 {
+    write_blanks(out, at, width);
     let mut j: usize = 0;
     while j < width {
-        out[at + j] = column(width - 1 - j, n);
+        write_column(out, at + j, width - 1 - j, n);
         j += 1;
     }
     at + j

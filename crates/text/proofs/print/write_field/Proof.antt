@@ -1,11 +1,11 @@
--- `text::print::write_field` meets its contract: the first j columns stand.
+-- `text::print::write_field` meets its contract: the first j columns stand, and blanks behind them.
 -- Assumes nothing.
 use Prim.Native.Nat.{_-_}
-use mathlib.Core.Path.{refl, sym, _∙_}
 use native.Mathlib.Omega.{arith}
+use borrow.Author.Needs.{needs}
 use Rattle.text.specs.Print.{printed}
-use Rattle.text.proofs.PrintLaws.{printed-length, printed-at}
-use Rattle.text.proofs.PasteLaws.{Pasting, pasting-none, pasting-more, pasting-all}
+use Rattle.text.proofs.PasteLaws.{Pasting}
+use Rattle.text.proofs.PrintLaws.{columns-none, columns-blank, columns-more, columns-long, columns-all}
 use Rattle.text.proofs.print.write_field.Statement.{statement}
 use Rattle.text.proofs.print.write_field.Tie as tie
 
@@ -15,25 +15,33 @@ Inv-loop out₀ at width n j₀ out j = Pasting (printed width n) out₀ out at 
 abbrev μ-loop : tie.MeasureT-loop
 μ-loop out₀ at width n j₀ out j = width - j
 
+write-blanks-requires : tie.Need-write-blanks-requires Inv-loop μ-loop
+write-blanks-requires c κs = search needs
+
 loop-holds : tie.Need-loop-holds Inv-loop μ-loop
 loop-holds c =
-    let start = c .before in
-    pasting-none _ _ _ _ (printed-length (start .args .width) (start .args .n)) (start .pre)
+    let blanked = c .before .before in
+    let start = blanked .before .before .before in
+    let a = start .args in
+    columns-none (a .out .now) (a .at) (a .width) (a .n) (start .pre) (blanked .write-blanks .ensures)
 
-sub-column : tie.Need-sub-column Inv-loop μ-loop
-sub-column c = omega arith
+add-write-column : tie.Need-add-write-column Inv-loop μ-loop
+add-write-column c = omega arith
 
-sub-column-2 : tie.Need-sub-column-2 Inv-loop μ-loop
-sub-column-2 c = omega arith
+sub-write-column : tie.Need-sub-write-column Inv-loop μ-loop
+sub-write-column c = omega arith
 
-column-requires : tie.Need-column-requires Inv-loop μ-loop
-column-requires c κs = tt
+sub-write-column-2 : tie.Need-sub-write-column-2 Inv-loop μ-loop
+sub-write-column-2 c = omega arith
 
-add-out : tie.Need-add-out Inv-loop μ-loop
-add-out c = omega arith
-
-slice-write-out : tie.Need-slice-write-out Inv-loop μ-loop
-slice-write-out c = omega arith
+write-column-requires : tie.Need-write-column-requires Inv-loop μ-loop
+write-column-requires c κs =
+    let at-loop = c .before .before in
+    let blanked = at-loop .before .before .before in
+    let start = blanked .before .before .before in
+    let a = start .args in
+    columns-blank (a .out .now) (a .at) (a .width) (a .n) (start .pre) (blanked .write-blanks .ensures)
+    (at-loop .loop .inv) (c .before .loop-test .taken)
 
 add-j : tie.Need-add-j Inv-loop μ-loop
 add-j c = omega arith
@@ -43,27 +51,42 @@ loop-less c = omega arith
 
 loop-again : tie.Need-loop-again Inv-loop μ-loop
 loop-again c =
-    let on = c .before in
-    let at-loop = on .before in
-    let a = at-loop .before .before .args in
-    pasting-more _ _ (at-loop .loop .inv) (on .loop-test .taken) refl
-    (c .column .ensures ∙ sym (printed-at (a .width) (a .n) (at-loop .loop .j) (on .loop-test .taken)))
+    let wrote = c .before .before in
+    let at-loop = wrote .before .before .before in
+    let blanked = at-loop .before .before .before in
+    let start = blanked .before .before .before in
+    let a = start .args in
+    columns-more (a .out .now) (a .at) (a .width) (a .n) (start .pre) (blanked .write-blanks .ensures)
+    (at-loop .loop .inv) (wrote .before .before .loop-test .taken) (wrote .write-column .ensures)
 
 add-result : tie.Need-add-result Inv-loop μ-loop
 add-result c = omega arith
 
 same-length : tie.Need-same-length Inv-loop μ-loop
 same-length c =
-    c .before .loop .inv .long
+    let at-loop = c .before in
+    let blanked = at-loop .before .before .before in
+    let start = blanked .before .before .before in
+    let a = start .args in
+    columns-long (a .out .now) (a .at) (a .width) (a .n) (start .pre) (blanked .write-blanks .ensures)
+    (at-loop .loop .inv)
 
 returns : tie.Need-returns Inv-loop μ-loop
 returns c =
-    record { behind = omega arith; holds = pasting-all (c .before .loop .inv) (c .loop-test .left) }
+    let at-loop = c .before in
+    let blanked = at-loop .before .before .before in
+    let start = blanked .before .before .before in
+    let a = start .args in
+    record {
+      behind = omega arith;
+      holds = columns-all (a .out .now) (a .at) (a .width) (a .n) (start .pre) (blanked .write-blanks .ensures)
+          (at-loop .loop .inv) (c .loop-test .left);
+    }
 
 pub write-field-spec : {M : Type 1} → statement M
 write-field-spec =
     tie.close
     (
-    tie.spec Inv-loop μ-loop loop-holds sub-column sub-column-2 column-requires add-out slice-write-out add-j
-    loop-less loop-again add-result same-length returns
+    tie.spec Inv-loop μ-loop write-blanks-requires loop-holds add-write-column sub-write-column sub-write-column-2
+    write-column-requires add-j loop-less loop-again add-result same-length returns
     )
