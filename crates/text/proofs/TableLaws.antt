@@ -6,6 +6,7 @@
 --   NextLine        the line behind the one judged
 --   stays           a reader that stays tells the answer
 --   moves           one that moves has passed a row
+--   places          the places of the shortest column
 --   reads-none      the reader's answer, by the code's cases: a faulty line
 --   reads-short     too few places
 --   reads-fit       places enough
@@ -137,6 +138,10 @@ module _ {text : List ℕ} {found : TableRead} {n : ℕ} {s : Step} (so : Judgin
   pub moves : (s .line ≡ n → ⊥) → NextLine text found n (s .line)
   moves h = by-move (s .found) refl (λ z. h (omega (arith, step-line text n is)))
 
+-- the places of the shortest column
+abbrev pub places : Columns → ℕ
+places c = min (length (c .days)) (min (length (c .first)) (length (c .second)))
+
 -- ---- the reader's answer, by the code's cases
 
 -- what is kept behind the rows, counted as lines or as rows
@@ -144,9 +149,8 @@ kept-from : (values old : List ℕ) {n m : ℕ} {now : List ℕ} → n ≡ m →
 kept-from values old e h = h ∙ ap (λ (k : ℕ). values ++ drop k old) (sym e)
 
 module _ (text : List ℕ) (old : Columns) {r : TableRead} (is : r ≡ judgedFrom 0 (linesOf text)) where
-  -- the places of the shortest column
   abbrev room : ℕ
-  room = min (length (old .days)) (min (length (old .first)) (length (old .second)))
+  room = places old
 
   answer : {j : TableRead} → r ≡ j → roomFor room j ≡ tableReadOf text (length (old .days)) (length (old .first)) (length (old .second))
   unfolding tableReadOf
@@ -190,9 +194,6 @@ module _ (text : List ℕ) (old : Columns) {r : TableRead} (is : r ≡ judgedFro
         }
 
 -- ---- what a call of the reader has answered
-
-abbrev places : Columns → ℕ
-places c = min (length (c .days)) (min (length (c .first)) (length (c .second)))
 
 -- an answer that is a number of rows had room for them
 rows-fit : (b : Bool) (m n : ℕ) → cond b (Rows m) NoRoom ≡ Rows n → Rows m ≡ Rows n
@@ -238,5 +239,5 @@ module _ {text : List ℕ} {old new : Columns} {answer : TableRead} {n : ℕ} (r
       × (new ≡ columns (daysOf text ++ drop n (old .days)) (firstsOf text ++ drop n (old .first)) (secondsOf text ++ drop n (old .second)))
   read-rows h = let a = by-places ∙ pick-true _ _ _ (le-leb _ _ h) in (a, left a)
 
-  pub read-none : min (length (old .days)) (min (length (old .first)) (length (old .second))) < n → (answer ≡ NoRoom) × (new ≡ old)
+  pub read-none : places old < n → (answer ≡ NoRoom) × (new ≡ old)
   read-none h = let a = by-places ∙ pick-false _ _ _ (lt-leb _ _ h) in (a, left a)

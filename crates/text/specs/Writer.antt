@@ -42,7 +42,7 @@ unfoldable pub tableLines : List TableRow → List ℕ
 tableLines [] = []
 tableLines (r ∷ rs) = tableLine (r .day) (r .first) (r .second) ++ tableLines rs
 
--- row by row; a column that is longer than another has no say, and none is where `oneLength` holds
+-- row by row, as far as all three go; they are written only where they have one length
 unfoldable pub tableRows : List ℕ → List ℕ → List ℕ → List TableRow
 tableRows [] first second = []
 tableRows (d ∷ days) [] second = []

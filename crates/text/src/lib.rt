@@ -1,4 +1,4 @@
-// Text of tables and listings: fixed decimal fields, lines, the table reader, and printing.
+// Text of tables and listings: fixed decimal fields, lines, printing, the table reader and the table writer.
 mod decimal;
 mod layout;
 mod lines;
