@@ -4,8 +4,8 @@
 //! differ by more than what a change is allowed, two archives in one run do not.
 
 use crate::tables::Case;
-use crate::{earlier, new, old, Bench, Engine, Op, Rings, Three};
 use crate::{full_cases, median, now, ring_windows, starts, window_room};
+use crate::{new, old, Bench, Engine, Op, Rings, Three};
 use rumbleog::{longest_list, scratch_for, ACCOUNTS};
 use std::ffi::{c_char, c_int, c_void, CStr, CString};
 use std::ptr::NonNull;
@@ -103,13 +103,10 @@ fn answer(engine: Engine, op: Op, case: &Case) -> Answer {
             answer.told.extend([
                 found.map(|found| found.count as u64),
                 found.map(|found| found.sum),
+                found.map(|found| found.empty),
             ]);
             answer.three = Some(rings.three);
-            // What an earlier archive has not cannot be compared.
-            if !earlier::found() {
-                answer.told.push(found.map(|found| found.empty));
-                answer.windows = rings.windows;
-            }
+            answer.windows = rings.windows;
         }
     }
     answer.columns.push(scratch);
@@ -167,12 +164,6 @@ pub fn against(old_file: &str, new_file: &str) {
     unsafe {
         old::c::load(|name| libraries[0].find(name));
         new::c::load(|name| libraries[1].find(name));
-        if let Some(listing) = libraries[0].find("rumbleog_listing") {
-            earlier::look(listing);
-        }
-    }
-    if earlier::found() {
-        println!("{old_file} lists without windows and empty: these are not compared.");
     }
     let cases = full_cases();
     let entries: Vec<usize> = cases.iter().map(same_answers).collect();

@@ -8,7 +8,6 @@
 //!   bench --against OLD.so NEW.so  two archives on the full tables, by turns
 
 mod against;
-mod earlier;
 mod peers;
 mod report;
 mod tables;
@@ -123,7 +122,7 @@ impl Engine {
         let listing = match self {
             Engine::Archive => raw::listing,
             Engine::Peer => peer::listing,
-            Engine::Old => earlier::listing,
+            Engine::Old => old::listing,
             Engine::New => new::listing,
         };
         let Three { a, b, c } = &mut out.three;
