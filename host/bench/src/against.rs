@@ -4,8 +4,9 @@
 //! differ by more than what a change is allowed, two archives in one run do not.
 
 use crate::tables::Case;
-use crate::{earlier, new, old, Bench, Engine, Op, Rings, Three};
-use crate::{full_cases, median, now, ring_windows, starts, window_room};
+use crate::text::{sheets, Work};
+use crate::{fail, full_cases, median, now, ring_windows, starts, window_room};
+use crate::{new, old, Bench, Engine, Op, Rings, Three};
 use rumbleog::{longest_list, scratch_for, ACCOUNTS};
 use std::ffi::{c_char, c_int, c_void, CStr, CString};
 use std::ptr::NonNull;
@@ -24,10 +25,14 @@ const CALLS: [(&str, &str, Op); 4] = [
     ("core times", "rumbleog_core_times", Op::Times),
 ];
 
-fn fail(message: &str) -> ! {
-    eprintln!("bench: {message}");
-    std::process::exit(1);
-}
+/// Work that waits for its engine.
+type WorkBy = fn(Engine) -> Work;
+
+/// Those of table text: compared where both archives have the call.
+const TEXT: [(&str, &str, WorkBy); 2] = [
+    ("reading table text", "rumbleog_read_table", Work::Read),
+    ("writing table text", "rumbleog_write_table", Work::Write),
+];
 
 /// A shared object, never closed again.
 struct Library(NonNull<c_void>);
@@ -103,13 +108,10 @@ fn answer(engine: Engine, op: Op, case: &Case) -> Answer {
             answer.told.extend([
                 found.map(|found| found.count as u64),
                 found.map(|found| found.sum),
+                found.map(|found| found.empty),
             ]);
             answer.three = Some(rings.three);
-            // What an earlier archive has not cannot be compared.
-            if !earlier::found() {
-                answer.told.push(found.map(|found| found.empty));
-                answer.windows = rings.windows;
-            }
+            answer.windows = rings.windows;
         }
     }
     answer.columns.push(scratch);
@@ -137,12 +139,12 @@ fn same_answers(case: &Case) -> usize {
     entries
 }
 
-/// The least seconds of an operation by the old archive and by the new one, in
-/// turns, and the first of the two in turns too.
-fn least(bench: &mut Bench, op: Op) -> [f64; 2] {
+/// The least seconds of a run by the old archive and by the new one, in turns,
+/// and the first of the two in turns too.
+fn least(mut run: impl FnMut(Engine)) -> [f64; 2] {
     let mut time = |engine: Engine| {
         let before = now();
-        bench.run_by(engine, op);
+        run(engine);
         now() - before
     };
     let mut least = [time(Engine::Old), time(Engine::New)];
@@ -160,6 +162,23 @@ fn least(bench: &mut Bench, op: Op) -> [f64; 2] {
     least
 }
 
+/// Prints the least times of a call by what it ran on; its line of the summary.
+fn print_times<'a>(what: &str, times: impl Iterator<Item = (&'a str, [f64; 2])>) -> String {
+    println!(
+        "\n{what:<38} {:>13} {:>13} {:>10}",
+        "old", "new", "new : old"
+    );
+    let mut ratios = Vec::new();
+    for (name, [old, new]) in times {
+        let (old, new, ratio) = (old * 1e3, new * 1e3, new / old);
+        println!("{name:<38} {old:>10.3} ms {new:>10.3} ms {ratio:>10.3}");
+        ratios.push(ratio);
+    }
+    let median = median(&mut ratios);
+    let greatest = ratios.last().copied().unwrap_or(0.0);
+    format!("{what:<38} {median:>13.3} {greatest:>13.3}\n")
+}
+
 /// Compares two archives, given as shared objects; ends with 1 where an answer differs.
 pub fn against(old_file: &str, new_file: &str) {
     let libraries = [old_file, new_file].map(Library::open);
@@ -167,12 +186,6 @@ pub fn against(old_file: &str, new_file: &str) {
     unsafe {
         old::c::load(|name| libraries[0].find(name));
         new::c::load(|name| libraries[1].find(name));
-        if let Some(listing) = libraries[0].find("rumbleog_listing") {
-            earlier::look(listing);
-        }
-    }
-    if earlier::found() {
-        println!("{old_file} lists without windows and empty: these are not compared.");
     }
     let cases = full_cases();
     let entries: Vec<usize> = cases.iter().map(same_answers).collect();
@@ -184,23 +197,28 @@ pub fn against(old_file: &str, new_file: &str) {
     println!("Least times of runs that took turns.");
     let mut summary = String::new();
     for (what, _, op) in CALLS {
-        println!(
-            "\n{what:<38} {:>13} {:>13} {:>10}",
-            "old", "new", "new : old"
-        );
-        let mut ratios = Vec::new();
-        for (case, &entries) in cases.iter().zip(&entries) {
-            let [old, new] = least(&mut Bench::new(case, 0, entries), op);
-            let (old, new, ratio) = (old * 1e3, new * 1e3, new / old);
-            println!(
-                "{:<38} {old:>10.3} ms {new:>10.3} ms {ratio:>10.3}",
-                case.name
-            );
-            ratios.push(ratio);
+        let times = cases.iter().zip(&entries).map(|(case, &entries)| {
+            let mut bench = Bench::new(case, 0, entries);
+            let least = least(|engine| bench.run_by(engine, op));
+            (case.name.as_str(), least)
+        });
+        summary += &print_times(what, times);
+    }
+    let mut sheets = sheets();
+    for (what, name, work) in TEXT {
+        if libraries.iter().any(|library| library.find(name).is_none()) {
+            println!("\n{what}: not compared, one of the two has no {name}.");
+            continue;
         }
-        let median = median(&mut ratios);
-        let greatest = ratios.last().copied().unwrap_or(0.0);
-        summary += &format!("{what:<38} {median:>13.3} {greatest:>13.3}\n");
+        let times = sheets.iter_mut().map(|sheet| {
+            sheet.check(work(Engine::Old));
+            sheet.check(work(Engine::New));
+            let least = least(|engine| {
+                sheet.run(work(engine));
+            });
+            (sheet.name.as_str(), least)
+        });
+        summary += &print_times(what, times);
     }
     print!(
         "\n{:<38} {:>13} {:>13}\n{summary}",

@@ -4,14 +4,15 @@
 //!
 //!   bench FILE        runs all of it and writes the page FILE
 //!   bench --only NAME measures the full tables whose name starts so, no page
+//!   bench --text      measures table text and prints its part of the page
 //!   bench --search N  tries N drawn tables and names the worst of them
 //!   bench --against OLD.so NEW.so  two archives on the full tables, by turns
 
 mod against;
-mod earlier;
 mod peers;
 mod report;
 mod tables;
+mod text;
 
 /// The same calls of the C peer.
 #[allow(dead_code)]
@@ -30,8 +31,8 @@ mod new {
 }
 
 use peers::{List, Plain};
-use rumbleog::{longest_list, number, raw, scratch_for, Days, ACCOUNTS};
-use tables::{Case, Class};
+use rumbleog::{longest_list, number, raw, scratch_for, Days, Table, ACCOUNTS};
+use tables::{Case, Class, Columns};
 
 #[repr(C)]
 struct Timespec {
@@ -63,7 +64,7 @@ const SIZES: [usize; 3] = [1_024, 4_096, 16_384];
 
 /// Whose calls are measured: the archive's, those of the C peer, or those of
 /// one of two archives that are loaded.
-#[derive(Clone, Copy)]
+#[derive(Clone, Copy, Debug)]
 pub enum Engine {
     Archive,
     Peer,
@@ -123,7 +124,7 @@ impl Engine {
         let listing = match self {
             Engine::Archive => raw::listing,
             Engine::Peer => peer::listing,
-            Engine::Old => earlier::listing,
+            Engine::Old => old::listing,
             Engine::New => new::listing,
         };
         let Three { a, b, c } = &mut out.three;
@@ -226,6 +227,37 @@ impl Engine {
         );
         (number == number::OK).then_some(())
     }
+
+    /// Bytes written, or none if refused.
+    pub fn write(self, table: Table, text: &mut [u8]) -> Option<usize> {
+        let write_table = match self {
+            Engine::Archive => raw::write_table,
+            Engine::Peer => peer::write_table,
+            Engine::Old => old::write_table,
+            Engine::New => new::write_table,
+        };
+        let (mut place, mut length) = (0, 0);
+        let number = write_table(table, text, &mut place, &mut length);
+        (number == number::OK).then_some(length as usize)
+    }
+
+    /// Rows read, or none if refused.
+    pub fn read(self, text: &[u8], out: &mut Columns) -> Option<usize> {
+        let read_table = match self {
+            Engine::Archive => raw::read_table,
+            Engine::Peer => peer::read_table,
+            Engine::Old => old::read_table,
+            Engine::New => new::read_table,
+        };
+        let Columns {
+            days,
+            first,
+            second,
+        } = out;
+        let (mut place, mut count) = (0, 0);
+        let number = read_table(text, days, first, second, &mut place, &mut count);
+        (number == number::OK).then_some(count as usize)
+    }
 }
 
 /// What is timed, in the order of a result's times.
@@ -286,10 +318,14 @@ fn starts(te: u16) -> [u16; 2] {
     [1, 1 + te / 3]
 }
 
+fn fail(message: &str) -> ! {
+    eprintln!("bench: {message}");
+    std::process::exit(1);
+}
+
 fn must(fine: bool, case: &Case, what: &str) {
     if !fine {
-        eprintln!("bench: {}: {what} gives another answer", case.name);
-        std::process::exit(1);
+        fail(&format!("{}: {what} gives another answer", case.name));
     }
 }
 
@@ -473,19 +509,22 @@ fn median(samples: &mut [f64]) -> f64 {
     samples[samples.len() / 2]
 }
 
+/// How often a run of that many seconds is repeated, to take a millisecond.
+fn repeats(once: f64) -> usize {
+    ((1e-3 / once.max(1e-7)).ceil() as usize).clamp(1, 1_000)
+}
+
 /// Medians of all operations on a case, in turns: nine runs each, fewer (three
 /// at least) of what is slow; quick ones repeated to a millisecond.
 fn measure(case: &Case) -> Measured {
     let (rings, entries) = check(case);
     let mut bench = Bench::new(case, rings, entries);
     let mut samples: Vec<Vec<f64>> = vec![Vec::new(); OPS.len()];
-    let mut repeats = [1_usize; OPS.len()];
-    for op in OPS {
+    let repeats = OPS.map(|op| {
         let before = now();
         bench.run(op);
-        let once = now() - before;
-        repeats[op as usize] = ((1e-3 / once.max(1e-7)).ceil() as usize).clamp(1, 1_000);
-    }
+        repeats(now() - before)
+    });
     for round in 0..9 {
         for op in OPS {
             let (samples, repeats) = (&mut samples[op as usize], repeats[op as usize]);
@@ -560,6 +599,14 @@ fn full_cases() -> Vec<Case> {
     cases
 }
 
+/// The cases of any size.
+fn sized_cases(size: usize) -> Vec<Case> {
+    match size {
+        16_384 => full_cases(),
+        _ => tables::cases(size),
+    }
+}
+
 fn main() {
     let arguments: Vec<String> = std::env::args().skip(1).collect();
     match arguments.iter().map(String::as_str).collect::<Vec<_>>()[..] {
@@ -570,6 +617,7 @@ fn main() {
                 report::progress(16_384, i + 1, those.len(), &measure(case));
             }
         }
+        ["--text"] => print!("{}", report::text(&text::measure())),
         ["--search", number] => search(number.parse().unwrap_or(100)),
         ["--against", old, new] => against::against(old, new),
         ["--memory", name] => {
@@ -580,10 +628,7 @@ fn main() {
         [file] => {
             let mut all = Vec::new();
             for size in SIZES {
-                let cases = match size {
-                    16_384 => full_cases(),
-                    _ => tables::cases(size),
-                };
+                let cases = sized_cases(size);
                 let number = cases.len();
                 for (i, case) in cases.iter().enumerate() {
                     let measured = measure(case);
@@ -591,16 +636,16 @@ fn main() {
                     all.push((size, measured));
                 }
             }
-            let page = report::page(&all);
+            let page = report::page(&all, &text::measure());
             print!("{page}");
             if let Err(error) = std::fs::write(file, page) {
-                eprintln!("bench: {file}: {error}");
-                std::process::exit(1);
+                fail(&format!("{file}: {error}"));
             }
         }
         _ => {
             eprintln!(
-                "use: bench FILE, bench --only NAME, bench --search N, or bench --against OLD NEW"
+                "use: bench FILE, bench --only NAME, bench --text, bench --search N, or bench \
+                 --against OLD NEW"
             );
             std::process::exit(2);
         }

@@ -1,6 +1,7 @@
 //! The benchmark's page: ratios, growth, bounds, memory.
 
 use crate::tables::{plain_case, Class};
+use crate::text;
 use crate::{Bench, Engine, Measured, Op, Rings};
 use std::fmt::Write;
 use std::process::Command;
@@ -103,6 +104,16 @@ pub fn progress(size: usize, i: usize, number: usize, m: &Measured) {
         ms(Op::Times),
         ms(Op::TimesC),
         ms(Op::TimesPlain),
+    );
+}
+
+/// The same of table text, when all rounds are done.
+pub fn text_progress(m: &text::Measured) {
+    let [write, digits, pairs, read, c] = m.times.map(|seconds| seconds * 1e3);
+    eprintln!(
+        "[table text, {} rows] {}: ms: writing {write:.3} (digit loop {digits:.3}, two digits \
+         {pairs:.3}), reading {read:.3} (C {c:.3})",
+        m.size, m.name
     );
 }
 
@@ -225,6 +236,27 @@ fn verdict(fine: bool) -> &'static str {
     }
 }
 
+/// The last two cells of a row: the aim, and whether it is met.
+fn aimed(aim: Option<(String, bool)>) -> String {
+    match aim {
+        None => " | |".to_string(),
+        Some((aim, fine)) => format!(" {aim} | {} |", verdict(fine)),
+    }
+}
+
+/// Ordinary: median and greatest; adversaries: greatest.
+fn by_class(ratios: &[(Class, f64)]) -> [f64; 3] {
+    let of = |class: Class| -> Vec<f64> {
+        let those = ratios.iter().filter(|(of, _)| *of == class);
+        those.map(|(_, ratio)| *ratio).collect()
+    };
+    [
+        median(of(Class::Ordinary)),
+        greatest(of(Class::Ordinary)),
+        greatest(of(Class::Adversary)),
+    ]
+}
+
 fn ratio_table(page: &mut String, all: &[&Measured], aims: bool) {
     let aim = if aims { " aim | |" } else { "" };
     let rule = if aims { "---|---|" } else { "" };
@@ -234,36 +266,79 @@ fn ratio_table(page: &mut String, all: &[&Measured], aims: bool) {
     );
     let _ = writeln!(page, "|---|---|---|---|---|{rule}");
     for ratio in &RATIOS {
-        let by = |class: Class| -> Vec<f64> {
-            let those = all.iter().filter(|m| m.class == class);
-            those.map(|m| of(m, ratio)).collect()
-        };
-        let got = [
-            median(by(Class::Ordinary)),
-            greatest(by(Class::Ordinary)),
-            greatest(by(Class::Adversary)),
-        ];
+        let ratios: Vec<(Class, f64)> = all.iter().map(|m| (m.class, of(m, ratio))).collect();
+        let got = by_class(&ratios);
         let _ = write!(
             page,
             "| {} | {} | {:.2} | {:.2} | {:.2} |",
             ratio.what, ratio.against, got[0], got[1], got[2]
         );
         if aims {
-            match ratio.aims {
-                None => page.push_str(" | |"),
-                Some(aims) => {
-                    let fine = got.iter().zip(aims).all(|(&got, aim)| got <= aim);
-                    let [a, b, c] = aims;
-                    let _ = write!(page, " {a}, {b}; {c} | {} |", verdict(fine));
-                }
-            }
+            page.push_str(&aimed(ratio.aims.map(|aims| {
+                let fine = got.iter().zip(aims).all(|(&got, aim)| got <= aim);
+                let [a, b, c] = aims;
+                (format!("{a}, {b}; {c}"), fine)
+            })));
         }
         page.push('\n');
     }
 }
 
+/// Table text: what is shown, in the order of a result's ratios, and the most
+/// that is aimed at.
+const TEXT: [(&str, &str, Option<f64>); 3] = [
+    ("writing", "digit loop in C", Some(1.5)),
+    ("writing", "two digits a division in C", None),
+    ("reading", "C", None),
+];
+
+/// The page's part about table text.
+pub fn text(all: &[text::Measured]) -> String {
+    let mut part = String::from(
+        "## Table text\n\n\
+         `rumbleog_write_table` and `rumbleog_read_table` against C: a hand-written loop that \
+         prints a digit a division (engine.c), the fastest writer of tables that we found, which \
+         prints two (pairs.c), and a reader of two passes, as the archive's (engine.c). The tables \
+         are those above, once where only k differs; drawn columns are no tables, since any \
+         numbers of 16 bits are written.\n\n\
+         | rows | operation | against | ordinary: median | greatest | adversaries: greatest | aim | |\n\
+         |---|---|---|---|---|---|---|---|\n",
+    );
+    for size in [16_384, 4_096, 1_024] {
+        let sized = || all.iter().filter(move |m| m.size == size);
+        for (i, (what, against, aim)) in TEXT.into_iter().enumerate() {
+            let those = sized().filter_map(|m| Some((m.class?, m.ratios()[i])));
+            let [median, most, hard] = by_class(&those.collect::<Vec<_>>());
+            let worst = greatest(sized().map(|m| m.ratios()[i]).collect());
+            let aim = aim.filter(|_| size == 16_384);
+            let aim = aimed(aim.map(|aim| (aim.to_string(), worst <= aim)));
+            let _ = writeln!(
+                part,
+                "| {},{:03} | {what} | {against} | {median:.2} | {most:.2} | {hard:.2} |{aim}",
+                size / 1_000,
+                size % 1_000
+            );
+        }
+    }
+    part.push_str("\nThe aim is the most for every table and all drawn columns.\n\n");
+    part.push_str("| drawn columns, 16,384 rows |");
+    for (what, against, _) in TEXT {
+        let _ = write!(part, " {what} : {against} |");
+    }
+    part.push_str("\n|---|---|---|---|\n");
+    for m in all.iter().filter(|m| m.class.is_none()) {
+        let [digits, pairs, read] = m.ratios();
+        let _ = writeln!(
+            part,
+            "| {} | {digits:.2} | {pairs:.2} | {read:.2} |",
+            m.name
+        );
+    }
+    part
+}
+
 /// The page, as markdown.
-pub fn page(all: &[(usize, Measured)]) -> String {
+pub fn page(all: &[(usize, Measured)], texts: &[text::Measured]) -> String {
     let (model, cores) = processor();
     let mut page = String::new();
     let sized = |size: usize| -> Vec<&Measured> {
@@ -278,7 +353,7 @@ pub fn page(all: &[(usize, Measured)]) -> String {
          Every figure is a ratio of processor times: the archive's by the peer's, in one run, on \
          one input, medians of runs that took turns. Below 1 the archive is faster. Before timing, every \
          peer gave the archive's answer on every table. The peers are unverified Rust (release \
-         build) but for the same algorithm in C (host/peer, -O3); 001's Algorithm 2 takes its core times by \
+         build) but for those in C (host/peer, -O3); 001's Algorithm 2 takes its core times by \
          the method that 001 cites. Ranges are all days of a table; a window ring is timed over \
          three windows, core times over two starts. `room` is n(n+1)/2 places.\n\n\
          ## 16,384 rows\n",
@@ -330,6 +405,9 @@ pub fn page(all: &[(usize, Measured)]) -> String {
         let _ = writeln!(page, "\n## {},{:03} rows\n", size / 1_000, size % 1_000);
         ratio_table(&mut page, &sized(size), false);
     }
+
+    page.push('\n');
+    page += &text(texts);
 
     let _ = writeln!(
         page,

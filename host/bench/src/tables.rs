@@ -22,11 +22,21 @@ impl Rng {
 }
 
 /// Three columns.
-#[derive(Clone, Debug, Default)]
+#[derive(Clone, Debug, Default, PartialEq)]
 pub struct Columns {
     pub days: Vec<u16>,
     pub first: Vec<u16>,
     pub second: Vec<u16>,
+}
+
+impl Columns {
+    pub fn lend(&self) -> Table<'_> {
+        Table {
+            days: &self.days,
+            first: &self.first,
+            second: &self.second,
+        }
+    }
 }
 
 /// Ordinary data, or made to be hard.
@@ -49,11 +59,7 @@ pub struct Case {
 
 impl Case {
     pub fn lend(&self) -> Table<'_> {
-        Table {
-            days: &self.table.days,
-            first: &self.table.first,
-            second: &self.table.second,
-        }
+        self.table.lend()
     }
 
     pub fn query(&self) -> Query {
@@ -278,6 +284,34 @@ pub fn cases(rows: usize) -> Vec<Case> {
 pub fn plain_case(rows: usize) -> Case {
     let table = uniform(&mut Rng(5), rows, 1_024, (rows / 6).max(64));
     case("uniform", Class::Ordinary, 4, table, rows, 1_024)
+}
+
+/// A number of some number of digits: each is about as likely.
+fn mixed(rng: &mut Rng) -> usize {
+    let digits = rng.below(5);
+    rng.below([10, 100, 1_000, 10_000, 65_536][digits])
+}
+
+/// Drawn columns for table text, by name. Its cost hangs on how many digits the
+/// numbers have, and on whether the next one has as many; and any numbers of 16
+/// bits are written, so these are no tables.
+pub fn drawn_columns(rows: usize) -> [(&'static str, Columns); 5] {
+    let rng = &mut Rng(18);
+    let mut drawn = |number: fn(&mut Rng) -> usize| {
+        let mut column = || (0..rows).map(|_| number(rng) as u16).collect();
+        Columns {
+            days: column(),
+            first: column(),
+            second: column(),
+        }
+    };
+    [
+        ("any number of 16 bits", drawn(|rng| rng.below(65_536))),
+        ("one digit", drawn(|rng| rng.below(10))),
+        ("two digits", drawn(|rng| 10 + rng.below(90))),
+        ("one to five digits, mixed", drawn(mixed)),
+        ("65,535", drawn(|_| 65_535)),
+    ]
 }
 
 /// A table drawn from a wide family, for the search of a worst case.
