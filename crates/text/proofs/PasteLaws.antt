@@ -84,7 +84,8 @@ unfolding pasted
 pasted-start d s n e = rw (e, zero-add n)
 
 -- the written elements stand in their places
-pub pasted-at : (d : List ℕ) (at : ℕ) (s : List ℕ) (j : ℕ) → at + length s ≤ length d → j < length s → getD (pasted d at s) (at + j) 0 ≡ getD s j 0
+pub pasted-at : (d : List ℕ) (at : ℕ) (s : List ℕ) (j : ℕ) → at + length s ≤ length d → j < length s
+    → getD (pasted d at s) (at + j) 0 ≡ getD s j 0
 unfolding pasted
 pasted-at d at s j h l =
     let head : length (take at d) ≡ at = length-take-le at d (omega arith) in
@@ -101,7 +102,8 @@ pasted-over d at s t e h =
     let rest : List ℕ = drop (at + length s) d in
     let head : length (take at d) ≡ at = length-take-le at d (omega arith) in
     let size : length front ≡ at + length s = length-append (take at d) s ∙ ap (λ (k : ℕ). k + length s) head in
-    let a : take at (front ++ rest) ≡ take at d = ap (take at) (append-assoc (take at d) s rest) ∙ take-at (take at d) (s ++ rest) at head in
+    let a : take at (front ++ rest) ≡ take at d =
+    ap (take at) (append-assoc (take at d) s rest) ∙ take-at (take at d) (s ++ rest) at head in
     let b : drop (at + length t) (front ++ rest) ≡ drop (at + length t) d =
     ap (λ (k : ℕ). drop (at + k) (front ++ rest)) (sym e) ∙ drop-at front rest (at + length s) size ∙ ap (λ (k : ℕ). drop (at + k) d) e in
     rw (a, b)

@@ -10,16 +10,16 @@
 use Prim.Native.Nat.{ℕ, zero, suc, _+_, _-_, _*_, _/_, _%_, _^_, _≤_, _<_}
 use mathlib.Core.Path.{_≡_, refl, sym, ap, _∙_}
 use mathlib.Core.Bool.{Bool, true, false, cond, _||_, true≢false, false≢true}
-use mathlib.Core.Logic.{_⊎_, inl, inr, ⊎-elim}
+use mathlib.Core.Logic.{⊎-elim}
 use mathlib.Core.List.{List, [], _∷_, _++_, map, flatten, append-assoc}
-use native.Mathlib.Nat.{pow-succ', pow-le-pow-right, one-le-pow, mod-lt, mod-eq-of-lt, div-one, lt-of-lt-of-le, le-refl, zero-add}
+use native.Mathlib.Nat.{pow-succ', pow-le-pow-right, one-le-pow, mod-lt, mod-eq-of-lt, div-one, le-refl}
 use native.Mathlib.Omega.{arith}
 use lib.Arith.{mod-mul, digits-div, digits-mod}
 use lib.Dec.{eqb, lit<}
 use lib.ListN.{length, getD, take, drop, length-drop, take-append-drop}
 use lib.Seq.{drop-cons, drop-drop, drop-length, length-take-le}
-use borrow.Author.Tests.{eq-eqb, eqb-true, eqb-false}
-use Rattle.text.specs.Layout.{largest, dayWidth, accountWidth, lineBytes, tableLayout}
+use borrow.Author.Tests.{eq-eqb, eqb-true}
+use Rattle.text.specs.Layout.{largest, dayWidth, accountWidth, lineBytes}
 use Rattle.text.specs.Decimal.{unblank, isDigit, allDigits, isNumeral, value, fieldOf, fieldNumber, refuses, fieldValue}
 use Rattle.text.specs.Line.{prepend, linesOf, isWhole, lineNumber, anyRefuses, judged, fieldAt, lineAs, rowOf, passed}
 use Rattle.text.specs.Table.{dayOf, firstOf, secondOf, daysOf, firstsOf, secondsOf, judgedFrom}
@@ -30,10 +30,10 @@ use Rattle.text.specs.declared.decimal.Field.the-variants.{Number, Large
 use Rattle.text.specs.declared.lines.Line.{Line}
 use Rattle.text.specs.declared.lines.Line.the-variants.{Row, End, BadLine, BadField, BadNumber}
 use Rattle.text.specs.declared.table.TableRead.the-variants.{Rows}
-use Rattle.text.proofs.Tests.{true-or-false, lt-or-le, and-left, and-right, both-true, pick-true, pick-false, zero-not-one}
+use Rattle.text.proofs.Tests.{true-or-false, lt-or-le, same-or-not, and-left, and-right, both-true, pick-true, pick-false, zero-not-one}
 use Rattle.text.proofs.FieldLaws.{unblank-at, unblank-past, digit-between, numeral-none, numeral-digits, numeral-above}
-use Rattle.text.proofs.FieldLaws.{value-below, digit-at, broken-field, large-field, number-field}
-use Rattle.text.proofs.SplitLaws.{lines-end, lines-more, line-end-or-not, whole-size}
+use Rattle.text.proofs.FieldLaws.{value-below, broken-field, large-field, number-field}
+use Rattle.text.proofs.SplitLaws.{lines-end, lines-more, whole-size}
 use Rattle.text.proofs.LineLaws.{never-end}
 use Rattle.text.proofs.RowsLaws.{rest-rows, row-passed, columnsOf, column-length}
 use Rattle.text.proofs.PrintLaws.{column-unit, column-blank, column-digit}
@@ -80,28 +80,27 @@ numeral-again ds e =
     shown zero h = column-unit (value ds) ∙ rw (div-one (value ds))
     shown (suc k) h = column-digit (suc k) (value ds) (numeral-above ds (suc k) e (omega arith) h)
 
--- a byte is a blank or it is not
-blank-or-not : (b : ℕ) → (b ≡ 32) ⊎ (b ≡ 32 → ⊥)
-blank-or-not b = ⊎-elim (λ t. inl (eqb-true b 32 t)) (λ t. inr (eqb-false b 32 t)) (true-or-false (eqb b 32))
-
 unblank-length : (f : List ℕ) → length (unblank f) ≤ length f
 unfolding unblank
 unblank-length [] = le-refl 0
 unblank-length (b ∷ bs) =
     ⊎-elim (λ e. rw (unblank-at b bs e) (omega (arith, unblank-length bs)))
-    (λ e. rw (unblank-past b bs e) (le-refl (suc (length bs)))) (blank-or-not b)
+    (λ e. rw (unblank-past b bs e) (le-refl (suc (length bs)))) (same-or-not b 32)
 
 -- a field is its numeral, printed in as many columns
 abbrev Again : List ℕ → Type 0
 Again f = isNumeral (unblank f) ≡ true → printed (length f) (value (unblank f)) ≡ f
 
-no-field : Again []
-unfolding unblank
-no-field e = absurd (false≢true (sym (numeral-none [] refl) ∙ e))
+no-digits : {A : Type 0} → isNumeral [] ≡ true → A
+no-digits e = absurd (false≢true (sym (numeral-none [] refl) ∙ e))
 
 some-digits : (ds : List ℕ) → isNumeral ds ≡ true → 0 < length ds
-some-digits [] e = absurd (false≢true (sym (numeral-none [] refl) ∙ e))
+some-digits [] e = no-digits e
 some-digits (d ∷ ds) e = omega arith
+
+no-field : Again []
+unfolding unblank
+no-field e = no-digits e
 
 module _ (b : ℕ) (bs : List ℕ) (again : Again bs) where
   -- a blank before it: the number has no digit there
@@ -125,11 +124,12 @@ module _ (b : ℕ) (bs : List ℕ) (again : Again bs) where
 
 numeral-field : (f : List ℕ) → Again f
 numeral-field [] = no-field
-numeral-field (b ∷ bs) = ⊎-elim (blank-again b bs (numeral-field bs)) (digit-again b bs (numeral-field bs)) (blank-or-not b)
+numeral-field (b ∷ bs) = ⊎-elim (blank-again b bs (numeral-field bs)) (digit-again b bs (numeral-field bs)) (same-or-not b 32)
 
 -- what a number's field is, by its cases
 pub field-again : (limit n : ℕ) (f : List ℕ) → fieldOf limit f ≡ Number n → printed (length f) n ≡ f
-field-again limit n f e = ⊎-elim (λ t. ⊎-elim (large t) (within t) (lt-or-le limit (value (unblank f)))) broken (true-or-false (isNumeral (unblank f)))
+field-again limit n f e =
+    ⊎-elim (λ t. ⊎-elim (large t) (within t) (lt-or-le limit (value (unblank f)))) broken (true-or-false (isNumeral (unblank f)))
   where
     broken : isNumeral (unblank f) ≡ false → printed (length f) n ≡ f
     broken t = let z : ⊥ = omega (arith, ap fieldNumber (sym (broken-field limit f t) ∙ e)) in absurd z
@@ -239,7 +239,7 @@ unfolding linesOf flatten
 lines-join [] = refl
 lines-join (b ∷ bs) =
     ⊎-elim (λ e. ap flatten (lines-end b bs e) ∙ ap (λ (t : List ℕ). b ∷ t) (lines-join bs))
-    (λ e. ap flatten (lines-more b bs e) ∙ join-first b (linesOf bs) ∙ ap (λ (t : List ℕ). b ∷ t) (lines-join bs)) (line-end-or-not b)
+    (λ e. ap flatten (lines-more b bs e) ∙ join-first b (linesOf bs) ∙ ap (λ (t : List ℕ). b ∷ t) (lines-join bs)) (same-or-not b 10)
 
 -- a line that is passed holds a row
 row-of : (l : Line) → passed l ≡ 1 → l ≡ Row (dayOf l) (firstOf l) (secondOf l)

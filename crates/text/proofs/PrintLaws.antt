@@ -50,8 +50,8 @@ use Rattle.text.specs.Print.{PutsField}
 use Rattle.text.specs.declared.print.Put.{Put}
 use Rattle.text.specs.declared.print.Put.the-variants.{Wrote, NoRoom}
 use Rattle.text.proofs.Tests.{true-or-false, lt-or-le, and-false, both-true, pick-true, pick-false, negated-true, negated-false}
-use Rattle.text.proofs.PasteLaws.{Pasting, pasting-none, pasting-more, pasting-next, pasting-all, pasted-length, pasted-at, pasted-over}
-use Rattle.text.proofs.PasteLaws.{Pieces, piece-first, piece-more}
+use Rattle.text.proofs.PasteLaws.{Pasting, pasting-none, pasting-more, pasting-next, pasting-all}
+use Rattle.text.proofs.PasteLaws.{pasted-length, pasted-at, pasted-over, Pieces, piece-first, piece-more}
 
 -- ---- columns
 
@@ -114,7 +114,8 @@ abbrev pub blanks : ℕ → List ℕ
 blanks width = replicate width 32
 
 -- through the loop that writes the columns of a number over blanks
-module _ (out : List ℕ) (at width n : ℕ) {blanked : List ℕ} (room : at + width ≤ length out) (e : blanked ≡ pasted out at (blanks width)) where
+module _ (out : List ℕ) (at width n : ℕ) {blanked : List ℕ} (room : at + width ≤ length out)
+    (e : blanked ≡ pasted out at (blanks width)) where
   size : length (blanks width) ≡ width
   size = length-replicate width 32
 

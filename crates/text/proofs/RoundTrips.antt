@@ -1,8 +1,9 @@
--- The two round trips of the table reader and the table writer, about what the calls answer and leave in their buffers. 02, S-2: "Text that the
--- reader accepts comes out again byte for byte, and written columns read back as they were. .. A single byte of text space too few is a 10."
--- `TableReads` and `TableWrites` are the contracts of text::table::read_table and text::writer::write_table: what the call was lent, its answer, and
--- what it leaves. `places` (TableLaws) is the length of the shortest column. `Lent` (ReadBack) says of three columns that each number is below 2 ^ 16,
--- as in every column that a call is lent.
+-- The two round trips of the table reader and the table writer, about what the calls answer and leave in their buffers.
+-- 02, S-2: "Text that the reader accepts comes out again byte for byte, and written columns read back as they were. .. A single
+-- byte of text space too few is a 10."
+-- `TableReads` and `TableWrites` are the contracts of text::table::read_table and text::writer::write_table: what the call was
+-- lent, its answer, and what it leaves. `places` (TableLaws) is the length of the shortest column. `Lent` (ReadBack) says of three
+-- columns that each number is below 2 ^ 16, as in every column that a call is lent.
 --
 --   TextReturns      what the writer makes of rows that were read from a text
 --   text-returns     text that the reader accepts comes out again byte for byte
@@ -63,7 +64,8 @@ pub record ColumnsReturn (c : Columns) (n : ℕ) (text : List ℕ) : Type 0 wher
   pub short : (old new : Columns) (answer : TableRead) → TableReads text old answer new
       → places old < n → (answer ≡ read.NoRoom) × (new ≡ old)
 
--- for all columns that the writer accepts, with every number of 16 bits, whatever text space it was lent; a host hands on the m bytes that it counts
+-- for all columns that the writer accepts, with every number of 16 bits, whatever text space it was lent; a host hands on the m
+-- bytes that it counts
 pub columns-return : (c : Columns) (space after : List ℕ) (m : ℕ) → Lent c → TableWrites c space (Text m) after
     → ColumnsReturn c (length (c .days)) (take m after)
 columns-return c space after m lent w =
@@ -71,7 +73,10 @@ columns-return c space after m lent w =
     let rows = text-rows c same lent in
     let is = text-columns c same lent in
     subst (ColumnsReturn c (length (c .days))) (sym (wrote-bytes w)) (record {
-      again = λ old new answer r h. let so = read-rows rows r h in (so .0, so .1 ∙ ap (λ (x : Columns). withRows x (length (c .days)) old) is);
+      again =
+          λ old new answer r h.
+          let so = read-rows rows r h in
+          (so .0, so .1 ∙ ap (λ (x : Columns). withRows x (length (c .days)) old) is);
       short = λ old new answer r. read-none rows r;
     })
 

@@ -22,16 +22,16 @@
 use Prim.Native.Nat.{ℕ, zero, suc, _-_, _≤_, _<_, suc-le-suc}
 use mathlib.Core.Path.{_≡_, refl, sym, ap, _∙_}
 use mathlib.Core.Bool.{Bool, true, false, cond, _&&_}
-use mathlib.Core.Logic.{_⊎_, inl, inr, ⊎-elim}
+use mathlib.Core.Logic.{⊎-elim}
 use mathlib.Core.List.{List, [], _∷_}
 use native.Mathlib.Nat.{le-refl, le-of-suc-le-suc, not-suc-le-zero}
 use native.Mathlib.Omega.{arith}
 use lib.Dec.{eqb}
 use lib.ListN.{length, getD, take, drop}
 use lib.Seq.{length-take-le, getD-take}
-use borrow.Author.Tests.{eq-eqb, ne-eqb, eqb-true, eqb-false}
+use borrow.Author.Tests.{eq-eqb, ne-eqb, eqb-true}
 use Rattle.text.specs.Line.{prepend, linesOf, firstLine, isWhole}
-use Rattle.text.proofs.Tests.{true-or-false, and-left, both-true, pick-true, pick-false}
+use Rattle.text.proofs.Tests.{same-or-not, and-left, both-true, pick-true, pick-false}
 
 -- ---- the first line
 
@@ -58,30 +58,26 @@ pub first-more : (b : ℕ) (bs : List ℕ) → (b ≡ 10 → ⊥) → firstLine 
 unfolding firstLine
 first-more b bs e = rw (lines-more b bs e) (prepend-first b (linesOf bs))
 
--- a byte is the line's end or it is not
-pub line-end-or-not : (b : ℕ) → (b ≡ 10) ⊎ (b ≡ 10 → ⊥)
-line-end-or-not b = ⊎-elim (λ t. inl (eqb-true b 10 t)) (λ t. inr (eqb-false b 10 t)) (true-or-false (eqb b 10))
-
 pub first-length : (s : List ℕ) → length (firstLine s) ≤ length s
 unfolding firstLine linesOf
 first-length [] = le-refl 0
 first-length (b ∷ bs) =
     ⊎-elim (λ e. rw (first-end b bs e) (omega arith))
-    (λ e. rw (first-more b bs e) (suc-le-suc (first-length bs))) (line-end-or-not b)
+    (λ e. rw (first-more b bs e) (suc-le-suc (first-length bs))) (same-or-not b 10)
 
 pub first-ends : (s : List ℕ) (i : ℕ) → i < length s → getD s i 0 ≡ 10 → length (firstLine s) ≤ suc i
 first-ends [] i h e = absurd (not-suc-le-zero h)
 first-ends (b ∷ bs) zero h e = rw (first-end b bs e) (le-refl 1)
 first-ends (b ∷ bs) (suc i) h e =
     ⊎-elim (λ t. rw (first-end b bs t) (omega arith))
-    (λ t. rw (first-more b bs t) (suc-le-suc (first-ends bs i (le-of-suc-le-suc h) e))) (line-end-or-not b)
+    (λ t. rw (first-more b bs t) (suc-le-suc (first-ends bs i (le-of-suc-le-suc h) e))) (same-or-not b 10)
 
 -- the first line is the text's first bytes
 pub first-part : (s : List ℕ) → firstLine s ≡ take (length (firstLine s)) s
 unfolding firstLine linesOf
 first-part [] = refl
 first-part (b ∷ bs) =
-    ⊎-elim (λ e. rw (first-end b bs e)) (λ e. rw (first-more b bs e) (ap (λ (l : List ℕ). b ∷ l) (first-part bs))) (line-end-or-not b)
+    ⊎-elim (λ e. rw (first-end b bs e)) (λ e. rw (first-more b bs e) (ap (λ (l : List ℕ). b ∷ l) (first-part bs))) (same-or-not b 10)
 
 pub first-take : (s : List ℕ) (k : ℕ) → k < length s → ((i : ℕ) → i < k → getD s i 0 ≡ 10 → ⊥) → getD s k 0 ≡ 10
     → firstLine s ≡ take (suc k) s
@@ -97,7 +93,7 @@ prepend-cons b l ls = refl
 
 lines-one : (b : ℕ) → linesOf (b ∷ []) ≡ (b ∷ []) ∷ []
 unfolding linesOf prepend
-lines-one b = ⊎-elim (λ e. lines-end b [] e) (λ e. lines-more b [] e) (line-end-or-not b)
+lines-one b = ⊎-elim (λ e. lines-end b [] e) (λ e. lines-more b [] e) (same-or-not b 10)
 
 -- a text is its first line and the lines behind it
 abbrev Split : List ℕ → Type 0
@@ -112,7 +108,7 @@ lines-first (b ∷ d ∷ bs) h = go (lines-first (d ∷ bs) (omega arith))
     go : Split (d ∷ bs) → Split (b ∷ d ∷ bs)
     go ih =
         ⊎-elim (λ e. rw (first-end b (d ∷ bs) e) (lines-end b (d ∷ bs) e))
-        (λ e. rw (first-more b (d ∷ bs) e) (lines-more b (d ∷ bs) e ∙ ap (prepend b) ih ∙ prepend-cons b _ _)) (line-end-or-not b)
+        (λ e. rw (first-more b (d ∷ bs) e) (lines-more b (d ∷ bs) e ∙ ap (prepend b) ih ∙ prepend-cons b _ _)) (same-or-not b 10)
 
 -- ---- the test for a whole line
 
@@ -160,7 +156,7 @@ pub line-ends : (s : List ℕ) (n i : ℕ) → 0 < n → n ≤ length s → n - 
     → isWhole n (firstLine s) ≡ eqb (getD s (n - 1) 0) 10
 line-ends s n i p l m h =
     ⊎-elim (λ e. whole-line s n p l (λ k q. h k (omega arith)) e ∙ sym (eq-eqb _ _ e))
-    (λ e. unended-line s n p l e ∙ sym (ne-eqb _ _ e)) (line-end-or-not (getD s (n - 1) 0))
+    (λ e. unended-line s n p l e ∙ sym (ne-eqb _ _ e)) (same-or-not (getD s (n - 1) 0) 10)
 
 pub whole-size : (n : ℕ) (l : List ℕ) → isWhole n l ≡ true → length l ≡ n
 unfolding isWhole

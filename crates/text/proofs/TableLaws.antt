@@ -28,8 +28,8 @@ use lib.Dec.{leb}
 use borrow.Author.Tests.{lt-leb, le-leb}
 use Rattle.text.specs.Layout.{tableLayout, lineBytes}
 use Rattle.text.specs.Line.{linesOf, firstLine, isWhole, stepAs, rowOf, stepAt, passed, stepFrom}
-use Rattle.text.specs.Table.{daysOf, firstsOf, secondsOf, faultOr, judgedFrom, roomFor, tableReadOf, filled, Columns, columns, RowsFit}
-use Rattle.text.specs.Table.{dayOf, firstOf, secondOf, RowsWritten, TableReads, number}
+use Rattle.text.specs.Table.{daysOf, firstsOf, secondsOf, faultOr, judgedFrom, roomFor, tableReadOf, filled}
+use Rattle.text.specs.Table.{Columns, columns, RowsFit, dayOf, firstOf, secondOf, RowsWritten, TableReads, number}
 use Rattle.text.specs.declared.lines.Line.{Line}
 use Rattle.text.specs.declared.lines.Line.the-variants as line
 use Rattle.text.specs.declared.lines.Step.{Step}

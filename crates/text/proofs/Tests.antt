@@ -2,6 +2,7 @@
 --
 --   true-or-false   a test is true or false
 --   lt-or-le        one number is below another, or not
+--   same-or-not     two numbers are the same, or not
 --   and-left        of a conjunction that is true, the first test
 --   and-right       the second
 --   and-false       a conjunction whose second test is false
@@ -17,8 +18,8 @@ use mathlib.Core.Path.{_≡_, refl, sym, _∙_}
 use mathlib.Core.Bool.{Bool, true, false, not, cond, _&&_, true≢false, false≢true}
 use mathlib.Core.Logic.{_⊎_, inl, inr, ⊎-elim}
 use native.Mathlib.Omega.{arith}
-use lib.Dec.{ltb}
-use borrow.Author.Tests.{ltb-true, ltb-false, not-true, not-false}
+use lib.Dec.{ltb, eqb}
+use borrow.Author.Tests.{ltb-true, ltb-false, eqb-true, eqb-false, not-true, not-false}
 
 pub true-or-false : (b : Bool) → (b ≡ true) ⊎ (b ≡ false)
 true-or-false true = inl refl
@@ -26,6 +27,9 @@ true-or-false false = inr refl
 
 pub lt-or-le : (a b : ℕ) → (a < b) ⊎ (b ≤ a)
 lt-or-le a b = ⊎-elim (λ t. inl (ltb-true a b t)) (λ t. inr (ltb-false a b t)) (true-or-false (ltb a b))
+
+pub same-or-not : (a b : ℕ) → (a ≡ b) ⊎ (a ≡ b → ⊥)
+same-or-not a b = ⊎-elim (λ t. inl (eqb-true a b t)) (λ t. inr (eqb-false a b t)) (true-or-false (eqb a b))
 
 pub and-left : (a b : Bool) → (a && b) ≡ true → a ≡ true
 and-left true b e = refl

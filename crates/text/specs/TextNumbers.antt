@@ -1,5 +1,5 @@
--- The numbers 1 and 10 to 13 as this crate's calls give them, and texts that are written (02, S-2): a worked row each, under one theorem, proved by
--- computation.
+-- The numbers 1 and 10 to 13 as this crate's calls give them, and texts that are written (02, S-2): a worked row each, under one
+-- theorem, proved by computation.
 --
 --   five six     a number below 10 in a field of 5 columns, of 6 columns
 --   row          a line of a table, of numbers below 10

@@ -1,9 +1,6 @@
 -- `text::print::digit` meets its contract: a quotient is ten times the next one, and the digit.
 -- Assumes nothing.
-use mathlib.Core.Path.{sym, ap, _∙_}
-use native.Mathlib.Nat.{mod-lt}
 use native.Mathlib.Omega.{arith}
-use lib.Dec.{lit<}
 use borrow.Author.Needs.{needs}
 use Rattle.text.proofs.PrintLaws.{quotient-digit}
 use Rattle.text.proofs.print.digit.Statement.{statement}
