@@ -18,8 +18,9 @@ An edit that the front end rejects does not reach the prover, and fails too.
 How it is quick. `rt dev` checks again only what changed, and starts here from the modules that `rt ci` checked (they lie in
 target/rlib). An edit of a function's body leaves its contract, and so touches no other function's proof; one of a contract
 touches those of the callers. So edits of different functions are tried together, each judged by the proofs of its own functions.
-The other functions' proofs are blanked, so that no caller is checked again. An edit of anything else is tried alone. Where
-nothing that counts is found, the edit is tried alone, and then with no proof blanked.
+The other functions' proofs are blanked, so that no caller is checked again; the crate with every proof blanked is checked once,
+and each check starts from that. An edit of anything else is tried alone. Where nothing that counts is found, the edit is tried
+alone, and then with no proof blanked.
 RT_JOBS checks (2) run side by side, in copies under target/refusals/. It proves nothing. It ends with 1 where an edit fails.
 """
 import collections
@@ -229,6 +230,11 @@ def warm(crate):
     return rt_dev(ROOT, crate)[1] == 0
 
 
+def blanked(crate):
+    """Where what was checked of the crate with every proof blanked is kept."""
+    return os.path.join(WORK, "blanked", crate)
+
+
 def put_back(folder, kept):
     """Makes the folder what the kept one is: what is new goes, and what has another size or time is copied."""
     same = lambda a, b: os.path.exists(b) and (os.stat(a).st_size, os.stat(a).st_mtime_ns) == (os.stat(b).st_size, os.stat(b).st_mtime_ns)
@@ -260,7 +266,7 @@ class Copy:
             changed.setdefault(path, read(path))
             write(path, edit(read(path)))
 
-        self.settle(crate)
+        self.settle(crate, whole)
         try:
             for edit in together:
                 for file, old, new in edit.pairs:
@@ -272,13 +278,19 @@ class Copy:
             for path, text in changed.items():
                 write(path, text)
 
-    def settle(self, crate):
-        """What was checked of the crate as it is, and what was proved of those below it."""
+    def settle(self, crate, whole):
+        """What was checked of the crate, as it is or with its proofs blanked, and what was proved of those below it."""
         proved, here = os.path.join(ROOT, "target"), os.path.join(self.folder, "target")
-        put_back(os.path.join(here, "inc", crate), os.path.join(proved, "inc", crate))
+        kept = os.path.join(proved, "inc", crate) if whole or not os.path.isdir(blanked(crate)) else blanked(crate)
+        put_back(os.path.join(here, "inc", crate), kept)
         if not os.path.islink(os.path.join(here, "rlib")):
             os.symlink(os.path.join(proved, "rlib"), os.path.join(here, "rlib"))
         shutil.copytree(os.path.join(proved, "stamp"), os.path.join(here, "stamp"), dirs_exist_ok=True)
+
+    def keep_blanked(self, crate):
+        """Checks the crate with every proof blanked, for all checks that blank the others'."""
+        self.check(crate, [], whole=False)
+        shutil.copytree(os.path.join(self.folder, "target", "inc", crate), blanked(crate))
 
     def others(self, base, together):
         """The proof files of the functions that these edits leave as they are."""
@@ -305,16 +317,17 @@ class Run:
                 if not self.waiting:
                     return
                 batch = self.waiting.pop(0)
-            if self.is_ready(batch[0].crate):
+            if self.is_ready(batch[0].crate, copy):
                 self.try_batch(copy, batch)
             else:
                 self.tell([(e, False, "%s is not proved as it is" % e.crate) for e in batch])
 
-    def is_ready(self, crate):
+    def is_ready(self, crate, copy):
         with self.warming:
             if crate not in self.ready:
                 began = time.time()
                 self.ready[crate] = warm(crate)
+                copy.keep_blanked(crate)
                 print("refusals: %s as it is (%d s)" % (crate, time.time() - began), flush=True)
             return self.ready[crate]
 
