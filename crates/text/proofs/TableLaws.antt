@@ -234,7 +234,7 @@ module _ {text : List ℕ} {old new : Columns} {answer : TableRead} {n : ℕ} (r
       let second = r .second-hold ∙ ap (λ (a : TableRead). filled a (secondsOf text) (old .second)) e in
       λ i. columns (days i) (first i) (second i)
 
-  pub read-rows : n ≤ min (length (old .days)) (min (length (old .first)) (length (old .second)))
+  pub read-rows : n ≤ places old
       → (answer ≡ Rows n)
       × (new ≡ columns (daysOf text ++ drop n (old .days)) (firstsOf text ++ drop n (old .first)) (secondsOf text ++ drop n (old .second)))
   read-rows h = let a = by-places ∙ pick-true _ _ _ (le-leb _ _ h) in (a, left a)

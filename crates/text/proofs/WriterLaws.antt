@@ -4,8 +4,10 @@
 --   row-length      how long it is
 --   SameLength      three columns of one length
 --   same-length     they are what `oneLength` tests
+--   rowsOf rowAt    the rows of three columns; their numbers at a place
 --   rows-length     they have as many rows as days
 --   row-at          and this row at a place
+--   lineOf          a row's line
 --   lines-length    the bytes of some rows' lines
 --   text-length     those of a table's text
 --   same            so have columns whose lines fit
