@@ -29,7 +29,7 @@ def row(day, first, second):
 
 def listing(rings):
     lines = ["start  end span  rows\n"]
-    lines += ["%5d%5d%5d%6d\n" % (s, e, e - s, rows) for s, e, rows in rings]
+    lines += ["%5d%5d%5d%6d\n" % (s, e, e - s + 1, rows) for s, e, rows in rings]
     return "".join(lines)
 
 
@@ -45,7 +45,7 @@ def run(name, text, expected):
         f.write(expected.encode())
 
 
-# 01's example, as printed there.
+# 01's example, with the spans of 02, S-3.
 season = [(1, 1, 2), (2, 2, 3), (2, 1, 3), (4, 1, 2), (5, 3, 4), (6, 2, 4)]
 rows = "".join(row(*r) for r in season)
 run("season", query(2, 1, 6) + rows, listing([(1, 2, 3), (1, 4, 4), (1, 6, 6), (2, 4, 3), (2, 6, 5)]))
@@ -65,6 +65,7 @@ def every_pair(days):
 run("two-days", query(1, 1, 2) + row(1, 1, 2) + row(2, 1, 2), listing([(1, 1, 1), (1, 2, 2), (2, 2, 1)]))
 run("season-1", query(1, 1, 6) + rows, listing(every_pair([r[0] for r in season])))
 run("range", query(1, 2, 4) + rows, listing(every_pair([2, 2, 4])))
+run("all-days", query(1, 1, 1024) + row(1, 1, 2) + row(1024, 1, 2), listing(every_pair([1, 1024])))
 run("greatest", query(1, 1024, 1024) + row(1024, 0, 4095), listing([(1024, 1024, 1)]))
 run("greatest-k", query(4095, 1, 1024) + rows, listing([]))
 

@@ -82,7 +82,8 @@ enum rumbleog_refusal {
 /* Lists the rings of a text: a query line (k, first day, last day; 5 columns
  * each, byte 10), then rows (day 5 columns, accounts 6 and 6, byte 10).
  * Writes the listing's text: the line `start  end span  rows`, then a line for
- * each ring (columns of 5, 5, 5 and 6), each ended by byte 10.
+ * each ring (columns of 5, 5, 5 and 6), each ended by byte 10. The span counts
+ * both days: end - start + 1.
  * Checks: 2 (over 18,448 bytes); 11, 12, 13 for the query line, then for the
  * lowest faulty row line; the table's 3, 4, 5; 6; 7; 10 over 2,048 rings; 10
  * output too short.

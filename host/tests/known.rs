@@ -120,13 +120,26 @@ fn season_rings() {
     let mut out = vec![b'#'; 200];
     let length = lib::list(text.as_bytes(), &mut out).unwrap();
     let expected = "start  end span  rows\n\
-                    \x20   1    2    1     3\n\
-                    \x20   1    4    3     4\n\
-                    \x20   1    6    5     6\n\
-                    \x20   2    4    2     3\n\
-                    \x20   2    6    4     5\n";
+                    \x20   1    2    2     3\n\
+                    \x20   1    4    4     4\n\
+                    \x20   1    6    6     6\n\
+                    \x20   2    4    3     3\n\
+                    \x20   2    6    5     5\n";
     assert_eq!(&out[..length], expected.as_bytes());
     assert!(out[length..].iter().all(|&byte| byte == b'#'));
+}
+
+/// Both days count: a ring of one day has a span of 1, one of all days has 1,024.
+#[test]
+fn spans() {
+    let text = "    1    1 1024\n    1     1     2\n 1024     1     2\n";
+    let expected = "start  end span  rows\n\
+                    \x20   1    1    1     1\n\
+                    \x20   1 1024 1024     2\n\
+                    \x201024 1024    1     1\n";
+    let mut out = vec![0; expected.len()];
+    let length = lib::list(text.as_bytes(), &mut out).unwrap();
+    assert_eq!(&out[..length], expected.as_bytes());
 }
 
 /// The season's columns as text are its file behind the query line.

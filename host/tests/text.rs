@@ -465,7 +465,7 @@ fn the_programs_bytes() {
     assert_eq!((got.number, got.place, got.count), (OK, 0, 44));
     assert_eq!(
         &output[..44],
-        b"start  end span  rows\n    7    7    0  1024\n"
+        b"start  end span  rows\n    7    7    1  1024\n"
     );
     for extra in ["\n", " ", "x", row] {
         let over = full.clone() + extra;

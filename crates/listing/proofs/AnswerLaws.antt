@@ -25,17 +25,19 @@ use Rattle.rings.specs.declared.refusal.Refusal.the-variants.{BadK, BadRange, B
 use Rattle.rings.specs.declared.refusal.Told.{Told}
 use Rattle.rings.specs.declared.refusal.Verdict.{Verdict}
 use Rattle.rings.specs.declared.refusal.Verdict.the-variants.{Accepted, Refused}
-use Rattle.rings.proofs.CheckLaws.{accepted-right, when-accepted}
+use Rattle.rings.proofs.CheckLaws.{accepted-left, accepted-right, when-accepted}
+use Rattle.rings.proofs.AcceptedLaws.{range-e}
 use Rattle.listing.specs.Listing.{ListedRing, listing}
 use Rattle.listing.specs.WindowCounts.{emptyWindows, windowsBehind}
+use Rattle.listing.specs.EachRing.{EntryOf}
 use Rattle.listing.specs.ListingCall.{Columns, each, withEntries, listingChecks, summed, listingAnswer, listingColumns}
 use Rattle.listing.specs.Program.{Outcome, found, stopped, placeLine, inputLine, stoppedBy, fromList, mostListed, programScratch, listed}
 use Rattle.listing.specs.ProgramText.{refusedOf, listAnswer, listOutput}
-use Rattle.listing.specs.ProgramSteps.{entriesAt, Rising, Prints}
+use Rattle.listing.specs.ProgramSteps.{entryAt, entriesAt, Rising, Prints}
 use Rattle.listing.specs.declared.Listed.{Listed}
 use Rattle.listing.specs.declared.Printed.{Printed}
 use Rattle.listing.proofs.CountLaws.{listing-is}
-use Rattle.listing.proofs.PrintingLaws.{textOf, entries-are, place-order}
+use Rattle.listing.proofs.PrintingLaws.{textOf, entries-are, place-holds}
 
 -- ---- the checks behind an answer
 
@@ -141,17 +143,25 @@ refused-place t q lo hi places scratch {r} e =
 
 -- ---- a listing that is answered
 
-rings-room : (t : Table) (q : Query) (lo hi : ℕ) (places : Columns ℕ) (scratch : ℕ)
+-- what the checks leave
+record Passed (t : Table) (q : Query) (lo hi : ℕ) (places : Columns ℕ) : Type 0 where
+  days : 1 ≤ lo
+  room : length (listing t q lo hi) ≤ places .starts
+
+checks-passed : (t : Table) (q : Query) (lo hi : ℕ) (places : Columns ℕ) (scratch : ℕ)
     → listingChecks t q lo hi places scratch ≡ Accepted
-    → length (listing t q lo hi) ≤ places .starts
+    → Passed t q lo hi places
 unfolding listingChecks
-rings-room t q lo hi places scratch e =
+checks-passed t q lo hi places scratch e =
     let e₁ = accepted-right (tableCheck t) _ e in
     let e₂ = accepted-right (queryCheck q) _ e₁ in
     let e₃ = accepted-right (rangeCheck lo hi) _ e₂ in
     let e₄ = accepted-right (BadLength when no (alike places)) _ e₃ in
     let e₅ = accepted-right (scratchCheck (size t) scratch) _ e₄ in
-    ltb-false (places .starts) (length (listing t q lo hi)) (when-accepted NoRoom (ltb (places .starts) (length (listing t q lo hi))) e₅)
+    record {
+      days = range-e lo hi (accepted-left (rangeCheck lo hi) _ e₂) .0;
+      room = ltb-false (places .starts) (length (listing t q lo hi)) (when-accepted NoRoom (ltb (places .starts) (length (listing t q lo hi))) e₅);
+    }
 
 -- a column has a place for each entry that was written
 column-long : (part : ListedRing → ℕ) (ls : List ListedRing) (old : List ℕ) {n : ℕ} → n ≡ length ls → n ≤ length (over (map part ls) old)
@@ -175,8 +185,11 @@ module _ (t : Table) (q : Query) (lo hi : ℕ) {r : Listed} (is : r ≡ listingA
   pub rings-count : {n sum empty : ℕ} → r ≡ Listed.Rings n sum empty → n ≡ length (listing t q lo hi)
   rings-count e = behind e .counts
 
+  passed : {n sum empty : ℕ} → r ≡ Listed.Rings n sum empty → Passed t q lo hi (each mostListed)
+  passed e = checks-passed t q lo hi (each mostListed) programScratch (behind e .accepted)
+
   pub rings-most : {n sum empty : ℕ} → r ≡ Listed.Rings n sum empty → n ≤ mostListed
-  rings-most e = omega (arith, behind e .counts, rings-room t q lo hi (each mostListed) programScratch (behind e .accepted))
+  rings-most e = omega (arith, behind e .counts, passed e .room)
 
   module _ (old : Columns (List ℕ)) {c : Columns (List ℕ)} (w : c ≡ listingColumns r t q lo hi old) {n sum empty : ℕ} (e : r ≡ Listed.Rings n sum empty) where
     columns : c ≡ withEntries (windowsBehind t q lo hi) (listing t q lo hi) old
@@ -186,7 +199,13 @@ module _ (t : Table) (q : Query) (lo hi : ℕ) {r : Listed} (is : r ≡ listingA
     pub rings-are : entriesAt (textOf c) n ≡ listing t q lo hi
     rings-are = entries-are (windowsBehind t q lo hi) (listing t q lo hi) old columns (rings-count e)
 
+    rings-entry : (i : ℕ) → i < n → EntryOf t q lo hi (entryAt (textOf c) i)
+    rings-entry i h =
+        place-holds (windowsBehind t q lo hi) (listing t q lo hi) old columns (EntryOf t q lo hi) (listing-is t q lo hi .each) i
+        (omega (arith, rings-count e))
+
     pub rings-rise : Rising (textOf c) n
+    unfolding entryAt
     rings-rise =
         let list = listing t q lo hi in
         let long : (part : ListedRing → ℕ) (x : List ℕ) → n ≤ length (over (map part list) x) = λ part x. column-long part list x (rings-count e) in
@@ -195,7 +214,8 @@ module _ (t : Table) (q : Query) (lo hi : ℕ) {r : Listed} (is : r ≡ listingA
           in-starts = omega (arith, long (λ x. x .start) (old .starts), ap (λ (x : Columns (List ℕ)). length (x .starts)) columns);
           in-ends = omega (arith, long (λ x. x .end) (old .ends), ap (λ (x : Columns (List ℕ)). length (x .ends)) columns);
           in-rows = omega (arith, long (λ x. x .rows) (old .rows), ap (λ (x : Columns (List ℕ)). length (x .rows)) columns);
-          order = λ i h. place-order (windowsBehind t q lo hi) list old columns (λ l m. listing-is t q lo hi .each l m .order) i (omega (arith, rings-count e));
+          from = λ i h. omega (arith, passed e .days, rings-entry i h .from);
+          order = λ i h. rings-entry i h .order;
         }
 
 -- ---- the text

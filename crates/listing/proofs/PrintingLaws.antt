@@ -3,7 +3,7 @@
 --     put-wrote          what a call that prints leaves, where its bytes fit
 --     text-none, text-done    the answer for a listing's text, by the room that there is
 --     textOf             the columns of a listing that its text is made of
---     entries-are, place-order    what they hold
+--     entries-are, place-holds    what they hold
 -- Assumes nothing.
 use Prim.Native.Nat.{ℕ, zero, suc, _+_, _*_, _≤_, _<_}
 use mathlib.Core.Path.{_≡_, refl, sym, ap, subst, _∙_}
@@ -185,6 +185,6 @@ module _ (f : ListedRing → ℕ) (ls : List ListedRing) (old : Columns (List �
       ap (tabulate (entryAt (textOf c)) 0) m
       ∙ tabulate-list (entryAt (textOf c)) nothing 0 ls (λ j h. ap (entryAt (textOf c)) (zero-add j) ∙ entry-is j h)
 
-  pub place-order : ((x : ListedRing) → Mem x ls → x .start ≤ x .end) → (j : ℕ) → j < length ls → getD (c .starts) j 0 ≤ getD (c .ends) j 0
-  unfolding entryAt
-  place-order o j h = subst (λ (x : ListedRing). x .start ≤ x .end) (sym (entry-is j h)) (o (getD ls j nothing) (mem-getD ls nothing j h))
+  -- what holds of each entry of the listing holds of each entry of the columns
+  pub place-holds : (P : ListedRing → Type 0) → ((x : ListedRing) → Mem x ls → P x) → (j : ℕ) → j < length ls → P (entryAt (textOf c) j)
+  place-holds P o j h = subst P (sym (entry-is j h)) (o (getD ls j nothing) (mem-getD ls nothing j h))

@@ -3,7 +3,7 @@
 --     entryOf t q w      the entry of window w
 --     listing t q lo hi  all entries of the range [lo, hi], by start, then end
 --     rowSum ls          the sum of the rows of a listing
---     span x             the span of an entry
+--     span x             the span of an entry: both days count
 use Prim.Native.Nat.{ℕ, _+_, _-_}
 use mathlib.Core.List.{List, [], _∷_, map}
 use Rattle.rings.specs.Words.{filterBy}
@@ -30,6 +30,6 @@ unfoldable pub rowSum : List ListedRing → ℕ
 rowSum [] = 0
 rowSum (l ∷ ls) = l .rows + rowSum ls
 
--- 01: "Span: end minus start"
+-- 02, S-3: "Span is end minus start plus 1"
 unfoldable pub span : ListedRing → ℕ
-span x = x .end - x .start
+span x = x .end - x .start + 1

@@ -4,7 +4,8 @@
 --     seasonText         01's example
 --     line s e span n    a printed line of a listing
 --     headLine           the line `start  end span  rows`
---     seasonList         what 01's example prints
+--     seasonList         what 01's example prints, its spans by 02, S-3: 2, 4, 6, 3, 5
+--     oneDayText         a triangle on day 3
 --     compute-program    a theorem that says `unfolding compute-program` computes with every definition of the program
 --     ProgramRows        the table: a field for each row
 --     program-rows-hold  the theorem
@@ -33,6 +34,9 @@ query k s e = five k ++ five s ++ five e ++ 10 ∷ []
 abbrev pub seasonText : List ℕ
 seasonText = query 2 1 6 ++ row 1 1 2 ++ row 2 2 3 ++ row 2 1 3 ++ row 4 1 2 ++ row 5 3 4 ++ row 6 2 4
 
+abbrev pub oneDayText : List ℕ
+oneDayText = query 2 1 6 ++ row 3 1 2 ++ row 3 1 3 ++ row 3 2 3
+
 abbrev pub line : ℕ → ℕ → ℕ → ℕ → List ℕ
 line s e span n = five s ++ five e ++ five span ++ six n ++ 10 ∷ []
 
@@ -40,7 +44,7 @@ abbrev pub headLine : List ℕ
 headLine = 115 ∷ 116 ∷ 97 ∷ 114 ∷ 116 ∷ 32 ∷ 32 ∷ 101 ∷ 110 ∷ 100 ∷ 32 ∷ 115 ∷ 112 ∷ 97 ∷ 110 ∷ 32 ∷ 32 ∷ 114 ∷ 111 ∷ 119 ∷ 115 ∷ 10 ∷ []
 
 abbrev pub seasonList : List ℕ
-seasonList = headLine ++ line 1 2 1 3 ++ line 1 4 3 4 ++ line 1 6 5 6 ++ line 2 4 2 3 ++ line 2 6 4 5
+seasonList = headLine ++ line 1 2 2 3 ++ line 1 4 4 4 ++ line 1 6 6 6 ++ line 2 4 3 3 ++ line 2 6 5 5
 
 unfoldable pub compute-program : Unit {0}
 unfolding
@@ -68,6 +72,8 @@ pub record ProgramRows : Type 0 where
   -- 01's example as it prints; "No rings: that line alone"; `refused`, the number in 5 columns, the line in 6
   pub season-printed : programText seasonText ≡ seasonList
   pub no-rings-printed : programText (query 2 1 6) ≡ headLine
+  -- 02, S-3: "a ring of one day now has a span of 1"
+  pub one-day-printed : programText oneDayText ≡ headLine ++ line 3 3 1 3
   pub refused-printed : programText [] ≡ 114 ∷ 101 ∷ 102 ∷ 117 ∷ 115 ∷ 101 ∷ 100 ∷ 32 ∷ 32 ∷ 32 ∷ 49 ∷ 49 ∷ six 1 ++ 10 ∷ []
   -- the list call: six lines of 22 bytes; two bytes past them are kept; one byte less leaves all of it
   pub call : listAnswer (outcome seasonText) 134 ≡ Printed.Text 132
@@ -89,6 +95,7 @@ program-rows-hold = record {
   row-line = refl;
   season-printed = refl;
   no-rings-printed = refl;
+  one-day-printed = refl;
   refused-printed = refl;
   call = refl;
   call-output = refl;

@@ -8,7 +8,7 @@
 --     textColumns x y z  these three
 --     entryAt, entriesAt    the entry at a place of these columns, and the first n
 --     ringLines ls       the lines of a listing, without the header
---     Rising c n         the columns have n entries, and each starts by its end
+--     Rising c n         the columns have n entries, and each starts by its end, from day 1 on
 --     Printable c n output    the same, and an output with room for their text
 --     Prints o a old now    the answer to an input of the outcome o, and the output, which held old
 use Prim.Native.Nat.{ℕ, _+_, _*_, _≤_, _<_}
@@ -72,6 +72,7 @@ pub record Rising (c : TextColumns) (n : ℕ) : Type 0 where
   pub in-starts : n ≤ length (c .starts)
   pub in-ends : n ≤ length (c .ends)
   pub in-rows : n ≤ length (c .rows)
+  pub from : (i : ℕ) → i < n → 1 ≤ getD (c .starts) i 0
   pub order : (i : ℕ) → i < n → getD (c .starts) i 0 ≤ getD (c .ends) i 0
 
 pub record Printable (c : TextColumns) (n : ℕ) (output : List ℕ) : Type 0 where

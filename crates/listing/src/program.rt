@@ -184,7 +184,7 @@ fn write_lines(starts: &[u16], ends: &[u16], rows: &[u16], count: usize, output:
     while i < count {
         let start = starts[i];
         let end = ends[i];
-        put_line(output, at, start, end, end - start, rows[i]);
+        put_line(output, at, start, end, end - start + 1, rows[i]);
         at += ENTRY_BYTES;
         i += 1;
     }

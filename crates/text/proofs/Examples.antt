@@ -4,7 +4,7 @@
 --   lone-end final-end            lines
 --   example example-reads example-days     01's example table
 --   example-query                 01's query line
---   example-line example-refused  01's printed lines
+--   example-line example-refused  printed lines: a ring of examples/market.txt, four numbers that differ; 01's refused line
 -- Assumes nothing.
 use mathlib.Core.Path.{_≡_, refl}
 use mathlib.Core.List.{List, [], _∷_}
@@ -98,7 +98,7 @@ example-query : queryOf (32 ∷ 32 ∷ 32 ∷ 32 ∷ 50 ∷ 32 ∷ 32 ∷ 32 ∷
 unfolding queryOf stepAs lineAs fieldAt judged isWhole linesOf prepend fieldOf numeralOf unblank isNumeral leadsWell allDigits isDigit value
 example-query = refl
 
-example-line : listingLine 1 4 3 4 ≡ 32 ∷ 32 ∷ 32 ∷ 32 ∷ 49 ∷ 32 ∷ 32 ∷ 32 ∷ 32 ∷ 52 ∷ 32 ∷ 32 ∷ 32 ∷ 32 ∷ 51 ∷ 32 ∷ 32 ∷ 32 ∷ 32 ∷ 32 ∷ 52 ∷ 10 ∷ []
+example-line : listingLine 2 49 48 529 ≡ 32 ∷ 32 ∷ 32 ∷ 32 ∷ 50 ∷ 32 ∷ 32 ∷ 32 ∷ 52 ∷ 57 ∷ 32 ∷ 32 ∷ 32 ∷ 52 ∷ 56 ∷ 32 ∷ 32 ∷ 32 ∷ 53 ∷ 50 ∷ 57 ∷ 10 ∷ []
 unfolding listingLine printed columnOf
 example-line = refl
 

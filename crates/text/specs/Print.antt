@@ -97,7 +97,7 @@ header =
 unfoldable pub listingLine : ℕ → ℕ → ℕ → ℕ → List ℕ
 listingLine start end span rows = printed dayWidth start ++ printed dayWidth end ++ printed dayWidth span ++ printed rowsWidth rows ++ 10 ∷ []
 
--- a line's numbers; "Span: end minus start" is the caller's
+-- a line's numbers; what the span counts is the caller's
 pub record Entry : Type 0 where
   pub start : ℕ
   pub end : ℕ

@@ -512,7 +512,8 @@ pub fn list_text(input: &[u8]) -> Result<Vec<u8>, Answer> {
     }
     let mut text = String::from("start  end span  rows\n");
     for i in 0..listed.count as usize {
-        let span = end[i] - start[i];
+        // Both days count.
+        let span = end[i] - start[i] + 1;
         text += &format!("{:>5}{:>5}{:>5}{:>6}\n", start[i], end[i], span, size[i]);
     }
     Ok(text.into_bytes())

@@ -50,6 +50,18 @@ sub-put-line c =
     let pre = c .before .before .before .before .before .before .before .before .before .pre in
     omega (arith, pre .rising .order (loop .i) (loop-test .taken))
 
+add-put-line : tie.Need-add-put-line Inv-loop μ-loop
+add-put-line c =
+    let loop-test = c .before .before .before .loop-test in
+    let loop = c .before .before .before .before .loop in
+    let pre = c .before .before .before .before .before .before .before .before .before .pre in
+    omega (
+      arith,
+      pre .rising .from (loop .i) (loop-test .taken),
+      pre .rising .order (loop .i) (loop-test .taken),
+      c .before .shared-slice-known5 .given (loop .i),
+    )
+
 mul-put-line : tie.Need-mul-put-line Inv-loop μ-loop
 mul-put-line c =
     let loop-test = c .before .before .before .loop-test in
@@ -118,6 +130,6 @@ write-lines-spec =
     tie.close
     (
     tie.spec Inv-loop μ-loop loop-holds mul-start shared-slice-read-start mul-end shared-slice-read-end sub-put-line
-    mul-put-line shared-slice-read-put-line put-line-requires add-at add-i loop-less loop-again same-length
+    add-put-line mul-put-line shared-slice-read-put-line put-line-requires add-at add-i loop-less loop-again same-length
     returns
     )
