@@ -143,23 +143,23 @@ refused-place t q lo hi places scratch {r} e =
 
 -- ---- a listing that is answered
 
--- what the checks leave
-record Passed (t : Table) (q : Query) (lo hi : ℕ) (places : Columns ℕ) : Type 0 where
-  days : 1 ≤ lo
+-- what its checks leave
+record Answered (t : Table) (q : Query) (lo hi : ℕ) (places : Columns ℕ) : Type 0 where
+  from : 1 ≤ lo
   room : length (listing t q lo hi) ≤ places .starts
 
-checks-passed : (t : Table) (q : Query) (lo hi : ℕ) (places : Columns ℕ) (scratch : ℕ)
+answered-by : (t : Table) (q : Query) (lo hi : ℕ) (places : Columns ℕ) (scratch : ℕ)
     → listingChecks t q lo hi places scratch ≡ Accepted
-    → Passed t q lo hi places
+    → Answered t q lo hi places
 unfolding listingChecks
-checks-passed t q lo hi places scratch e =
+answered-by t q lo hi places scratch e =
     let e₁ = accepted-right (tableCheck t) _ e in
     let e₂ = accepted-right (queryCheck q) _ e₁ in
     let e₃ = accepted-right (rangeCheck lo hi) _ e₂ in
     let e₄ = accepted-right (BadLength when no (alike places)) _ e₃ in
     let e₅ = accepted-right (scratchCheck (size t) scratch) _ e₄ in
     record {
-      days = range-e lo hi (accepted-left (rangeCheck lo hi) _ e₂) .0;
+      from = range-e lo hi (accepted-left (rangeCheck lo hi) _ e₂) .0;
       room = ltb-false (places .starts) (length (listing t q lo hi)) (when-accepted NoRoom (ltb (places .starts) (length (listing t q lo hi))) e₅);
     }
 
@@ -185,11 +185,11 @@ module _ (t : Table) (q : Query) (lo hi : ℕ) {r : Listed} (is : r ≡ listingA
   pub rings-count : {n sum empty : ℕ} → r ≡ Listed.Rings n sum empty → n ≡ length (listing t q lo hi)
   rings-count e = behind e .counts
 
-  passed : {n sum empty : ℕ} → r ≡ Listed.Rings n sum empty → Passed t q lo hi (each mostListed)
-  passed e = checks-passed t q lo hi (each mostListed) programScratch (behind e .accepted)
+  answered : {n sum empty : ℕ} → r ≡ Listed.Rings n sum empty → Answered t q lo hi (each mostListed)
+  answered e = answered-by t q lo hi (each mostListed) programScratch (behind e .accepted)
 
   pub rings-most : {n sum empty : ℕ} → r ≡ Listed.Rings n sum empty → n ≤ mostListed
-  rings-most e = omega (arith, behind e .counts, passed e .room)
+  rings-most e = omega (arith, behind e .counts, answered e .room)
 
   module _ (old : Columns (List ℕ)) {c : Columns (List ℕ)} (w : c ≡ listingColumns r t q lo hi old) {n sum empty : ℕ} (e : r ≡ Listed.Rings n sum empty) where
     columns : c ≡ withEntries (windowsBehind t q lo hi) (listing t q lo hi) old
@@ -214,7 +214,7 @@ module _ (t : Table) (q : Query) (lo hi : ℕ) {r : Listed} (is : r ≡ listingA
           in-starts = omega (arith, long (λ x. x .start) (old .starts), ap (λ (x : Columns (List ℕ)). length (x .starts)) columns);
           in-ends = omega (arith, long (λ x. x .end) (old .ends), ap (λ (x : Columns (List ℕ)). length (x .ends)) columns);
           in-rows = omega (arith, long (λ x. x .rows) (old .rows), ap (λ (x : Columns (List ℕ)). length (x .rows)) columns);
-          from = λ i h. omega (arith, passed e .days, rings-entry i h .from);
+          from = λ i h. omega (arith, answered e .from, rings-entry i h .from);
           order = λ i h. rings-entry i h .order;
         }
 

@@ -8,7 +8,7 @@
 --     textColumns x y z  these three
 --     entryAt, entriesAt    the entry at a place of these columns, and the first n
 --     ringLines ls       the lines of a listing, without the header
---     Rising c n         the columns have n entries, and each starts by its end, from day 1 on
+--     Rising c n         the columns have n entries, and each starts on day 1 or later, by its end
 --     Printable c n output    the same, and an output with room for their text
 --     Prints o a old now    the answer to an input of the outcome o, and the output, which held old
 use Prim.Native.Nat.{ℕ, _+_, _*_, _≤_, _<_}
