@@ -54,13 +54,15 @@ enum rumbleog_refusal {
     RUMBLEOG_BAD_LINE = 11,     /* a line of the wrong number of bytes; place: the line */
     RUMBLEOG_BAD_FIELD = 12,    /* a field that is no right-justified number; place: the line */
     RUMBLEOG_BAD_NUMBER = 13,   /* a number above 65,535; place: the line */
-    RUMBLEOG_BAD_ENTRY = 14     /* a faulty entry in a minimal-window list; place: the entry */
+    RUMBLEOG_BAD_ENTRY = 14,    /* a faulty entry in a minimal-window list; place: the entry */
+    RUMBLEOG_NOT_IN_RING = 15   /* the named account is not in the window's ring */
 };
 
 #define RUMBLEOG_MOST_ROWS 16384    /* rows of a table */
 #define RUMBLEOG_LAST_DAY 1024      /* days are 1 to 1,024 */
 #define RUMBLEOG_ACCOUNTS 4096      /* accounts are 0 to 4,095 */
 #define RUMBLEOG_NEVER 65535        /* a core time that is never */
+#define RUMBLEOG_NO_GROUP 65535     /* the label of a row outside the ring */
 #define RUMBLEOG_MOST_INPUT 18448   /* bytes that rumbleog_list takes: a query line and 1,024 rows */
 #define RUMBLEOG_MOST_LISTED 2048   /* rings that rumbleog_list lists */
 
@@ -106,6 +108,28 @@ uint32_t rumbleog_window_ring(RUMBLEOG_TABLE,
                               uint8_t *marks, size_t marks_length,
                               uint16_t *scratch, size_t scratch_length,
                               uint64_t *place, uint64_t *count);
+
+/* Labels the groups of the ring of the window [s, e] for k, which have no
+ * payment between them: labels[row] is the smallest account connected to the
+ * row through rows of the ring, RUMBLEOG_NO_GROUP for a row outside the ring.
+ * Each group, taken as a table of its own, is its own ring for that window.
+ * Checks: those of rumbleog_window_ring, labels standing for marks in 8.
+ * count: the number of rows of the ring. */
+uint32_t rumbleog_label_groups(RUMBLEOG_TABLE,
+                               uint16_t k, uint16_t s, uint16_t e,
+                               uint16_t *labels, size_t labels_length,
+                               uint16_t *scratch, size_t scratch_length,
+                               uint64_t *place, uint64_t *count);
+
+/* Marks one group of that ring, the one of the named account: marks[row] is 1
+ * or 0.
+ * Checks: those of rumbleog_window_ring; 15 the account is not in the ring, as
+ * one above 4,095 never is. count: the number of ones. */
+uint32_t rumbleog_mark_group(RUMBLEOG_TABLE,
+                             uint16_t k, uint16_t s, uint16_t e, uint16_t account,
+                             uint8_t *marks, size_t marks_length,
+                             uint16_t *scratch, size_t scratch_length,
+                             uint64_t *place, uint64_t *count);
 
 /* Core times at start s in the range [ts, te]: for each of 4,096 accounts and
  * for each row the least e such that it is in the ring of [s, e], e <= te;

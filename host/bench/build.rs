@@ -1,5 +1,6 @@
-//! Compiles the C peer (../peer/engine.c), its calls named peer_*, and the
-//! second writer in C (../peer/pairs.c), and links both.
+//! Compiles the C peer (../peer/engine.c), its calls named peer_*, the second
+//! writer in C (../peer/pairs.c) and the union-find (../peer/groups.c), and
+//! links them.
 
 use std::env;
 use std::path::PathBuf;
@@ -24,7 +25,7 @@ fn main() {
     println!("cargo:rerun-if-changed={}", include.display());
     println!("cargo:rerun-if-env-changed=CC");
     let cc = env::var_os("CC").unwrap_or_else(|| "cc".into());
-    let objects = ["engine", "pairs"].map(|name| {
+    let objects = ["engine", "pairs", "groups"].map(|name| {
         let source = here.join(format!("../peer/{name}.c"));
         let object = out.join(format!("{name}.o"));
         println!("cargo:rerun-if-changed={}", source.display());

@@ -3,6 +3,8 @@
  *   host list FILE           lists the rings of FILE: a query line, then rows
  *   host ring FILE K S E     marks the ring of [S, E] for K in FILE's rows
  *                            (FILE as above; its query line is passed over)
+ *   host groups FILE K S E   prints that ring one group at a time
+ *   host group FILE K S E A  marks the group of account A in that ring
  *   host copy FILE           prints FILE again: the query line as it stands, the
  *                            rows read and written
  *
@@ -116,8 +118,17 @@ static int read_rows(const uint8_t *input, size_t input_length, struct rows *row
     return 0;
 }
 
-/* One window's ring: a line for each row, its mark first. */
-static int ring(const struct rows *rows, uint16_t k, uint16_t s, uint16_t e)
+/* A call that takes the rows has refused: the place of a row is its line. */
+static int rows_refused(uint32_t number, uint64_t place)
+{
+    int at_row = RUMBLEOG_BAD_DAY <= number && number <= RUMBLEOG_DAY_FALLS;
+    return refused(number, at_row ? place + 2 : 0);
+}
+
+/* One window's ring, or the group of an account in it: a line for each row, its
+ * mark first. */
+static int ring(const struct rows *rows, uint16_t k, uint16_t s, uint16_t e,
+                const uint16_t *account)
 {
     size_t count = rows->count, scratch_length = RUMBLEOG_SCRATCH_FOR(count);
     uint16_t *scratch = malloc(scratch_length * sizeof *scratch);
@@ -128,12 +139,17 @@ static int ring(const struct rows *rows, uint16_t k, uint16_t s, uint16_t e)
         status = trouble("no memory");
         goto done;
     }
-    uint32_t number = rumbleog_window_ring(rows->days, count, rows->first, count, rows->second,
-                                           count, k, s, e, marks, count, scratch, scratch_length,
-                                           &place, &ones);
+    uint32_t number;
+    if (account == NULL)
+        number = rumbleog_window_ring(rows->days, count, rows->first, count, rows->second, count,
+                                      k, s, e, marks, count, scratch, scratch_length, &place,
+                                      &ones);
+    else
+        number = rumbleog_mark_group(rows->days, count, rows->first, count, rows->second, count,
+                                     k, s, e, *account, marks, count, scratch, scratch_length,
+                                     &place, &ones);
     if (number != RUMBLEOG_OK) {
-        int at_row = RUMBLEOG_BAD_DAY <= number && number <= RUMBLEOG_DAY_FALLS;
-        status = refused(number, at_row ? place + 2 : 0);
+        status = rows_refused(number, place);
         goto done;
     }
     int written = printf("%" PRIu64 " of %zu rows\n", ones, count);
@@ -145,6 +161,47 @@ static int ring(const struct rows *rows, uint16_t k, uint16_t s, uint16_t e)
 done:
     free(scratch);
     free(marks);
+    return status;
+}
+
+/* One window's ring, one group at a time: its smallest account, its rows. */
+static int groups(const struct rows *rows, uint16_t k, uint16_t s, uint16_t e)
+{
+    size_t count = rows->count, scratch_length = RUMBLEOG_SCRATCH_FOR(count);
+    uint16_t *scratch = malloc(scratch_length * sizeof *scratch);
+    uint16_t *labels = malloc((count + 1) * sizeof *labels);
+    uint64_t place, ones;
+    int status = 0;
+    if (scratch == NULL || labels == NULL) {
+        status = trouble("no memory");
+        goto done;
+    }
+    uint32_t number = rumbleog_label_groups(rows->days, count, rows->first, count, rows->second,
+                                            count, k, s, e, labels, count, scratch,
+                                            scratch_length, &place, &ones);
+    if (number != RUMBLEOG_OK) {
+        status = rows_refused(number, place);
+        goto done;
+    }
+    int written = printf("%" PRIu64 " of %zu rows\n", ones, count);
+    for (unsigned label = 0; label < RUMBLEOG_ACCOUNTS; label++) {
+        int begun = 0;
+        for (size_t row = 0; row < count && written >= 0; row++) {
+            if (labels[row] != label)
+                continue;
+            if (!begun)
+                written = printf("group of %u\n", label);
+            begun = 1;
+            if (written >= 0)
+                written = printf("%5" PRIu16 "%6" PRIu16 "%6" PRIu16 "\n", rows->days[row],
+                                 rows->first[row], rows->second[row]);
+        }
+    }
+    if (written < 0)
+        status = unwritten();
+done:
+    free(scratch);
+    free(labels);
     return status;
 }
 
@@ -181,15 +238,19 @@ static int argument(const char *text, uint16_t *value)
 
 int main(int argc, char **argv)
 {
-    uint16_t k, s, e;
+    uint16_t k, s, e, account;
     size_t length;
     int status;
     int lists = argc == 3 && strcmp(argv[1], "list") == 0;
     int copies = argc == 3 && strcmp(argv[1], "copy") == 0;
+    int rings = argc == 6 && strcmp(argv[1], "ring") == 0;
+    int parts = argc == 6 && strcmp(argv[1], "groups") == 0;
+    int part = argc == 7 && strcmp(argv[1], "group") == 0 && argument(argv[6], &account);
     if (!lists && !copies &&
-        !(argc == 6 && strcmp(argv[1], "ring") == 0 && argument(argv[3], &k) &&
-          argument(argv[4], &s) && argument(argv[5], &e)))
-        return trouble("use: host list FILE, host ring FILE K S E, or host copy FILE");
+        !((rings || parts || part) && argument(argv[3], &k) && argument(argv[4], &s) &&
+          argument(argv[5], &e)))
+        return trouble("use: host list FILE, host ring FILE K S E, host groups FILE K S E, "
+                       "host group FILE K S E A, or host copy FILE");
     uint8_t *input = contents(argv[2], &length);
     if (input == NULL)
         return trouble("cannot read the file");
@@ -198,8 +259,12 @@ int main(int argc, char **argv)
     } else {
         struct rows rows;
         status = read_rows(input, length, &rows);
-        if (status == 0)
-            status = copies ? copy(input, &rows) : ring(&rows, k, s, e);
+        if (status == 0 && copies)
+            status = copy(input, &rows);
+        else if (status == 0 && parts)
+            status = groups(&rows, k, s, e);
+        else if (status == 0)
+            status = ring(&rows, k, s, e, part ? &account : NULL);
         free(rows.days);
     }
     free(input);

@@ -51,11 +51,16 @@ one season 0 list "$examples/season.txt"
 one market 0 list "$examples/market.txt"
 one season-ring 0 ring "$examples/season.txt" 2 1 4
 one market-ring 0 ring "$examples/market.txt" 3 10 40
+one season-groups 0 groups "$examples/season.txt" 2 1 6
+one market-groups 0 groups "$examples/market.txt" 2 35 42
+one season-group 0 group "$examples/season.txt" 2 1 4 3
 one broken-day 1 list "$examples/broken-day.txt"
 one broken-field 1 list "$examples/broken-field.txt"
 one broken-ring 1 ring "$examples/broken-day.txt" 2 1 6
 one wrong-k 1 ring "$examples/season.txt" 0 1 6
 one wrong-window 1 ring "$examples/season.txt" 2 5 4
+one broken-groups 1 groups "$examples/broken-day.txt" 2 1 6
+one wrong-account 1 group "$examples/season.txt" 2 1 4 4
 one broken-copy 1 copy "$examples/broken-field.txt"
 # The writer takes any columns: also those of a table whose days fall.
 again season
@@ -81,6 +86,7 @@ if [ -c /dev/full ]; then
     full season list "$examples/season.txt"
     full market list "$examples/market.txt"
     full market-ring ring "$examples/market.txt" 3 10 40
+    full market-groups groups "$examples/market.txt" 2 35 42
     full broken-day list "$examples/broken-day.txt"
     full season-copy copy "$examples/season.txt"
     full market-copy copy "$examples/market.txt"

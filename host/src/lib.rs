@@ -34,6 +34,8 @@ pub const LAST_DAY: u16 = 1_024;
 pub const ACCOUNTS: usize = 4_096;
 /// A core time that is never.
 pub const NEVER: u16 = 65_535;
+/// The label of a row outside the ring.
+pub const NO_GROUP: u16 = 65_535;
 /// Most bytes that [`list`] takes.
 pub const MOST_INPUT: usize = 18_448;
 /// Most rings that [`list`] lists.
@@ -132,6 +134,42 @@ pub fn window_ring(
 ) -> Result<u64, Refusal> {
     let (mut place, mut count) = (0, 0);
     let number = raw::window_ring(table, query, window, marks, scratch, &mut place, &mut count);
+    judged(number, place)?;
+    Ok(count)
+}
+
+/// Labels the rows of the window's ring, each with the smallest account of its
+/// group, connected to it through rows of the ring; every other row with
+/// [`NO_GROUP`]. The number of rows of the ring. Refuses 1 to 9.
+pub fn label_groups(
+    table: Table,
+    query: Query,
+    window: Days,
+    labels: &mut [u16],
+    scratch: &mut [u16],
+) -> Result<u64, Refusal> {
+    let (mut place, mut count) = (0, 0);
+    let number = raw::label_groups(
+        table, query, window, labels, scratch, &mut place, &mut count,
+    );
+    judged(number, place)?;
+    Ok(count)
+}
+
+/// Marks the rows of one group of the window's ring, the one of an account,
+/// with 1, every other with 0; the number of ones. Refuses 1 to 9, 15.
+pub fn mark_group(
+    table: Table,
+    query: Query,
+    window: Days,
+    account: u16,
+    marks: &mut [u8],
+    scratch: &mut [u16],
+) -> Result<u64, Refusal> {
+    let (mut place, mut count) = (0, 0);
+    let number = raw::mark_group(
+        table, query, window, account, marks, scratch, &mut place, &mut count,
+    );
     judged(number, place)?;
     Ok(count)
 }

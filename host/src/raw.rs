@@ -50,6 +50,43 @@ macro_rules! c_functions {
                 count: *mut u64,
             )
 
+            label_groups(
+                days: *const u16,
+                days_length: usize,
+                first: *const u16,
+                first_length: usize,
+                second: *const u16,
+                second_length: usize,
+                k: u16,
+                s: u16,
+                e: u16,
+                labels: *mut u16,
+                labels_length: usize,
+                scratch: *mut u16,
+                scratch_length: usize,
+                place: *mut u64,
+                count: *mut u64,
+            )
+
+            mark_group(
+                days: *const u16,
+                days_length: usize,
+                first: *const u16,
+                first_length: usize,
+                second: *const u16,
+                second_length: usize,
+                k: u16,
+                s: u16,
+                e: u16,
+                account: u16,
+                marks: *mut u8,
+                marks_length: usize,
+                scratch: *mut u16,
+                scratch_length: usize,
+                place: *mut u64,
+                count: *mut u64,
+            )
+
             core_times(
                 days: *const u16,
                 days_length: usize,
@@ -292,6 +329,73 @@ macro_rules! foreign_calls {
                     query.k,
                     *window.start(),
                     *window.end(),
+                    marks.as_mut_ptr(),
+                    marks.len(),
+                    scratch.as_mut_ptr(),
+                    scratch.len(),
+                    place,
+                    count,
+                )
+            }
+        }
+
+        /// The header's `label_groups`.
+        pub fn label_groups(
+            table: Table,
+            query: Query,
+            window: Days,
+            labels: &mut [u16],
+            scratch: &mut [u16],
+            place: &mut u64,
+            count: &mut u64,
+        ) -> u32 {
+            // SAFETY: live slices, each with its own length; what is written is borrowed alone.
+            unsafe {
+                c::label_groups(
+                    table.days.as_ptr(),
+                    table.days.len(),
+                    table.first.as_ptr(),
+                    table.first.len(),
+                    table.second.as_ptr(),
+                    table.second.len(),
+                    query.k,
+                    *window.start(),
+                    *window.end(),
+                    labels.as_mut_ptr(),
+                    labels.len(),
+                    scratch.as_mut_ptr(),
+                    scratch.len(),
+                    place,
+                    count,
+                )
+            }
+        }
+
+        /// The header's `mark_group`.
+        #[allow(clippy::too_many_arguments)]
+        pub fn mark_group(
+            table: Table,
+            query: Query,
+            window: Days,
+            account: u16,
+            marks: &mut [u8],
+            scratch: &mut [u16],
+            place: &mut u64,
+            count: &mut u64,
+        ) -> u32 {
+            // SAFETY: live slices, each with its own length; what is written is borrowed alone.
+            unsafe {
+                c::mark_group(
+                    table.days.as_ptr(),
+                    table.days.len(),
+                    table.first.as_ptr(),
+                    table.first.len(),
+                    table.second.as_ptr(),
+                    table.second.len(),
+                    query.k,
+                    *window.start(),
+                    *window.end(),
+                    account,
                     marks.as_mut_ptr(),
                     marks.len(),
                     scratch.as_mut_ptr(),

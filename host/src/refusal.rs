@@ -89,6 +89,7 @@ refusals! {
     12, BAD_FIELD,      BadField(line),     "a field that is no right-justified number";
     13, BAD_NUMBER,     BadNumber(line),    "a number above 65,535";
     14, BAD_ENTRY,      BadEntry(entry),    "a faulty entry in a minimal-window list";
+    15, NOT_IN_RING,    NotInRing,          "the named account is not in the window's ring";
 }
 
 impl std::fmt::Display for Refusal {

@@ -4,7 +4,7 @@ mod common;
 
 use common::*;
 use rumbleog::number::*;
-use rumbleog::{self as lib, Days, Query, Refusal, Table, Windows, NEVER};
+use rumbleog::{self as lib, Days, Query, Refusal, Table, Windows, NEVER, NO_GROUP};
 
 /// Minimal windows through the wrapper, cut at their count.
 fn windows(table: &Owned, k: u16, range: Days) -> Vec<(u16, u16, u16)> {
@@ -61,6 +61,47 @@ fn times(table: &Owned, k: u16, range: Days, start: u16) -> (Vec<u16>, Vec<u16>)
     )
     .unwrap();
     (accounts, rows)
+}
+
+/// Labels through the wrapper, into noise and with scratch to spare: it is all 0
+/// after, and the count is that of the rows labelled.
+fn labels(table: &Owned, k: u16, window: Days) -> Vec<u16> {
+    let mut labels = vec![7; table.rows()];
+    let mut scratch = vec![0xabcd; lib::scratch_for(table.rows()) + 9];
+    let query = Query { k };
+    let count = lib::label_groups(table.lend(), query, window, &mut labels, &mut scratch);
+    let labelled = labels.iter().filter(|&&label| label != NO_GROUP).count();
+    assert_eq!(count, Ok(labelled as u64));
+    assert!(scratch.iter().all(|&number| number == 0));
+    labels
+}
+
+/// One group's marks through the wrapper: their count is that of the ones. Where
+/// the account is not in the ring they are kept. The scratch is all 0 after both.
+fn group(table: &Owned, k: u16, window: Days, account: u16) -> Result<Vec<u8>, Refusal> {
+    let mut marks = vec![7; table.rows()];
+    let mut scratch = vec![0xabcd; lib::scratch_for(table.rows()) + 9];
+    let query = Query { k };
+    let count = lib::mark_group(
+        table.lend(),
+        query,
+        window,
+        account,
+        &mut marks,
+        &mut scratch,
+    );
+    assert!(scratch.iter().all(|&number| number == 0));
+    match count {
+        Ok(count) => {
+            let ones = marks.iter().filter(|&&mark| mark == 1).count();
+            assert_eq!(count, ones as u64);
+            Ok(marks)
+        }
+        Err(refusal) => {
+            assert!(marks.iter().all(|&mark| mark == 7));
+            Err(refusal)
+        }
+    }
 }
 
 /// 01, "Rows to check by": start 1, 2 and 3.
@@ -169,6 +210,197 @@ fn any_columns_written() {
     assert_eq!(text, *lines);
     assert_eq!(lib::write_table(Owned::default().lend(), &mut text), Ok(0));
     assert_eq!(text, *lines);
+}
+
+/// The season's ring is one group, and account 4 is in it from day 6 on.
+#[test]
+fn season_groups() {
+    let table = season();
+    assert_eq!(labels(&table, 2, 1..=6), [1; 6]);
+    assert_eq!(labels(&table, 2, 1..=4), [1, 1, 1, 1, NO_GROUP, NO_GROUP]);
+    assert_eq!(labels(&table, 3, 1..=6), [NO_GROUP; 6]);
+    for account in 1..=4 {
+        assert_eq!(group(&table, 2, 1..=6, account), Ok(vec![1; 6]));
+    }
+    assert_eq!(group(&table, 2, 1..=4, 3), Ok(vec![1, 1, 1, 1, 0, 0]));
+    for (k, e, account) in [(2, 6, 0), (2, 6, 5), (2, 4, 4), (3, 6, 1)] {
+        let refused = Err(Refusal::NotInRing);
+        assert_eq!(group(&table, k, 1..=e, account), refused);
+    }
+    // For k = 1 a payment is a ring: those of days 4 and 5 share no account.
+    let n = NO_GROUP;
+    assert_eq!(labels(&table, 1, 4..=5), [n, n, n, 1, 3, n]);
+}
+
+/// Two triangles on days 2 and 3, and payments between them on days 1 and 4: they
+/// are one group only where the window has such a payment.
+#[test]
+fn groups_of_two_triangles() {
+    let table = Owned::of(&[
+        (1, 0, 9),
+        (2, 7, 9),
+        (2, 0, 5),
+        (2, 8, 9),
+        (3, 3, 5),
+        (3, 7, 8),
+        (3, 0, 3),
+        (4, 3, 8),
+    ]);
+    let n = NO_GROUP;
+    assert_eq!(labels(&table, 2, 2..=3), [n, 7, 0, 7, 0, 7, 0, n]);
+    assert_eq!(labels(&table, 2, 1..=3), [0, 0, 0, 0, 0, 0, 0, n]);
+    assert_eq!(labels(&table, 2, 2..=4), [n, 0, 0, 0, 0, 0, 0, 0]);
+    for (account, marks) in [
+        (0, [0, 0, 1, 0, 1, 0, 1, 0]),
+        (3, [0, 0, 1, 0, 1, 0, 1, 0]),
+        (5, [0, 0, 1, 0, 1, 0, 1, 0]),
+        (7, [0, 1, 0, 1, 0, 1, 0, 0]),
+        (8, [0, 1, 0, 1, 0, 1, 0, 0]),
+        (9, [0, 1, 0, 1, 0, 1, 0, 0]),
+    ] {
+        assert_eq!(group(&table, 2, 2..=3, account), Ok(marks.to_vec()));
+    }
+    // For k = 1: on day 2 account 9 joins 7 and 8.
+    assert_eq!(labels(&table, 1, 2..=2), [n, 7, 0, 7, n, n, n, n]);
+    assert_eq!(labels(&table, 1, 4..=4), [n, n, n, n, n, n, n, 3]);
+}
+
+/// A payment between two accounts of a ring is in it. So rows outside the ring join
+/// groups by way of an account outside, if at all: 9 deals with both foursomes.
+#[test]
+fn groups_not_joined_outside_the_ring() {
+    let mut rows = Vec::new();
+    for four in [[1, 4, 6, 7], [2, 3, 5, 8]] {
+        for b in 1..4 {
+            for a in 0..b {
+                rows.push((1, four[a], four[b]));
+            }
+        }
+    }
+    rows.insert(6, (1, 7, 9));
+    rows.insert(6, (1, 8, 9));
+    let table = Owned::of(&rows);
+    let n = NO_GROUP;
+    let two = [1, 1, 1, 1, 1, 1, n, n, 2, 2, 2, 2, 2, 2];
+    assert_eq!(labels(&table, 3, 1..=1), two);
+    assert_eq!(labels(&table, 2, 1..=1), [1; 14]);
+    let of_8 = [0, 0, 0, 0, 0, 0, 0, 0, 1, 1, 1, 1, 1, 1];
+    assert_eq!(group(&table, 3, 1..=1, 8), Ok(of_8.to_vec()));
+    assert_eq!(group(&table, 3, 1..=1, 9), Err(Refusal::NotInRing));
+    assert_eq!(group(&table, 2, 1..=1, 9), Ok(vec![1; 14]));
+}
+
+/// The last accounts, and equal rows, which are of one group and count each.
+#[test]
+fn groups_at_the_edges() {
+    let table = Owned::of(&[(1_024, 4_094, 4_095), (1_024, 0, 1), (1_024, 4_094, 4_095)]);
+    assert_eq!(labels(&table, 1, 1..=1_024), [4_094, 0, 4_094]);
+    assert_eq!(labels(&table, 2, 1..=1_024), [NO_GROUP; 3]);
+    assert_eq!(group(&table, 1, 1_024..=1_024, 4_095), Ok(vec![1, 0, 1]));
+    assert_eq!(group(&table, 1, 1..=1_024, 0), Ok(vec![0, 1, 0]));
+    // Beyond the accounts; 4,096 and 4,097 are 0 and 1 in 12 bits.
+    for account in [2, 4_093, 4_096, 4_097, 8_191, 65_535] {
+        let refused = Err(Refusal::NotInRing);
+        assert_eq!(group(&table, 1, 1..=1_024, account), refused, "{account}");
+    }
+    // No rows: no ring, and nobody is in it.
+    let empty = Owned::default();
+    for k in [1, 2, 4_095] {
+        assert_eq!(labels(&empty, k, 1..=1_024), []);
+        for account in [0, 4_095, 4_096, 65_535] {
+            let refused = Err(Refusal::NotInRing);
+            assert_eq!(group(&empty, k, 1..=1, account), refused);
+        }
+    }
+}
+
+/// Both calls on a table that breaks checks 1 to 9 by turns: the answers are these,
+/// with every buffer kept, also for an account that is in no ring.
+#[test]
+fn groups_refused() {
+    struct Asked {
+        table: Owned,
+        k: u16,
+        window: Days,
+        places: usize,
+        scratch: usize,
+    }
+    let right = || Asked {
+        table: season(),
+        k: 2,
+        window: 1..=6,
+        places: 6,
+        scratch: lib::scratch_for(6),
+    };
+    type Break = fn(&mut Asked);
+    // From the last check to the first: each fault is added to those before.
+    let breaks: [(u32, u64, Break); 9] = [
+        (SCRATCH, 0, |asked| asked.scratch -= 1),
+        (BAD_LENGTH, 0, |asked| asked.places = 5),
+        (BAD_RANGE, 0, |asked| asked.window = Days::new(6, 5)),
+        (BAD_K, 0, |asked| asked.k = 4_096),
+        (DAY_FALLS, 5, |asked| asked.table.days[5] = 4),
+        (BAD_ACCOUNTS, 5, |asked| asked.table.second[5] = 4_096),
+        (BAD_DAY, 5, |asked| asked.table.days[5] = 1_025),
+        (TOO_LARGE, 0, |asked| {
+            asked.table = Owned::of(&vec![(1, 2, 3); 16_385]);
+            asked.table.days[0] = 0;
+        }),
+        (COLUMNS_DIFFER, 0, |asked| {
+            asked.table.days.pop();
+        }),
+    ];
+    let refused = |asked: &Asked, number: u32, place: u64| {
+        let rng = &mut Rng(u64::from(number));
+        let query = Query { k: asked.k };
+        let window = || asked.window.clone();
+        let expected = brute::Answer {
+            number,
+            place,
+            ..brute::Answer::default()
+        };
+        let table = LentTable::new(rng, &asked.table);
+        let mut scratch = Lent::<u16>::new(rng, asked.scratch);
+        let mut labels = Lent::<u16>::new(rng, asked.places);
+        let (out, space) = (labels.get_mut(), scratch.get_mut());
+        let got = label_groups(table.lend(), query, window(), out, space);
+        assert_eq!(got, expected);
+        labels.kept("labels");
+        for account in [1, 5, 4_096, 65_535] {
+            let mut marks = Lent::<u8>::new(rng, asked.places);
+            let (out, space) = (marks.get_mut(), scratch.get_mut());
+            let got = mark_group(table.lend(), query, window(), account, out, space);
+            assert_eq!(got, expected, "{account}");
+            marks.kept("marks");
+        }
+        scratch.kept("scratch");
+        table.kept();
+    };
+    let mut all = right();
+    for (number, place, break_it) in breaks {
+        let mut alone = right();
+        break_it(&mut alone);
+        refused(&alone, number, place);
+        break_it(&mut all);
+        refused(&all, number, place);
+    }
+    // Labels and marks of every other length, far above any table's too.
+    for places in [0, 1, 5, 7, 16_384, 16_385, 16_386, 65_536 + 6, 100_000] {
+        let asked = Asked { places, ..right() };
+        refused(&asked, BAD_LENGTH, 0);
+    }
+    let full = || Owned::of(&vec![(1, 2, 3); 16_384]);
+    for places in [16_383, 16_385, 16_386, 2 * 16_384] {
+        let asked = Asked {
+            table: full(),
+            places,
+            scratch: lib::scratch_for(16_384),
+            ..right()
+        };
+        refused(&asked, BAD_LENGTH, 0);
+    }
+    assert_eq!(labels(&full(), 1, 1..=1), [2; 16_384]);
+    assert_eq!(group(&full(), 1, 1..=1, 3), Ok(vec![1; 16_384]));
 }
 
 /// 02, S-1: "In 01's example they are 2, 2, 1, 2, 1 and 13."
@@ -309,6 +541,55 @@ fn null_slices() {
         )
     };
     assert_eq!((number, place, count), (OK, 0, 0));
+    assert!(scratch.iter().all(|&number| number == 0));
+    (place, count) = (7, 7);
+    scratch.fill(1);
+    // SAFETY: NULL with length 0, and a live scratch.
+    let number = unsafe {
+        lib::raw::c::label_groups(
+            none,
+            0,
+            none,
+            0,
+            none,
+            0,
+            1,
+            1,
+            1,
+            std::ptr::null_mut(),
+            0,
+            scratch.as_mut_ptr(),
+            scratch.len(),
+            &mut place,
+            &mut count,
+        )
+    };
+    assert_eq!((number, place, count), (OK, 0, 0));
+    assert!(scratch.iter().all(|&number| number == 0));
+    (place, count) = (7, 7);
+    scratch.fill(1);
+    // SAFETY: NULL with length 0, and a live scratch.
+    let number = unsafe {
+        lib::raw::c::mark_group(
+            none,
+            0,
+            none,
+            0,
+            none,
+            0,
+            1,
+            1,
+            1,
+            0,
+            std::ptr::null_mut(),
+            0,
+            scratch.as_mut_ptr(),
+            scratch.len(),
+            &mut place,
+            &mut count,
+        )
+    };
+    assert_eq!((number, place, count), (NOT_IN_RING, 0, 0));
     assert!(scratch.iter().all(|&number| number == 0));
     let (none8, mut length) = (std::ptr::null::<u8>(), 7);
     // SAFETY: NULL with length 0.
@@ -536,6 +817,18 @@ fn wrappers_name_refusals() {
         lib::window_ring(t, query, 1..=6, &mut marks, &mut scratch[..short]),
         Err(Refusal::Scratch)
     );
+    assert_eq!(
+        lib::label_groups(t, query, 1..=6, &mut [0; 5], &mut scratch),
+        Err(Refusal::BadLength)
+    );
+    assert_eq!(
+        lib::mark_group(t, query, 1..=6, 5, &mut marks, &mut scratch[..short]),
+        Err(Refusal::Scratch)
+    );
+    assert_eq!(
+        lib::mark_group(t, query, 1..=6, 5, &mut marks, &mut scratch),
+        Err(Refusal::NotInRing)
+    );
     let list = Windows {
         row: &[0, 1, 1],
         start: &[1, 1, 1],
@@ -581,15 +874,15 @@ fn refusals_by_number() {
             number,
             BAD_DAY | BAD_ACCOUNTS | DAY_FALLS | BAD_LINE | BAD_FIELD | BAD_NUMBER | BAD_ENTRY
         );
-        let known = number <= BAD_ENTRY;
+        let known = number <= NOT_IN_RING;
         assert_eq!(refusal == Refusal::Unknown(number, 3), !known);
         assert_eq!(refusal.place(), (has_place || !known).then_some(3));
     }
     let said = |number, place| Refusal::of(number, place).unwrap().to_string();
     assert_eq!(said(BAD_DAY, 0), "refused 3 at 0: a day outside 1 to 1,024");
     assert_eq!(said(BAD_K, 0), "refused 6: k outside 1 to 4,095");
-    assert!(said(15, 0).starts_with("refused 15: "));
-    assert!(said(15, 7).starts_with("refused 15 at 7: "));
+    assert!(said(16, 0).starts_with("refused 16: "));
+    assert!(said(16, 7).starts_with("refused 16 at 7: "));
 }
 
 /// One vocabulary: the header, the table of this crate and the README's table

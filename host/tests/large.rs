@@ -1,5 +1,6 @@
 //! Tables of full size, where brute force cannot follow: the calls are held
-//! against each other, and the window ring against a plain peeling.
+//! against each other, the window ring against a plain peeling and its groups
+//! against a plain flood.
 
 mod common;
 
@@ -7,8 +8,8 @@ mod common;
 #[allow(dead_code)]
 mod tables;
 
-use common::{brute, Rng};
-use rumbleog::{self as lib, Days, Listed, Query, Refusal, Table, Windows, NEVER};
+use common::{brute, Owned, Rng};
+use rumbleog::{self as lib, Days, Listed, Query, Refusal, Table, Windows, NEVER, NO_GROUP};
 use tables::{cases, Case, Columns};
 
 /// Entries of three columns, cut at their count.
@@ -153,6 +154,89 @@ fn plain_ring(table: Table, query: Query, window: Days) -> Vec<u8> {
             u8::from(inside(row) && met)
         })
         .collect()
+}
+
+/// Labels of the marked rows by a plain flood: from each account in rising order
+/// that none has reached, to everyone that rows connect.
+fn plain_labels(table: Table, marks: &[u8]) -> Vec<u16> {
+    let marked = || (0..marks.len()).filter(|&row| marks[row] == 1);
+    let mut near = vec![Vec::new(); 4_096];
+    for row in marked() {
+        let (a, b) = (table.first[row], table.second[row]);
+        near[usize::from(a)].push(b);
+        near[usize::from(b)].push(a);
+    }
+    let mut leader = vec![NO_GROUP; 4_096];
+    for from in 0..4_096 {
+        let mut open = vec![from];
+        while let Some(account) = open.pop() {
+            let reached = &mut leader[usize::from(account)];
+            if *reached == NO_GROUP {
+                *reached = from;
+                open.extend(&near[usize::from(account)]);
+            }
+        }
+    }
+    let mut labels = vec![NO_GROUP; marks.len()];
+    for row in marked() {
+        labels[row] = leader[usize::from(table.first[row])];
+    }
+    labels
+}
+
+/// The groups of a window's ring against a plain flood, all labels and the marks
+/// of some accounts. The labels found.
+fn groups_agree(table: Table, query: Query, window: Days, seed: u64) -> Vec<u16> {
+    let rng = &mut Rng(seed);
+    let rows = table.days.len();
+    let mut scratch = vec![0x5a5a; lib::scratch_for(rows) + rng.below(5)];
+    let mut labels = vec![7; rows];
+    let mut marks = vec![7; rows];
+    let ring = plain_ring(table, query, window.clone());
+    let expected = plain_labels(table, &ring);
+    let ones = ring.iter().filter(|&&mark| mark == 1).count();
+    let count = lib::label_groups(table, query, window.clone(), &mut labels, &mut scratch);
+    assert_eq!(count, Ok(ones as u64), "{query:?} {window:?}");
+    assert!(labels == expected, "{query:?} {window:?}");
+    assert!(scratch.iter().all(|&number| number == 0));
+
+    let mut found: Vec<u16> = labels.clone();
+    found.sort();
+    found.dedup();
+    found.retain(|&label| label != NO_GROUP);
+    let mut named: Vec<u16> = vec![0, 4_095, 4_096];
+    named.extend(found.first());
+    named.extend(found.last());
+    for _ in 0..8.min(rows) {
+        let row = rng.below(rows);
+        named.extend([table.first[row], table.second[row]]);
+    }
+    for account in named {
+        let has = |row: usize| [table.first[row], table.second[row]].contains(&account);
+        let label = (0..rows).find(|&row| ring[row] == 1 && has(row));
+        let label = label.map(|row| expected[row]);
+        let same = |row: usize| Some(expected[row]) == label;
+        let count = (0..rows).filter(|&row| same(row)).count();
+        scratch.fill(0x5a5a);
+        marks.fill(7);
+        let got = lib::mark_group(
+            table,
+            query,
+            window.clone(),
+            account,
+            &mut marks,
+            &mut scratch,
+        );
+        assert!(scratch.iter().all(|&number| number == 0), "{account}");
+        if label.is_none() {
+            assert_eq!(got, Err(Refusal::NotInRing), "{account}");
+            assert!(marks.iter().all(|&mark| mark == 7), "{account}");
+        } else {
+            assert_eq!(got, Ok(count as u64), "{account}");
+            assert!((0..rows).all(|row| marks[row] == u8::from(same(row))));
+        }
+    }
+    found
 }
 
 /// What one table says, and that its parts agree. The number of windows tried.
@@ -341,6 +425,129 @@ fn middle_tables_agree() {
     }
 }
 
+/// Numbers 0 to n - 1 in some order.
+fn shuffled(rng: &mut Rng, n: usize) -> Vec<usize> {
+    let mut order: Vec<usize> = (0..n).collect();
+    for i in (1..n).rev() {
+        order.swap(i, rng.below(i + 1));
+    }
+    order
+}
+
+/// Payments in this order, 16 a day.
+fn in_order(pairs: impl IntoIterator<Item = (u16, u16)>) -> Owned {
+    let mut table = Owned::default();
+    for (row, (a, b)) in pairs.into_iter().enumerate() {
+        table.push(1 + (row / 16) as u16, a, b);
+    }
+    table
+}
+
+/// All accounts on one path, its payments in some orders and its accounts under
+/// some names: one group. Half of its payments have no circle, so each joins two
+/// parts: there are as many groups as accounts more than payments.
+#[test]
+fn groups_on_a_path() {
+    let rng = &mut Rng(41);
+    let plain: Vec<usize> = (0..4_096).collect();
+    let names = [
+        plain.clone(),
+        plain.iter().rev().copied().collect(),
+        // Low and high by turns.
+        plain.iter().map(|i| i / 2 + i % 2 * 2_048).collect(),
+        shuffled(rng, 4_096),
+    ];
+    let steps: Vec<usize> = (0..4_095).collect();
+    // Pairs first, then pairs of pairs, and so on.
+    let mut doubled = steps.clone();
+    doubled.sort_by_key(|&step| (step + 1).trailing_zeros());
+    let orders = [
+        steps.clone(),
+        steps.iter().rev().copied().collect(),
+        shuffled(rng, 4_095),
+        doubled,
+    ];
+    for names in &names {
+        for order in &orders {
+            let name = |i: usize| names[i] as u16;
+            let table = in_order(order.iter().map(|&i| (name(i), name(i + 1))));
+            let (table, query) = (table.lend(), Query { k: 1 });
+            assert_eq!(groups_agree(table, query, 1..=1_024, 1), [0]);
+            let half = [&table.first[..2_048], &table.second[..2_048]].concat();
+            let met: std::collections::BTreeSet<u16> = half.into_iter().collect();
+            let found = groups_agree(table, query, 1..=128, 2);
+            assert_eq!(found.len(), met.len() - 2_048);
+            groups_agree(table, query, 100..=200, 3);
+            // A path has no ring for k = 2.
+            assert_eq!(groups_agree(table, Query { k: 2 }, 1..=1_024, 4), []);
+        }
+    }
+}
+
+#[test]
+fn groups_of_stars_and_pairs() {
+    let rng = &mut Rng(42);
+    let query = Query { k: 1 };
+    for centre in [0, 2_048, 4_095] {
+        let others = shuffled(rng, 4_096);
+        let others = others.iter().map(|&other| other as u16);
+        let rays = others.filter(|&other| other != centre);
+        let table = in_order(rays.map(|other| (centre, other)));
+        assert_eq!(groups_agree(table.lend(), query, 1..=1_024, 5), [0]);
+        groups_agree(table.lend(), query, 100..=200, 6);
+    }
+    let names = shuffled(rng, 4_096);
+    // Neighbours, the first with the last and so on, any two.
+    let neighbours: Vec<usize> = (0..4_096).collect();
+    let nested = (0..2_048).flat_map(|i| [i, 4_095 - i]).collect();
+    for names in [neighbours, nested, names] {
+        let pairs = names.chunks(2).map(|pair| (pair[0] as u16, pair[1] as u16));
+        let table = in_order(pairs);
+        let found = groups_agree(table.lend(), query, 1..=1_024, 7);
+        assert_eq!(found.len(), 2_048);
+        assert_eq!(groups_agree(table.lend(), query, 2..=3, 8).len(), 32);
+    }
+}
+
+/// Full tables: drawn among all accounts, or in parties of one size that rarely
+/// deal with others, and those of the benchmark.
+#[test]
+fn groups_of_full_tables() {
+    let rng = &mut Rng(43);
+    let mut most = 0;
+    for size in [4_096, 1_024, 64, 16, 8, 6] {
+        for between in [16_384, 400, 20] {
+            let names = shuffled(rng, 4_096);
+            let mut table = Owned::default();
+            while table.rows() < 16_384 {
+                let a = rng.below(4_096);
+                let near = a / size * size + rng.below(size.min(4_096 - a / size * size));
+                let b = match rng.once_in(between) {
+                    true => rng.below(4_096),
+                    false => near,
+                };
+                if a != b {
+                    let day = 1 + (table.rows() / 16) as u16;
+                    table.push(day, names[a] as u16, names[b] as u16);
+                }
+            }
+            for k in 1..=6 {
+                for window in [1..=1_024, 200..=900, 512..=767, 1_000..=1_024] {
+                    let found = groups_agree(table.lend(), Query { k }, window, 9);
+                    most = most.max(found.len());
+                }
+            }
+        }
+    }
+    assert!(most > 600, "{most} groups only");
+    for case in cases(16_384) {
+        for window in [case.range(), 300..=700] {
+            groups_agree(case.lend(), case.query(), window, 10);
+        }
+    }
+    println!("groups of full tables: up to {most} of one ring");
+}
+
 /// Listing and minimal windows rebuilt from the window rings of ALL windows.
 #[test]
 fn lists_rebuilt_from_all_window_rings() {
@@ -503,6 +710,8 @@ fn eight_threads() {
         Vec<u8>,
         Vec<u32>,
         Listed,
+        Vec<u16>,
+        Vec<u8>,
     );
     let case = &cases(4_096)[4];
     fn answers(case: &Case) -> Answers {
@@ -532,6 +741,11 @@ fn eight_threads() {
         lib::window_ring(table, query, 90..=900, &mut marks, &mut scratch).unwrap();
         let mut recalled = vec![0; rows];
         lib::recall(table, windows.windows(), 90..=900, &mut recalled).unwrap();
+        let mut labels = vec![0; rows];
+        lib::label_groups(table, query, 90..=900, &mut labels, &mut scratch).unwrap();
+        let mut group = vec![0; rows];
+        let named = table.second[marks.iter().position(|&mark| mark == 1).unwrap()];
+        lib::mark_group(table, query, 90..=900, named, &mut group, &mut scratch).unwrap();
         (
             rings.list.c,
             windows.c,
@@ -541,6 +755,8 @@ fn eight_threads() {
             recalled,
             rings.windows,
             listed,
+            labels,
+            group,
         )
     }
     let alone = answers(case);

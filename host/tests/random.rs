@@ -33,7 +33,7 @@ impl Seen {
     fn report(&self, call: &str, cases: u64, all: &[u32]) {
         println!(
             "{call}: {cases} random cases; by refusal number {:?}",
-            &self.0[..15]
+            self.0
         );
         for &number in [OK].iter().chain(&TABLE).chain(all) {
             assert!(self.0[number as usize] > 0, "{call}: no case met {number}");
@@ -102,6 +102,231 @@ fn window_rings() {
         cases,
         &[BAD_K, BAD_RANGE, BAD_LENGTH, SCRATCH],
     );
+}
+
+/// A table for the groups of its rings, and a window of it.
+fn some_parts(rng: &mut Rng) -> (Owned, Days) {
+    let mut table = match rng.once_in(3) {
+        true => small_table(rng, 18),
+        false => parted_table(rng, 40),
+    };
+    if rng.once_in(5) {
+        damage(rng, &mut table);
+    }
+    let window = some_range(rng, &table);
+    (table, window)
+}
+
+#[test]
+fn group_labels() {
+    let mut rng = Rng(11);
+    let mut seen = Seen([0; 16]);
+    let cases = 40_000;
+    for case in 0..cases {
+        let (table, window) = some_parts(&mut rng);
+        let query = some_query(&mut rng);
+        let length = some_length(&mut rng, table.rows());
+        let mut labels = Lent::<u16>::new(&mut rng, length);
+        let length = some_scratch(&mut rng, table.rows());
+        let mut scratch = Lent::<u16>::new(&mut rng, length);
+        let lent = LentTable::new(&mut rng, &table);
+
+        let mut want_labels = labels.get().to_vec();
+        let mut want_scratch = scratch.get().to_vec();
+        let expected = brute::label_groups(
+            table.lend(),
+            query,
+            window.clone(),
+            &mut want_labels,
+            &mut want_scratch,
+        );
+        let got = label_groups(
+            lent.lend(),
+            query,
+            window.clone(),
+            labels.get_mut(),
+            scratch.get_mut(),
+        );
+        assert_eq!(got, expected, "case {case}: {query:?} {window:?} {table:?}");
+        labels.holds(&want_labels, "labels");
+        scratch.holds(&want_scratch, "scratch");
+        lent.kept();
+        seen.0[expected.number as usize] += 1;
+    }
+    seen.report(
+        "label_groups",
+        cases,
+        &[BAD_K, BAD_RANGE, BAD_LENGTH, SCRATCH],
+    );
+}
+
+#[test]
+fn group_marks() {
+    let mut rng = Rng(12);
+    let mut seen = Seen([0; 16]);
+    let cases = 60_000;
+    for case in 0..cases {
+        let (table, window) = some_parts(&mut rng);
+        let query = some_query(&mut rng);
+        let met = [&table.first[..], &table.second[..], &[1]].concat();
+        let account = match rng.below(10) {
+            0 => rng.pick(&[0, 4_095, 4_096, 4_097, 65_535]),
+            1 => rng.below(12) as u16,
+            _ => rng.pick(&met),
+        };
+        let length = some_length(&mut rng, table.rows());
+        let mut marks = Lent::<u8>::new(&mut rng, length);
+        let length = some_scratch(&mut rng, table.rows());
+        let mut scratch = Lent::<u16>::new(&mut rng, length);
+        let lent = LentTable::new(&mut rng, &table);
+
+        let mut want_marks = marks.get().to_vec();
+        let mut want_scratch = scratch.get().to_vec();
+        let expected = brute::mark_group(
+            table.lend(),
+            query,
+            window.clone(),
+            account,
+            &mut want_marks,
+            &mut want_scratch,
+        );
+        let got = mark_group(
+            lent.lend(),
+            query,
+            window.clone(),
+            account,
+            marks.get_mut(),
+            scratch.get_mut(),
+        );
+        assert_eq!(
+            got, expected,
+            "case {case}: {query:?} {window:?} of {account} {table:?}"
+        );
+        marks.holds(&want_marks, "marks");
+        scratch.holds(&want_scratch, "scratch");
+        lent.kept();
+        seen.0[expected.number as usize] += 1;
+    }
+    seen.report(
+        "mark_group",
+        cases,
+        &[BAD_K, BAD_RANGE, BAD_LENGTH, SCRATCH, NOT_IN_RING],
+    );
+}
+
+/// The rows of a table that a test keeps, as a table.
+fn only(table: &Owned, keep: impl Fn(usize) -> bool) -> Owned {
+    let rows: Vec<_> = (0..table.rows())
+        .filter(|&row| keep(row))
+        .map(|row| (table.days[row], table.first[row], table.second[row]))
+        .collect();
+    Owned::of(&rows)
+}
+
+/// Every window, every k and every account of a table: groups together are the
+/// ring, each by itself is its own ring, and marks are the rows of one label.
+#[test]
+fn groups_agree() {
+    let mut rng = Rng(13);
+    let (mut rings, mut several) = (0, 0);
+    for case in 0..600 {
+        let table = parted_table(&mut rng, 48);
+        let lent = table.lend();
+        let rows = table.rows();
+        let mut scratch = vec![7; 8_192 + 4 * rows];
+        let (mut ring, mut marks, mut labels) = (vec![7; rows], vec![7; rows], vec![7; rows]);
+        let mut want = vec![7; rows];
+        for (s, e) in (1..=4).flat_map(|s| (s..=4).map(move |e| (s, e))) {
+            for k in [0, 1, 2, 3, 4, 5, 4_095, 4_096] {
+                let query = Query { k };
+                let what = format!("case {case}: {query:?} [{s},{e}] {table:?}");
+                let told = label_groups(lent, query, s..=e, &mut labels, &mut scratch);
+                let expected = brute::label_groups(lent, query, s..=e, &mut want, &mut scratch);
+                assert_eq!(told, expected, "{what}");
+                assert_eq!(labels, want, "{what}");
+                let number = window_ring(lent, query, s..=e, &mut ring, &mut scratch);
+                assert_eq!(told, number, "{what}");
+                if told.number != OK {
+                    continue;
+                }
+                for row in 0..rows {
+                    assert_eq!(labels[row] == 65_535, ring[row] == 0, "{what}");
+                }
+                let mut found: Vec<u16> = labels.clone();
+                found.sort();
+                found.dedup();
+                found.retain(|&label| label != 65_535);
+                rings += u64::from(!found.is_empty());
+                several += u64::from(found.len() > 1);
+                for label in found {
+                    let group = only(&table, |row| labels[row] == label);
+                    let mut own = vec![7; group.rows()];
+                    window_ring(group.lend(), query, s..=e, &mut own, &mut scratch);
+                    assert!(own.iter().all(|&mark| mark == 1), "{label} of {what}");
+                }
+                for account in (0..12).chain([2_048, 4_094, 4_095, 4_096, 4_100]) {
+                    let has = |row: usize| [table.first[row], table.second[row]].contains(&account);
+                    let met = (0..rows).find(|&row| ring[row] == 1 && has(row));
+                    marks.fill(7);
+                    let told = mark_group(lent, query, s..=e, account, &mut marks, &mut scratch);
+                    let Some(met) = met else {
+                        assert_eq!(told.number, NOT_IN_RING, "{account} of {what}");
+                        assert!(marks.iter().all(|&mark| mark == 7));
+                        continue;
+                    };
+                    assert_eq!(told.number, OK, "{account} of {what}");
+                    for row in 0..rows {
+                        let same = labels[row] == labels[met];
+                        assert_eq!(marks[row], u8::from(same), "{account} of {what}");
+                    }
+                }
+            }
+        }
+    }
+    println!("groups: {rings} rings, {several} of several groups, with every account");
+    assert!(several > 1_000, "{several} only");
+}
+
+/// The brute-force groups are those of the accounts that a walk along rows
+/// reaches: from each account to each, by way of the accounts one by one.
+#[test]
+fn brute_groups_are_reached() {
+    let mut rng = Rng(14);
+    let cases = 2_000;
+    for case in 0..cases {
+        let table = parted_table(&mut rng, 24);
+        let rows = brute::window_rows(table.lend(), 1..=2);
+        let mut accounts: Vec<u16> = Vec::new();
+        for &row in &rows {
+            accounts.extend([table.first[row], table.second[row]]);
+        }
+        accounts.sort();
+        accounts.dedup();
+        let at = |account: u16| accounts.binary_search(&account).unwrap();
+        let number = accounts.len();
+        let mut reached = vec![vec![false; number]; number];
+        for &row in &rows {
+            let (a, b) = (at(table.first[row]), at(table.second[row]));
+            reached[a][b] = true;
+            reached[b][a] = true;
+        }
+        for by in 0..number {
+            for from in 0..number {
+                for to in 0..number {
+                    reached[from][to] |= reached[from][by] && reached[by][to];
+                }
+            }
+        }
+        let expected: std::collections::BTreeSet<brute::Group> = (0..number)
+            .map(|from| {
+                let to = (0..number).filter(|&to| reached[from][to]);
+                to.map(|to| accounts[to]).collect()
+            })
+            .collect();
+        let groups = brute::groups(table.lend(), &rows);
+        assert_eq!(groups, expected, "case {case}: {table:?}");
+    }
+    println!("brute groups against walks: {cases} random cases");
 }
 
 #[test]

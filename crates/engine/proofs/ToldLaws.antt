@@ -23,6 +23,7 @@ use Rattle.text.specs.Writer.{textAfter}
 use Rattle.text.specs.declared.report.Report.{Report as TextReport}
 use Rattle.text.specs.declared.table.TableRead.{TableRead}
 use Rattle.text.specs.declared.writer.TableWritten.{TableWritten}
+use Rattle.groups.specs.GroupCalls.{labelColumn, groupMarks}
 use Rattle.listing.specs.ListingCall.{Columns as RingColumns, listingColumns, listingScratch, listingReport, listingSum, listingEmpty}
 use Rattle.listing.specs.Program.{Outcome}
 use Rattle.listing.specs.ProgramText.{listOutput, printedReport}
@@ -54,6 +55,18 @@ pub refusal-told : (r : Refusal) {t : RingsTold} {p : ℕ} → t ≡ toldOf r �
 unfolding toldOf refused placeOf
 refusal-told r {t} e l = ap (row (t .number)) l ∙ ap (λ (x : RingsTold). row (x .number) (placeNumber (x .place))) e
 
+-- a call that counts and writes one column
+counted-told : (after : Counted → List ℕ) (before : List ℕ) {v a : Counted} {n : Numbers} {column scratch : List ℕ}
+    → v ≡ a → column ≡ after v → scratch ≡ countedScratch v before → n ≡ numbers (countedReport v)
+    → (n .number ≡ countedReport a .number)
+    × (n .place ≡ countedReport a .place)
+    × (n .count ≡ countedReport a .count)
+    × (column ≡ after a)
+    × (scratch ≡ countedScratch a before)
+counted-told after before answer column scratch h =
+    let n = told countedReport answer h in
+    (n .number, n .place, n .count, column ∙ ap after answer, scratch ∙ ap (λ v. countedScratch v before) answer)
+
 pub ring-told : (t : Table) (q : Query) (s e : ℕ) (old before : List ℕ) {v a : Counted} {n : Numbers} {marks scratch : List ℕ}
     → v ≡ a → marks ≡ ringMarks v t q s e old → scratch ≡ countedScratch v before → n ≡ numbers (countedReport v)
     → (n .number ≡ countedReport a .number)
@@ -61,9 +74,25 @@ pub ring-told : (t : Table) (q : Query) (s e : ℕ) (old before : List ℕ) {v a
     × (n .count ≡ countedReport a .count)
     × (marks ≡ ringMarks a t q s e old)
     × (scratch ≡ countedScratch a before)
-ring-told t q s e old before answer marks scratch h =
-    let n = told countedReport answer h in
-    (n .number, n .place, n .count, marks ∙ ap (λ v. ringMarks v t q s e old) answer, scratch ∙ ap (λ v. countedScratch v before) answer)
+ring-told t q s e old before = counted-told (λ v. ringMarks v t q s e old) before
+
+pub label-told : (t : Table) (q : Query) (s e : ℕ) (old before : List ℕ) {v a : Counted} {n : Numbers} {labels scratch : List ℕ}
+    → v ≡ a → labels ≡ labelColumn v t q s e old → scratch ≡ countedScratch v before → n ≡ numbers (countedReport v)
+    → (n .number ≡ countedReport a .number)
+    × (n .place ≡ countedReport a .place)
+    × (n .count ≡ countedReport a .count)
+    × (labels ≡ labelColumn a t q s e old)
+    × (scratch ≡ countedScratch a before)
+label-told t q s e old before = counted-told (λ v. labelColumn v t q s e old) before
+
+pub group-told : (t : Table) (q : Query) (s e u : ℕ) (old before : List ℕ) {v a : Counted} {n : Numbers} {marks scratch : List ℕ}
+    → v ≡ a → marks ≡ groupMarks v t q s e u old → scratch ≡ countedScratch v before → n ≡ numbers (countedReport v)
+    → (n .number ≡ countedReport a .number)
+    × (n .place ≡ countedReport a .place)
+    × (n .count ≡ countedReport a .count)
+    × (marks ≡ groupMarks a t q s e u old)
+    × (scratch ≡ countedScratch a before)
+group-told t q s e u old before = counted-told (λ v. groupMarks v t q s e u old) before
 
 pub times-told : (t : Table) (q : Query) (te s : ℕ) (old old′ before : List ℕ) {v a : Verdict} {n : Numbers} {accounts rows scratch : List ℕ}
     → v ≡ a → accounts ≡ accountColumn v t q te s old → rows ≡ rowColumn v t q te s old′ → scratch ≡ verdictScratch v before → n ≡ numbers (verdictReport v)

@@ -3,6 +3,7 @@
 // Each returns the number of its refusal, 0 for none, and always writes the numbers that it is lent.
 
 mod checking;
+mod grouping;
 mod listings;
 mod longest;
 mod numbers;

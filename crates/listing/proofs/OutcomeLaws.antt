@@ -1,6 +1,6 @@
 -- How large an outcome can be: what a program that prints it has to hold.
 --     ringsIn, numberIn, lineIn    the rings of an outcome; a refusal's number and input line
---     Bounded, bounded         2,048 rings, number 14, line 18,450 are the most
+--     Bounded, bounded         2,048 rings, number 15, line 18,450 are the most
 --     TextAnswer, text-answer, RefusedAnswer, refused-answer    what stands behind the list call's answer, for an output of 45,078 bytes: it holds every text
 -- Assumes nothing.
 use Prim.Native.Nat.{ℕ, _+_, _*_, _≤_}
@@ -27,7 +27,7 @@ use Rattle.rings.specs.Buffers.{over}
 use Rattle.rings.specs.declared.Query.{Query}
 use Rattle.rings.specs.declared.refusal.Refusal.{Refusal}
 use Rattle.rings.specs.declared.refusal.Refusal.the-variants.{ColumnsDiffer, TooLarge, BadDay, BadAccounts, DayFalls, BadK}
-use Rattle.rings.specs.declared.refusal.Refusal.the-variants.{BadRange, BadLength, Scratch, NoRoom, BadEntry}
+use Rattle.rings.specs.declared.refusal.Refusal.the-variants.{BadRange, BadLength, Scratch, NoRoom, BadEntry, NotInRing}
 use Rattle.listing.specs.Listing.{ListedRing, listing}
 use Rattle.listing.specs.ListingCall.{each, listingAnswer}
 use Rattle.listing.specs.Program.{Outcome, found, stopped, placeLine, inputLine, stoppedBy, unlessRefused, tableOf}
@@ -52,14 +52,14 @@ lineIn (stopped n line) = line
 
 pub record Bounded (o : Outcome) : Type 0 where
   pub rings : ringsIn o ≤ mostListed
-  pub number : numberIn o ≤ 14
+  pub number : numberIn o ≤ 15
   pub line : lineIn o ≤ mostInput + 2
 
-stops : (n line : ℕ) → n ≤ 14 → line ≤ mostInput + 2 → Bounded (stopped n line)
+stops : (n line : ℕ) → n ≤ 15 → line ≤ mostInput + 2 → Bounded (stopped n line)
 unfolding ringsIn numberIn lineIn
 stops n line a b = record { rings = omega arith; number = a; line = b }
 
-number-most : (r : Refusal) → numberOf r ≤ 14
+number-most : (r : Refusal) → numberOf r ≤ 15
 unfolding numberOf
 number-most ColumnsDiffer = omega arith
 number-most TooLarge = omega arith
@@ -72,6 +72,7 @@ number-most BadLength = omega arith
 number-most Scratch = omega arith
 number-most NoRoom = omega arith
 number-most (BadEntry i) = omega arith
+number-most NotInRing = omega arith
 
 place-most : (p : Place) → placeLine p ≤ placeNumber p + 2
 place-most Nowhere = omega arith
@@ -139,7 +140,7 @@ pub record TextAnswer (o : Outcome) (n : ℕ) (now : List ℕ) : Type 0 where
   pub is : take n now ≡ outcomeText o
 
 pub record RefusedAnswer (o : Outcome) (n line : ℕ) (old now : List ℕ) : Type 0 where
-  pub number : n ≤ 14
+  pub number : n ≤ 15
   pub place : line ≤ mostInput + 2
   pub kept : now ≡ old
   pub is : refusedLine n line ≡ outcomeText o

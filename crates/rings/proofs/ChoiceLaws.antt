@@ -7,7 +7,7 @@ use native.Mathlib.Omega.{arith}
 use mathlib.Core.Path.{_≡_, _∙_}
 use mathlib.Core.Logic.{⊎-elim}
 use mathlib.Core.Bool.{Bool}
-use Rattle.rings.specs.Inner.Choice.{Picked}
+use Rattle.rings.specs.Choice.{Picked}
 use Rattle.rings.proofs.WordLaws.{true-or-false}
 
 pub picked-most : {test : Bool} {r : ℕ} → Picked test 1 0 r → r ≤ 1

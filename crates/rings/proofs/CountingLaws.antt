@@ -28,7 +28,7 @@ use Rattle.rings.specs.Inner.Adjacency.{openDay, opensBy}
 use Rattle.rings.specs.Inner.Peeling.{Setting, frameOf, estimate, CoreTimesAre}
 use Rattle.rings.specs.Inner.Counting.{timeBy, IsTime, Histogram, WhereCounted, pendingOn, PendingHistogram}
 use Rattle.rings.specs.Inner.Counting.{Adding, Removing, Taking, HasOne, AddAsks, RemoveAsks}
-use Rattle.rings.specs.Inner.Choice.{Picked}
+use Rattle.rings.specs.Choice.{Picked}
 use Rattle.rings.proofs.WordLaws.{true-or-false, sucIf-yes, sucIf-no, count-le, count-same, count-none}
 use Rattle.rings.proofs.WordLaws.{count-pos, same-or}
 use Rattle.rings.proofs.ChoiceLaws.{picked-most}

@@ -6,7 +6,6 @@
 --     setting-of     what peeling works on
 --     ready-of, framed-of, ready-pairs-of, ready-pruned-of, ready-pruned-framed, pruned-paired    with
 --         an adjacency, with a part of it, with none
---     rising-all     days never fall, over any distance
 -- Assumes nothing.
 use Prim.Native.Nat.{ℕ, zero, suc, _+_, _≤_, _<_}
 use native.Mathlib.Nat.{le-refl, le-trans, eq-or-lt-of-le, not-suc-le-zero, le-of-suc-le-suc}
@@ -24,6 +23,7 @@ use Rattle.rings.specs.Inner.Adjacency.{Adjacency, Paired, PrunedAdjacen
 use Rattle.rings.specs.Inner.Peeling.{Setting, Ready, Framed, ReadyPairs, ReadyPruned, frameOf, Span}
 use Rattle.rings.specs.declared.frame.Frame.{Frame}
 use Rattle.rings.specs.declared.Query.{Query}
+use Rattle.rings.proofs.TableLaws.{rising-all}
 use Rattle.rings.proofs.WordLaws.{true-or-false}
 
 pub record LinearSearch (d : List ℕ) (day r : ℕ) : Type 0 where
@@ -41,13 +41,6 @@ linear-next {d} {day} {r} S l h =
       before = λ j k. ⊎-elim (λ e. subst (λ (c : ℕ). getD d c 0 < day) (sym e) h) (λ o. S .before j o)
           (eq-or-lt-of-le (omega arith));
     }
-
--- days never fall, over any distance
-pub rising-all : (d : List ℕ) → NeverFall d → (i j : ℕ) → i ≤ j → j < length d → getD d i 0 ≤ getD d j 0
-rising-all d up i zero h l = let e : i ≡ 0 = omega arith in rw e (le-refl (getD d 0 0))
-rising-all d up i (suc j) h l =
-    ⊎-elim (λ e. rw e (le-refl (getD d (suc j) 0)))
-    (λ o. le-trans (rising-all d up i j (le-of-suc-le-suc o) (omega arith)) (up .next j l)) (eq-or-lt-of-le h)
 
 -- the rows below low are dated before the day, those from high on are not
 pub record BinarySearch (d : List ℕ) (day low high : ℕ) : Type 0 where

@@ -18,7 +18,7 @@ use Rattle.rings.specs.Words.{sucIf}
 use Rattle.rings.specs.Table.{Table, tableOf, dayOf}
 use Rattle.rings.specs.Ring.{touches}
 use Rattle.rings.specs.CoreTimes.{never}
-use Rattle.rings.specs.Inner.Choice.{Picked}
+use Rattle.rings.specs.Choice.{Picked}
 use Rattle.rings.specs.Inner.Adjacency.{otherOf, Reading, Every}
 use Rattle.rings.specs.Inner.Incident.{RowRead}
 use Rattle.rings.specs.Inner.Peeling.{ReadyPruned, estimate}

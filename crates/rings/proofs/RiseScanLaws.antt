@@ -22,7 +22,7 @@ use Rattle.rings.specs.Words.{_and_, count}
 use Rattle.rings.specs.Table.{Table, tableOf, size, dayOf}
 use Rattle.rings.specs.Ring.{touches}
 use Rattle.rings.specs.CoreTimes.{never}
-use Rattle.rings.specs.Inner.Choice.{Picked}
+use Rattle.rings.specs.Choice.{Picked}
 use Rattle.rings.specs.Inner.Adjacency.{otherOf, pairCounts, leads, Reading, Every}
 use Rattle.rings.specs.Inner.Incident.{RowRead}
 use Rattle.rings.specs.Inner.Peeling.{ReadyPruned, Place, estimate}

@@ -21,7 +21,7 @@ use borrow.Author.Tests.{leb-true, leb-false, ltb-true, ltb-false, eqb-false, le
 use Rattle.rings.specs.Table.{Table, tableOf, dayOf}
 use Rattle.rings.specs.Ring.{touches}
 use Rattle.rings.specs.CoreTimes.{never}
-use Rattle.rings.specs.Inner.Choice.{Picked}
+use Rattle.rings.specs.Choice.{Picked}
 use Rattle.rings.specs.Inner.Adjacency.{otherOf, leads, Reading, Every}
 use Rattle.rings.specs.Inner.Incident.{RowRead}
 use Rattle.rings.specs.Inner.Peeling.{ReadyPruned, Place, estimate}

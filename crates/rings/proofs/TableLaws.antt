@@ -3,9 +3,10 @@
 --     pass-start, pass-next, pass-refused, pass-end    the loop's laws
 --     table-sound              what the checks say of an accepted table
 --     row-here     the row that is checked
+--     rising-all               days never fall, over any distance
 -- Assumes nothing.
-use Prim.Native.Nat.{ℕ, suc, _+_, _≤_, _<_}
-use native.Mathlib.Nat.{eq-or-lt-of-le, not-suc-le-zero, le-of-suc-le-suc}
+use Prim.Native.Nat.{ℕ, zero, suc, _+_, _≤_, _<_}
+use native.Mathlib.Nat.{le-refl, le-trans, eq-or-lt-of-le, not-suc-le-zero, le-of-suc-le-suc}
 use native.Mathlib.Numerals.{add-one}
 use native.Mathlib.Omega.{arith}
 use mathlib.Core.Path.{_≡_, refl, sym, ap, subst}
@@ -17,7 +18,7 @@ use lib.Dec.{leb, ltb, eqb}
 use borrow.Author.Tests.{leb-true, ltb-true, ltb-false, eqb-true}
 use Rattle.rings.specs.Words.{_and_, _or_, no, at, tabulate}
 use Rattle.rings.specs.Table.{tableOf, dayOf, firstOf, secondOf}
-use Rattle.rings.specs.Sound.{Sound}
+use Rattle.rings.specs.Sound.{NeverFall, Sound}
 use Rattle.rings.specs.Checks.{_when_, _then_, inOrder}
 use Rattle.rings.specs.TableCheck.{dayBefore, rowFaults, rowCheck, tableCheck}
 use Rattle.rings.specs.declared.refusal.Refusal.{Refusal}
@@ -129,3 +130,10 @@ table-sound d f s e =
         → (1 ≤ getD d j 0) × (getD d j 0 ≤ 1024) × (getD f j 0 < getD s j 0) × (getD s j 0 ≤ 4095)
         × (dayBefore (tableOf d f s) j ≤ getD d j 0)
     row h j l = row-sound d f s j (all-accepted (rowCheck (tableOf d f s)) 0 (length d) h j (omega arith) (omega arith))
+
+-- days never fall, over any distance
+pub rising-all : (d : List ℕ) → NeverFall d → (i j : ℕ) → i ≤ j → j < length d → getD d i 0 ≤ getD d j 0
+rising-all d up i zero h l = let e : i ≡ 0 = omega arith in rw e (le-refl (getD d 0 0))
+rising-all d up i (suc j) h l =
+    ⊎-elim (λ e. rw e (le-refl (getD d (suc j) 0)))
+    (λ o. le-trans (rising-all d up i j (le-of-suc-le-suc o) (omega arith)) (up .next j l)) (eq-or-lt-of-le h)

@@ -5,7 +5,7 @@
 --     entry, two-entries minimal-window lists of one and of two entries, as lent columns
 --     CheckRows, check-rows-hold      the table, a field for each row, and the theorem
 --     says n p                        the report of a refusal: number n, place p
---     CallNumbers, call-numbers-hold  01's numbers 1 to 10 and 14 as the calls give them: a table of a row each, and the theorem
+--     CallNumbers, call-numbers-hold  01's numbers 1 to 10 and 14 as the calls give them, and 02's 15: a table of a row each, and the theorem
 use Prim.Native.Nat.{ℕ}
 use mathlib.Core.Path.{_≡_, refl}
 use mathlib.Core.Bool.{true}
@@ -14,8 +14,8 @@ use lib.ListN.{length, replicate}
 use lib.Dec.{ltb, eqb}
 use Rattle.rings.specs.Table.{Table}
 use Rattle.rings.specs.CoreTimes.{rowTime}
-use Rattle.rings.specs.Refusals.{Report, verdictReport, countedReport}
-use Rattle.rings.specs.Buffers.{countedScratch, verdictScratch}
+use Rattle.rings.specs.Refusals.{Report, refused, verdictReport, countedReport}
+use Rattle.rings.specs.Buffers.{scratchOn, countedScratch, verdictScratch}
 use Rattle.rings.specs.TableCheck.{tableCheck}
 use Rattle.rings.specs.WindowRingCall.{ringAnswer, ringMarks}
 use Rattle.rings.specs.CoreTimesCall.{timesAnswer, rowColumn}
@@ -25,7 +25,7 @@ use Rattle.rings.specs.Compute.{compute}
 use Rattle.rings.specs.declared.Query.{Query}
 use Rattle.rings.specs.declared.refusal.Refusal.the-variants.{ColumnsDiffer, TooLarge, BadDay, BadAccounts}
 use Rattle.rings.specs.declared.refusal.Refusal.the-variants.{BadK, BadRange, BadLength, Scratch, NoRoom}
-use Rattle.rings.specs.declared.refusal.Refusal.the-variants.{BadEntry}
+use Rattle.rings.specs.declared.refusal.Refusal.the-variants.{BadEntry, NotInRing}
 use Rattle.rings.specs.declared.refusal.Verdict.the-variants.{Accepted, Refused}
 use Rattle.rings.specs.declared.refusal.Counted.{Counted}
 
@@ -177,6 +177,9 @@ pub record CallNumbers : Type 0 where
   pub number-9 : verdictReport (timesAnswer season (ask 2) 1 6 1 4096 6 8215) ≡ says 9 0
   pub number-10 : countedReport (minimalAnswer season (ask 2) 1 6 0 0 0 8216) ≡ says 10 0
   pub number-14 : verdictReport (recallAnswer season (two-entries 1 1 2 0 1 2) 1 6 6) ≡ says 14 1
+  -- 02, S-4: 15 has place 0 and stands behind 9. Its call is Mark group, above
+  pub number-15 : refused NotInRing ≡ says 15 0
+  pub scratch-15 : scratchOn NotInRing (replicate 3 9) ≡ replicate 3 0
 
 pub call-numbers-hold : CallNumbers
 unfolding compute
@@ -193,4 +196,6 @@ call-numbers-hold = record {
   number-9 = refl;
   number-10 = refl;
   number-14 = refl;
+  number-15 = refl;
+  scratch-15 = refl;
 }

@@ -1,6 +1,5 @@
 -- What the inner functions promise one another. No call's contract speaks of these, and no other crate cites them
 -- (tools/surface.py looks): the states of specs/Starts.antt are made of them, and stay shut.
-pub mod Choice
 pub mod Adjacency
 pub mod Incident
 pub mod Support

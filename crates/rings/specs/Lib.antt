@@ -12,6 +12,7 @@ pub mod WindowRingCall
 pub mod CoreTimesCall
 pub mod MinimalWindowsCall
 pub mod RecallCall
+pub mod Choice
 pub mod Compute
 pub mod CheckRows
 pub mod Inner

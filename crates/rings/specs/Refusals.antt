@@ -13,7 +13,7 @@ use mathlib.Core.Bool.{Bool, true, false}
 use Rattle.rings.specs.declared.refusal.Refusal.{Refusal}
 use Rattle.rings.specs.declared.refusal.Refusal.the-variants.{ColumnsDiffer, TooLarge, BadDay, BadAccounts}
 use Rattle.rings.specs.declared.refusal.Refusal.the-variants.{DayFalls, BadK, BadRange, BadLength, Scratch}
-use Rattle.rings.specs.declared.refusal.Refusal.the-variants.{NoRoom, BadEntry}
+use Rattle.rings.specs.declared.refusal.Refusal.the-variants.{NoRoom, BadEntry, NotInRing}
 use Rattle.rings.specs.declared.refusal.Place.{Place}
 use Rattle.rings.specs.declared.refusal.Place.the-variants.{Nowhere, Row, Entry}
 use Rattle.rings.specs.declared.refusal.Told.{Told}
@@ -39,6 +39,8 @@ ruleOf BadLength = record { number = 8; place = Nowhere; behind-scratch = false 
 ruleOf Scratch = record { number = 9; place = Nowhere; behind-scratch = false }
 ruleOf NoRoom = record { number = 10; place = Nowhere; behind-scratch = true }
 ruleOf (BadEntry i) = record { number = 14; place = Entry i; behind-scratch = false }
+-- 02, S-4: "Refused: 15, the named account isn't in the window's ring, after 9"
+ruleOf NotInRing = record { number = 15; place = Nowhere; behind-scratch = true }
 
 abbrev pub placeNumber : Place → ℕ
 placeNumber Nowhere = 0

@@ -4,7 +4,7 @@
 
 mod adjacency;
 pub mod checks;
-mod choice;
+pub mod choice;
 mod frame;
 mod heads;
 mod histogram;
@@ -26,6 +26,7 @@ mod times;
 mod windows;
 
 pub use frame::Frame;
+pub use recalling::clear_marks;
 pub use recalling::recall;
 pub use refusal::Counted;
 pub use refusal::Place;
@@ -36,6 +37,7 @@ pub use refusal::tell;
 pub use ring::window_ring;
 pub use slices::clear;
 pub use table::check_table;
+pub use table::rows_before;
 pub use times::core_times;
 pub use windows::minimal_windows;
 

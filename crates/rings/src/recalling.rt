@@ -190,7 +190,7 @@ fn check_recall(
 }
 
 // All marks are 0.
-pub(crate) fn clear_marks(marks: &mut [u8])
+pub fn clear_marks(marks: &mut [u8])
     ensures { λ _. ⌜ now (marks .exit) ≡ replicate (length (now (marks .entry))) 0 ⌝ }
 {
     let mut i = 0;

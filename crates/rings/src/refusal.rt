@@ -2,7 +2,7 @@
 ghost use mathlib.Core.Path.{_≡_};
 ghost use Rattle.rings.specs.Refusals.{toldOf};
 
-// Why a call refuses: document 01's refusals, each with its place where it has one. specs/Refusals.antt gives number
+// Why a call refuses: document 01's refusals, and 02's from 15 on, each with its place where it has one. specs/Refusals.antt gives number
 // and place.
 pub enum Refusal {
     // 1: column lengths differ.
@@ -27,6 +27,8 @@ pub enum Refusal {
     NoRoom,
     // 14: an entry of a minimal-window list, at its place from 0.
     BadEntry(usize),
+    // 15: the named account is not in the window's ring.
+    NotInRing,
 }
 
 // Table check, Core times, Recall; and every list of checks.
@@ -102,6 +104,10 @@ pub fn tell(r: Refusal) -> Told
         Refusal::BadEntry(entry) => Told {
             number: 14,
             place: Place::Entry(entry),
+        },
+        Refusal::NotInRing => Told {
+            number: 15,
+            place: Place::Nowhere,
         },
     }
 }

@@ -3,6 +3,7 @@
 //! since other work on the machine can only add to it. Two runs on two days
 //! differ by more than what a change is allowed, two archives in one run do not.
 
+use crate::groups::{self, Asked};
 use crate::tables::Case;
 use crate::text::{sheets, Work};
 use crate::{fail, full_cases, median, now, ring_windows, starts, window_room};
@@ -32,6 +33,15 @@ type WorkBy = fn(Engine) -> Work;
 const TEXT: [(&str, &str, WorkBy); 2] = [
     ("reading table text", "rumbleog_read_table", Work::Read),
     ("writing table text", "rumbleog_write_table", Work::Write),
+];
+
+/// The same of groups.
+type GroupsBy = fn(Engine) -> groups::Work;
+
+/// Those of the groups of a ring, over its three windows: where both have the call.
+const GROUPS: [(&str, &str, GroupsBy); 2] = [
+    ("label groups", "rumbleog_label_groups", groups::Work::Label),
+    ("mark group", "rumbleog_mark_group", groups::Work::Mark),
 ];
 
 /// A shared object, never closed again.
@@ -204,10 +214,35 @@ pub fn against(old_file: &str, new_file: &str) {
         });
         summary += &print_times(what, times);
     }
+    let both_have = |what: &str, name: &str| {
+        let both = libraries.iter().all(|library| library.find(name).is_some());
+        if !both {
+            println!("\n{what}: not compared, one of the two has no {name}.");
+        }
+        both
+    };
+    for (what, name, work) in GROUPS {
+        if !both_have(what, name) {
+            continue;
+        }
+        let times = cases.iter().map(|case| {
+            let mut windows = Asked::all(case);
+            for asked in &mut windows {
+                asked.check(work(Engine::Old));
+                asked.check(work(Engine::New));
+            }
+            let least = least(|engine| {
+                for asked in &mut windows {
+                    asked.run(work(engine));
+                }
+            });
+            (case.name.as_str(), least)
+        });
+        summary += &print_times(what, times);
+    }
     let mut sheets = sheets();
     for (what, name, work) in TEXT {
-        if libraries.iter().any(|library| library.find(name).is_none()) {
-            println!("\n{what}: not compared, one of the two has no {name}.");
+        if !both_have(what, name) {
             continue;
         }
         let times = sheets.iter_mut().map(|sheet| {

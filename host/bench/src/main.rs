@@ -5,10 +5,12 @@
 //!   bench FILE        runs all of it and writes the page FILE
 //!   bench --only NAME measures the full tables whose name starts so, no page
 //!   bench --text      measures table text and prints its part of the page
+//!   bench --groups    the same of the groups of a ring
 //!   bench --search N  tries N drawn tables and names the worst of them
 //!   bench --against OLD.so NEW.so  two archives on the full tables, by turns
 
 mod against;
+mod groups;
 mod peers;
 mod report;
 mod tables;
@@ -192,6 +194,63 @@ impl Engine {
             case.lend(),
             case.query(),
             window,
+            marks,
+            scratch,
+            &mut place,
+            &mut count,
+        );
+        (number == number::OK).then_some(count as usize)
+    }
+
+    /// Rows of the ring, or none if refused. The C peer is not asked: its groups
+    /// are those of a union-find behind the archive's ring (groups.rs).
+    pub fn label(
+        self,
+        case: &Case,
+        window: Days,
+        labels: &mut [u16],
+        scratch: &mut [u16],
+    ) -> Option<usize> {
+        let label_groups = match self {
+            Engine::Archive => raw::label_groups,
+            Engine::Peer => return None,
+            Engine::Old => old::label_groups,
+            Engine::New => new::label_groups,
+        };
+        let (mut place, mut count) = (0, 0);
+        let number = label_groups(
+            case.lend(),
+            case.query(),
+            window,
+            labels,
+            scratch,
+            &mut place,
+            &mut count,
+        );
+        (number == number::OK).then_some(count as usize)
+    }
+
+    /// Rows of the account's group, or none if refused; the C peer as above.
+    pub fn mark(
+        self,
+        case: &Case,
+        window: Days,
+        account: u16,
+        marks: &mut [u8],
+        scratch: &mut [u16],
+    ) -> Option<usize> {
+        let mark_group = match self {
+            Engine::Archive => raw::mark_group,
+            Engine::Peer => return None,
+            Engine::Old => old::mark_group,
+            Engine::New => new::mark_group,
+        };
+        let (mut place, mut count) = (0, 0);
+        let number = mark_group(
+            case.lend(),
+            case.query(),
+            window,
+            account,
             marks,
             scratch,
             &mut place,
@@ -618,13 +677,10 @@ fn main() {
             }
         }
         ["--text"] => print!("{}", report::text(&text::measure())),
+        ["--groups"] => print!("{}", report::groups(&groups::measure())),
         ["--search", number] => search(number.parse().unwrap_or(100)),
         ["--against", old, new] => against::against(old, new),
-        ["--memory", name] => {
-            for op in OPS.iter().filter(|op| format!("{op:?}") == name) {
-                report::memory_of(*op);
-            }
-        }
+        ["--memory", name] => report::memory_of(name),
         [file] => {
             let mut all = Vec::new();
             for size in SIZES {
@@ -636,7 +692,7 @@ fn main() {
                     all.push((size, measured));
                 }
             }
-            let page = report::page(&all, &text::measure());
+            let page = report::page(&all, &groups::measure(), &text::measure());
             print!("{page}");
             if let Err(error) = std::fs::write(file, page) {
                 fail(&format!("{file}: {error}"));
@@ -644,8 +700,8 @@ fn main() {
         }
         _ => {
             eprintln!(
-                "use: bench FILE, bench --only NAME, bench --text, bench --search N, or bench \
-                 --against OLD NEW"
+                "use: bench FILE, bench --only NAME, bench --text, bench --groups, bench --search \
+                 N, or bench --against OLD NEW"
             );
             std::process::exit(2);
         }

@@ -1,6 +1,7 @@
 //! The benchmark's page: ratios, growth, bounds, memory.
 
-use crate::tables::{plain_case, Class};
+use crate::groups::{self, Asked, Work};
+use crate::tables::{plain_case, Case, Class};
 use crate::text;
 use crate::{Bench, Engine, Measured, Op, Rings};
 use std::fmt::Write;
@@ -51,18 +52,38 @@ const RATIOS: [Ratio; 12] = [
     ratio("core times", SAME, Op::Times, Op::TimesC, C_AIM),
 ];
 
+/// Groups: what is shown, in the order of a result's ratios, and the most that
+/// is aimed at on every window of every table.
+const GROUPS: [(&str, &str, f64); 3] = [
+    ("label groups", "window ring itself", 2.0),
+    ("mark group", "window ring itself", 2.0),
+    (
+        "label groups",
+        "window ring, then a union-find in C (host/peer)",
+        1.5,
+    ),
+];
+
+/// What is run to see its memory.
+enum Run {
+    Op(Op),
+    Groups(Work),
+}
+
 /// Operations whose memory is measured.
-const MEMORY: [(Op, &str); 10] = [
-    (Op::Listing, "listing, room"),
-    (Op::ListingExact, "listing, exact room"),
-    (Op::Windows, "minimal windows"),
-    (Op::Ring, "window ring"),
-    (Op::Times, "core times"),
-    (Op::Counting, "001, Algorithms 2 + 5, counting"),
-    (Op::Copying, "001, Algorithms 2 + 5, copying rows"),
-    (Op::Otcd, "OTCD"),
-    (Op::Afresh, "every start peeled afresh"),
-    (Op::Algorithm2, "001, Algorithm 2"),
+const MEMORY: [(Run, &str); 12] = [
+    (Run::Op(Op::Listing), "listing, room"),
+    (Run::Op(Op::ListingExact), "listing, exact room"),
+    (Run::Op(Op::Windows), "minimal windows"),
+    (Run::Op(Op::Ring), "window ring"),
+    (Run::Groups(Work::Label(Engine::Archive)), "label groups"),
+    (Run::Groups(Work::Mark(Engine::Archive)), "mark group"),
+    (Run::Op(Op::Times), "core times"),
+    (Run::Op(Op::Counting), "001, Algorithms 2 + 5, counting"),
+    (Run::Op(Op::Copying), "001, Algorithms 2 + 5, copying rows"),
+    (Run::Op(Op::Otcd), "OTCD"),
+    (Run::Op(Op::Afresh), "every start peeled afresh"),
+    (Run::Op(Op::Algorithm2), "001, Algorithm 2"),
 ];
 
 fn of(measured: &Measured, ratio: &Ratio) -> f64 {
@@ -114,6 +135,21 @@ pub fn text_progress(m: &text::Measured) {
         "[table text, {} rows] {}: ms: writing {write:.3} (digit loop {digits:.3}, two digits \
          {pairs:.3}), reading {read:.3} (C {c:.3})",
         m.size, m.name
+    );
+}
+
+/// The same of groups, when all rounds are done.
+pub fn groups_progress(m: &groups::Measured) {
+    let [ring, label, mark, by_hand, union] = m.times.map(|seconds| seconds * 1e6);
+    eprintln!(
+        "[groups, {} rows] {}, days {} to {}: {} rows in {} groups; us: ring {ring:.1}, labels \
+         {label:.1}, mark {mark:.1}, ring and union-find {by_hand:.1}, union-find {union:.1}",
+        m.rows,
+        m.name,
+        m.window.start(),
+        m.window.end(),
+        m.ring,
+        m.groups
     );
 }
 
@@ -174,14 +210,14 @@ const PAINT: u8 = 0xa5;
 /// below the stack pointer, so it runs in a thread with room to spare, and it is
 /// a measure and no more.
 #[inline(never)]
-fn stack_of(bench: &mut Bench, op: Op) -> usize {
+fn stack_of(run: &mut dyn FnMut()) -> usize {
     let mark = std::hint::black_box(0_u8);
     let top = std::ptr::addr_of!(mark).cast_mut().wrapping_sub(GAP);
     for i in 0..PAINTED {
         // SAFETY: inside this thread's stack, below every frame in use.
         unsafe { top.wrapping_sub(i).write_volatile(PAINT) };
     }
-    bench.run(op);
+    run();
     for i in (0..PAINTED).rev() {
         // SAFETY: as above.
         if unsafe { top.wrapping_sub(i).read_volatile() } != PAINT {
@@ -193,36 +229,53 @@ fn stack_of(bench: &mut Bench, op: Op) -> usize {
 
 /// A child process: what one operation takes beyond what it is lent, as KB of
 /// the process's peak and bytes of stack, on standard output.
-pub fn memory_of(op: Op) {
+pub fn memory_of(name: &str) {
     let case = plain_case(16_384);
+    match MEMORY.iter().find(|(_, of)| *of == name) {
+        None => {}
+        Some((Run::Groups(work), _)) => {
+            let mut asked = Asked::new(&case, case.range());
+            print_memory(|| {
+                asked.run(*work);
+            });
+        }
+        Some((Run::Op(op), _)) => {
+            let mut bench = memory_bench(&case);
+            print_memory(|| bench.run(*op));
+        }
+    }
+}
+
+/// What is lent for a case, its columns exact where their length is known beforehand.
+fn memory_bench(case: &Case) -> Bench<'_> {
     let mut scratch = vec![1; rumbleog::scratch_for(16_384)];
     let mut room = Rings::new(2_000_000);
     let entries = Engine::Archive
-        .windows(&case, &mut room.three, &mut scratch)
+        .windows(case, &mut room.three, &mut scratch)
         .unwrap_or(0);
     let rings = Engine::Archive
-        .list(&case, &mut room, &mut scratch)
+        .list(case, &mut room, &mut scratch)
         .map_or(0, |found| found.count);
     drop((room, scratch));
-    let mut bench = Bench::new(&case, rings, entries);
+    Bench::new(case, rings, entries)
+}
+
+fn print_memory(mut run: impl FnMut() + Send) {
     let before = peak();
-    bench.run(op);
+    run();
     let kilobytes = peak() - before;
     let stack = std::thread::scope(|scope| {
         std::thread::Builder::new()
             .stack_size(4 << 20)
-            .spawn_scoped(scope, || stack_of(&mut bench, op))
+            .spawn_scoped(scope, || stack_of(&mut run))
             .map_or(0, |thread| thread.join().unwrap_or(0))
     });
     println!("{kilobytes} {stack}");
 }
 
-fn memory(op: Op) -> Option<(u64, u64)> {
+fn memory(name: &str) -> Option<(u64, u64)> {
     let me = std::env::current_exe().ok()?;
-    let child = Command::new(me)
-        .args(["--memory", &format!("{op:?}")])
-        .output()
-        .ok()?;
+    let child = Command::new(me).args(["--memory", name]).output().ok()?;
     let text = String::from_utf8(child.stdout).ok()?;
     let mut numbers = text.split_whitespace().map(|word| word.parse().ok());
     Some((numbers.next()??, numbers.next()??))
@@ -257,7 +310,7 @@ fn by_class(ratios: &[(Class, f64)]) -> [f64; 3] {
     ]
 }
 
-fn ratio_table(page: &mut String, all: &[&Measured], aims: bool) {
+fn ratio_table(page: &mut String, all: &[&Measured], groups: &[&groups::Measured], aims: bool) {
     let aim = if aims { " aim | |" } else { "" };
     let rule = if aims { "---|---|" } else { "" };
     let _ = writeln!(
@@ -265,23 +318,94 @@ fn ratio_table(page: &mut String, all: &[&Measured], aims: bool) {
         "| operation | against | ordinary: median | greatest | adversaries: greatest |{aim}"
     );
     let _ = writeln!(page, "|---|---|---|---|---|{rule}");
-    for ratio in &RATIOS {
-        let ratios: Vec<(Class, f64)> = all.iter().map(|m| (m.class, of(m, ratio))).collect();
+    let mut row = |what: &str, against: &str, ratios: Vec<(Class, f64)>, most: Option<[f64; 3]>| {
         let got = by_class(&ratios);
         let _ = write!(
             page,
-            "| {} | {} | {:.2} | {:.2} | {:.2} |",
-            ratio.what, ratio.against, got[0], got[1], got[2]
+            "| {what} | {against} | {:.2} | {:.2} | {:.2} |",
+            got[0], got[1], got[2]
         );
         if aims {
-            page.push_str(&aimed(ratio.aims.map(|aims| {
-                let fine = got.iter().zip(aims).all(|(&got, aim)| got <= aim);
-                let [a, b, c] = aims;
+            page.push_str(&aimed(most.map(|most| {
+                let fine = got.iter().zip(most).all(|(&got, most)| got <= most);
+                let [a, b, c] = most;
                 (format!("{a}, {b}; {c}"), fine)
             })));
         }
         page.push('\n');
+    };
+    for ratio in &RATIOS {
+        let ratios = all.iter().map(|m| (m.class, of(m, ratio)));
+        row(ratio.what, ratio.against, ratios.collect(), ratio.aims);
     }
+    for (i, (what, against, aim)) in GROUPS.into_iter().enumerate() {
+        let ratios = groups.iter().map(|m| (m.class, m.ratios()[i]));
+        row(what, against, ratios.collect(), Some([aim; 3]));
+    }
+}
+
+/// The page's part about groups.
+pub fn groups(all: &[groups::Measured]) -> String {
+    let mut part = String::from(
+        "## Groups\n\n\
+         `rumbleog_label_groups` and `rumbleog_mark_group` on the tables above, all sizes, and on \
+         tables made for groups; each window by itself. Both find the window's ring first, so they \
+         are held against `rumbleog_window_ring`. Labels are also held against what a host in C \
+         would do: the archive's window ring, then a plain union-find over its marks (groups.c). \
+         The account whose group is marked is the one that the ring's rows meet last; an empty ring \
+         has none, and the refusal is timed.\n\n\
+         | operation | against | greatest | on | aim | |\n\
+         |---|---|---|---|---|---|\n",
+    );
+    for (i, (what, against, aim)) in GROUPS.into_iter().enumerate() {
+        let worst = all
+            .iter()
+            .max_by(|x, y| x.ratios()[i].total_cmp(&y.ratios()[i]));
+        let Some(m) = worst else { continue };
+        let ratio = m.ratios()[i];
+        let _ = writeln!(
+            part,
+            "| {what} | {against} | {ratio:.2} | {}, {} rows, days {} to {} |{}",
+            m.name,
+            m.rows,
+            m.window.start(),
+            m.window.end(),
+            aimed(Some((aim.to_string(), ratio <= aim)))
+        );
+    }
+    part.push_str(
+        "\nThe aim is the most for every window of every table.\n\n\
+         Table by table at 16,384 rows, then the tables made for groups: three figures are the three \
+         windows. The last column is what labels take beyond the ring, a difference of two medians, \
+         against the union-find alone, where the ring has rows.\n\n\
+         | table | rows of the ring | groups | labels : ring | mark : ring | labels : ring and \
+         union-find | labels less ring : union-find |\n\
+         |---|---|---|---|---|---|---|\n",
+    );
+    for windows in all.chunks(3) {
+        let m = &windows[0];
+        let name = match m.size {
+            Some(16_384) => m.name.clone(),
+            Some(_) => continue,
+            None => format!("{}, {} rows", m.name, m.rows),
+        };
+        let cell = |of: &dyn Fn(&groups::Measured) -> String| -> String {
+            let three: Vec<String> = windows.iter().map(of).collect();
+            three.join(", ")
+        };
+        let ratio = |i: usize| cell(&|m| format!("{:.2}", m.ratios()[i]));
+        let _ = writeln!(
+            part,
+            "| {name} | {} | {} | {} | {} | {} | {} |",
+            cell(&|m| m.ring.to_string()),
+            cell(&|m| m.groups.to_string()),
+            ratio(0),
+            ratio(1),
+            ratio(2),
+            cell(&|m| m.alone().map_or("-".into(), |ratio| format!("{ratio:.2}"))),
+        );
+    }
+    part
 }
 
 /// Table text: what is shown, in the order of a result's ratios, and the most
@@ -338,12 +462,20 @@ pub fn text(all: &[text::Measured]) -> String {
 }
 
 /// The page, as markdown.
-pub fn page(all: &[(usize, Measured)], texts: &[text::Measured]) -> String {
+pub fn page(
+    all: &[(usize, Measured)],
+    grouped: &[groups::Measured],
+    texts: &[text::Measured],
+) -> String {
     let (model, cores) = processor();
     let mut page = String::new();
     let sized = |size: usize| -> Vec<&Measured> {
         let those = all.iter().filter(|(rows, _)| *rows == size);
         those.map(|(_, m)| m).collect()
+    };
+    let grouped_of = |size: usize| -> Vec<&groups::Measured> {
+        let those = grouped.iter().filter(|m| m.size == Some(size));
+        those.collect()
     };
     let full = sized(16_384);
     let _ = writeln!(
@@ -355,11 +487,12 @@ pub fn page(all: &[(usize, Measured)], texts: &[text::Measured]) -> String {
          peer gave the archive's answer on every table. The peers are unverified Rust (release \
          build) but for those in C (host/peer, -O3); 001's Algorithm 2 takes its core times by \
          the method that 001 cites. Ranges are all days of a table; a window ring is timed over \
-         three windows, core times over two starts. `room` is n(n+1)/2 places.\n\n\
+         three windows, core times over two starts, groups on each of the three windows. `room` \
+         is n(n+1)/2 places.\n\n\
          ## 16,384 rows\n",
         today()
     );
-    ratio_table(&mut page, &full, true);
+    ratio_table(&mut page, &full, &grouped_of(16_384), true);
     let _ = writeln!(
         page,
         "\nAims are the most for ordinary median, ordinary greatest; adversaries greatest.\n"
@@ -403,9 +536,11 @@ pub fn page(all: &[(usize, Measured)], texts: &[text::Measured]) -> String {
 
     for size in [4_096, 1_024] {
         let _ = writeln!(page, "\n## {},{:03} rows\n", size / 1_000, size % 1_000);
-        ratio_table(&mut page, &sized(size), false);
+        ratio_table(&mut page, &sized(size), &grouped_of(size), false);
     }
 
+    page.push('\n');
+    page += &groups(grouped);
     page.push('\n');
     page += &text(texts);
 
@@ -465,8 +600,8 @@ pub fn page(all: &[(usize, Measured)], texts: &[text::Measured]) -> String {
         "\n## Memory\n\nBeyond what is lent, at 16,384 rows (uniform, k 4): rise of the process's \
          peak, and stack.\n\n| operation | peak | stack |\n|---|---|---|"
     );
-    for (op, name) in MEMORY {
-        let Some((kilobytes, stack)) = memory(op) else {
+    for (_, name) in MEMORY {
+        let Some((kilobytes, stack)) = memory(name) else {
             continue;
         };
         let stack = match stack {

@@ -280,6 +280,54 @@ pub fn cases(rows: usize) -> Vec<Case> {
     out
 }
 
+/// Rows that stand in a table as they stand here, over all days.
+fn in_order(pairs: impl ExactSizeIterator<Item = (usize, usize)>, days: usize) -> Vec<Row> {
+    let rows = pairs.len();
+    let dated = pairs.enumerate();
+    dated
+        .map(|(i, (a, b))| (1 + i * days / rows, a, b))
+        .collect()
+}
+
+/// Cases made for the groups of a ring: long ways to a smallest account, and
+/// many groups.
+pub fn group_cases() -> Vec<Case> {
+    const DAYS: usize = 1_024;
+    let rng = &mut Rng(4);
+    let mut out = Vec::new();
+    let mut add = |name: &str, k: u16, pairs: Vec<(usize, usize)>| {
+        let rows = in_order(pairs.into_iter(), DAYS);
+        let most = rows.len();
+        out.push(case(name, Class::Adversary, k, rows, most, DAYS));
+    };
+
+    let mut path: Vec<_> = (0..4_095).map(|a| (a, a + 1)).collect();
+    add("path, rising", 1, path.clone());
+    add("path, falling", 1, path.iter().rev().copied().collect());
+    for i in (1..path.len()).rev() {
+        path.swap(i, rng.below(i + 1));
+    }
+    add("path, shuffled", 1, path);
+    // Each row brings a smaller account than all before.
+    let falling = (0..4_095).rev().map(|a| (a, 4_095)).collect();
+    add("star of the last account, falling", 1, falling);
+    let pairs = (0..2_048).map(|group| (2 * group, 2 * group + 1)).collect();
+    add("pairs", 1, pairs);
+    let triangle = |group: usize| {
+        let low = 3 * group;
+        [(low, low + 1), (low + 1, low + 2), (low, low + 2)]
+    };
+    add("triangles", 2, (0..1_365).flat_map(triangle).collect());
+    // Sixteen rows a group, so that each day has the rows of one.
+    const FOUR: [(usize, usize); 6] = [(0, 1), (2, 3), (1, 2), (0, 3), (0, 2), (1, 3)];
+    let four = |i: usize| {
+        let (group, (a, b)) = (i / 16, FOUR[i % 16 % 6]);
+        (4 * group + a, 4 * group + b)
+    };
+    add("groups of four", 2, (0..16_384).map(four).collect());
+    out
+}
+
 /// One plain case by itself, for the measure of memory.
 pub fn plain_case(rows: usize) -> Case {
     let table = uniform(&mut Rng(5), rows, 1_024, (rows / 6).max(64));

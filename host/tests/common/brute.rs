@@ -9,6 +9,7 @@
 use rumbleog::number::*;
 use rumbleog::{
     Days, Query, Table, Windows, ACCOUNTS, LAST_DAY, MOST_INPUT, MOST_LISTED, MOST_ROWS, NEVER,
+    NO_GROUP,
 };
 use std::collections::{BTreeMap, BTreeSet};
 
@@ -112,6 +113,38 @@ pub fn all_rings(table: Table, query: Query, range: Days) -> BTreeMap<(u16, u16)
     rings
 }
 
+/// A group: the accounts that are connected with each other.
+pub type Group = BTreeSet<u16>;
+
+/// The groups of a set of rows: the two accounts of each row, then sets with an
+/// account in common become one, until nothing changes.
+pub fn groups(table: Table, rows: &RowSet) -> BTreeSet<Group> {
+    let mut groups: BTreeSet<Group> = rows
+        .iter()
+        .map(|&row| Group::from(accounts_of(table, row)))
+        .collect();
+    loop {
+        let merged: BTreeSet<Group> = groups.iter().map(|group| touched(&groups, group)).collect();
+        if merged == groups {
+            return groups;
+        }
+        groups = merged;
+    }
+}
+
+/// All accounts of the sets that have one in common with this set.
+fn touched(groups: &BTreeSet<Group>, with: &Group) -> Group {
+    let touching = groups.iter().filter(|group| !group.is_disjoint(with));
+    touching.flatten().copied().collect()
+}
+
+/// The group of an account, if a row of the set meets it.
+pub fn group_of(table: Table, rows: &RowSet, account: u16) -> Option<Group> {
+    groups(table, rows)
+        .into_iter()
+        .find(|group| group.contains(&account))
+}
+
 // ---- checks ----
 
 fn columns_differ(table: Table) -> bool {
@@ -155,6 +188,32 @@ fn scratch_is_short(table: Table, scratch: &[u16]) -> bool {
     scratch.len() < 8_192 + 4 * table.days.len()
 }
 
+/// The checks of Window ring, marks or labels having this many places.
+fn window_refusal(
+    table: Table,
+    query: Query,
+    window: &Days,
+    places: usize,
+    scratch: &[u16],
+) -> Option<Answer> {
+    if let Some(refusal) = table_refusal(table) {
+        return Some(refusal);
+    }
+    if k_is_bad(query) {
+        return Some(refused(BAD_K, 0));
+    }
+    if range_is_bad(window) {
+        return Some(refused(BAD_RANGE, 0));
+    }
+    if places != table.days.len() {
+        return Some(refused(BAD_LENGTH, 0));
+    }
+    if scratch_is_short(table, scratch) {
+        return Some(refused(SCRATCH, 0));
+    }
+    None
+}
+
 // ---- operations ----
 
 /// Table check.
@@ -170,20 +229,8 @@ pub fn window_ring(
     marks: &mut [u8],
     scratch: &mut [u16],
 ) -> Answer {
-    if let Some(refusal) = table_refusal(table) {
+    if let Some(refusal) = window_refusal(table, query, &window, marks.len(), scratch) {
         return refusal;
-    }
-    if k_is_bad(query) {
-        return refused(BAD_K, 0);
-    }
-    if range_is_bad(&window) {
-        return refused(BAD_RANGE, 0);
-    }
-    if marks.len() != table.days.len() {
-        return refused(BAD_LENGTH, 0);
-    }
-    if scratch_is_short(table, scratch) {
-        return refused(SCRATCH, 0);
     }
     let ring = ring(table, query, window);
     for (row, mark) in marks.iter_mut().enumerate() {
@@ -191,6 +238,53 @@ pub fn window_ring(
     }
     scratch.fill(0);
     counted(ring.len())
+}
+
+/// Label groups.
+pub fn label_groups(
+    table: Table,
+    query: Query,
+    window: Days,
+    labels: &mut [u16],
+    scratch: &mut [u16],
+) -> Answer {
+    if let Some(refusal) = window_refusal(table, query, &window, labels.len(), scratch) {
+        return refusal;
+    }
+    let ring = ring(table, query, window);
+    labels.fill(NO_GROUP);
+    for group in groups(table, &ring) {
+        for &row in &ring {
+            if group.contains(&table.first[row]) {
+                labels[row] = *group.iter().min().unwrap();
+            }
+        }
+    }
+    scratch.fill(0);
+    counted(ring.len())
+}
+
+/// Mark group.
+pub fn mark_group(
+    table: Table,
+    query: Query,
+    window: Days,
+    account: u16,
+    marks: &mut [u8],
+    scratch: &mut [u16],
+) -> Answer {
+    if let Some(refusal) = window_refusal(table, query, &window, marks.len(), scratch) {
+        return refusal;
+    }
+    scratch.fill(0);
+    let ring = ring(table, query, window);
+    let Some(group) = group_of(table, &ring, account) else {
+        return refused(NOT_IN_RING, 0);
+    };
+    for (row, mark) in marks.iter_mut().enumerate() {
+        *mark = u8::from(ring.contains(&row) && group.contains(&table.first[row]));
+    }
+    counted(marks.iter().filter(|&&mark| mark == 1).count())
 }
 
 /// Core times.

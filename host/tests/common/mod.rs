@@ -239,6 +239,45 @@ pub fn window_ring(
     }
 }
 
+pub fn label_groups(
+    table: Table,
+    query: Query,
+    window: Days,
+    labels: &mut [u16],
+    scratch: &mut [u16],
+) -> Answer {
+    let (mut place, mut count) = (NOISE, NOISE);
+    let number = raw::label_groups(
+        table, query, window, labels, scratch, &mut place, &mut count,
+    );
+    Answer {
+        number,
+        place,
+        count,
+        ..Answer::default()
+    }
+}
+
+pub fn mark_group(
+    table: Table,
+    query: Query,
+    window: Days,
+    account: u16,
+    marks: &mut [u8],
+    scratch: &mut [u16],
+) -> Answer {
+    let (mut place, mut count) = (NOISE, NOISE);
+    let number = raw::mark_group(
+        table, query, window, account, marks, scratch, &mut place, &mut count,
+    );
+    Answer {
+        number,
+        place,
+        count,
+        ..Answer::default()
+    }
+}
+
 pub fn core_times(
     table: Table,
     query: Query,
@@ -404,6 +443,34 @@ pub fn sparse_table(rng: &mut Rng, most_rows: usize) -> Owned {
         let (a, b) = (rng.below(accounts) as u16, rng.below(accounts) as u16);
         if a != b {
             table.push((rng.pick(&days) as u16, a.min(b), a.max(b)));
+        }
+    }
+    Owned::sorted(&table)
+}
+
+/// A valid table of some parties that mostly deal among themselves, their
+/// accounts mixed: rings of several groups, and rows between these.
+pub fn parted_table(rng: &mut Rng, most_rows: usize) -> Owned {
+    let days = rng.from(1, 4);
+    let mut accounts: Vec<u16> = (0..12).collect();
+    accounts.extend([2_048, 4_094, 4_095]);
+    for i in (1..accounts.len()).rev() {
+        accounts.swap(i, rng.below(i + 1));
+    }
+    let size = rng.from(2, 5);
+    let parties: Vec<&[u16]> = accounts.chunks(size).take(rng.from(2, 5)).collect();
+    let between = rng.pick(&[3, 8, 30, 1_000]);
+    let mut table = Vec::new();
+    for _ in 0..rng.from(0, most_rows) {
+        let party = rng.pick(&parties);
+        let other = if rng.once_in(between) {
+            rng.pick(&parties)
+        } else {
+            party
+        };
+        let (a, b) = (rng.pick(party), rng.pick(other));
+        if a != b {
+            table.push((rng.from(1, days) as u16, a, b));
         }
     }
     Owned::sorted(&table)

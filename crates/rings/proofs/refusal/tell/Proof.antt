@@ -41,6 +41,9 @@ enum-told-7 c = search needs
 enum-known-r-4 : tie.Need-enum-known-r-4
 enum-known-r-4 c = search needs
 
+enum-told-8 : tie.Need-enum-told-8
+enum-told-8 c = search needs
+
 returns : tie.Need-returns
 unfolding toldOf numberOf
 returns c = ap toldOf (sym ((c .enum-told) .given .1))
@@ -93,11 +96,15 @@ returns-11 c =
     let r4 = c .before .r4 in
     ap toldOf (sym (r4 .given .1))
 
+returns-12 : tie.Need-returns-12
+unfolding toldOf numberOf
+returns-12 c = ap toldOf (sym ((c .enum-told8) .given .1))
+
 pub tell-spec : {M : Type 1} → statement M
 tell-spec =
     tie.close
     (
     tie.spec enum-told enum-told-2 enum-known-r enum-known-r-2 enum-known-r-3 enum-told-3 enum-told-4 enum-told-5
-    enum-told-6 enum-told-7 enum-known-r-4 returns returns-2 returns-3 returns-4 returns-5 returns-6 returns-7
-    returns-8 returns-9 returns-10 returns-11
+    enum-told-6 enum-told-7 enum-known-r-4 enum-told-8 returns returns-2 returns-3 returns-4 returns-5 returns-6 returns-7
+    returns-8 returns-9 returns-10 returns-11 returns-12
     )
