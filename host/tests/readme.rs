@@ -25,6 +25,34 @@ fn a_window_ring() -> Result<(), Refusal> {
 }
 
 #[test]
+fn one_gang_at_a_time() -> Result<(), Refusal> {
+    // Two gangs of three, and a payment between them on day 3.
+    let gangs = Table {
+        days: &[1, 1, 1, 2, 2, 2, 3],
+        first: &[1, 2, 1, 6, 5, 5, 3],
+        second: &[2, 3, 3, 7, 6, 7, 5],
+    };
+    let mut labels = [0; 7];
+    let mut scratch = vec![0; scratch_for(7)];
+    // Days 1 to 2: each payment of the ring by the smallest account of its gang.
+    let count = label_groups(gangs, Query { k: 2 }, 1..=2, &mut labels, &mut scratch)?;
+    assert_eq!(count, 6);
+    assert_eq!(labels, [1, 1, 1, 5, 5, 5, NO_GROUP]);
+    // The case of account 6 alone.
+    let mut marks = [0; 7];
+    let count = mark_group(gangs, Query { k: 2 }, 1..=2, 6, &mut marks, &mut scratch)?;
+    assert_eq!(count, 3);
+    assert_eq!(marks, [0, 0, 0, 1, 1, 1, 0]);
+    // An account that is in no ring of these days has no group.
+    let outside = mark_group(gangs, Query { k: 2 }, 1..=2, 8, &mut marks, &mut scratch);
+    assert_eq!(outside, Err(Refusal::NotInRing));
+    // With day 3 the two are one gang.
+    label_groups(gangs, Query { k: 2 }, 1..=3, &mut labels, &mut scratch)?;
+    assert_eq!(labels, [1; 7]);
+    Ok(())
+}
+
+#[test]
 fn core_times_of_a_start() -> Result<(), Refusal> {
     // From day 1 on, on which day does each account and each payment join a ring?
     let mut accounts = vec![0; ACCOUNTS];

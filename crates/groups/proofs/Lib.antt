@@ -2,6 +2,7 @@ pub mod ForestLaws
 pub mod LeaderLaws
 pub mod WritingLaws
 pub mod MetLaws
+pub mod RingCallLaws
 pub mod CallLaws
 pub mod ConnectedLaws
 pub mod AloneLaws

@@ -5,7 +5,7 @@
 --     RowsConnected t m i j     rows i and j are connected: an account of the one is, with an account of the other
 --     choose b x y       x where b holds, else y
 --     joined a b x       the smaller of a and b where x is one of them, else x
---     leader t m n u     the smallest account connected with u through the first n rows, computed row by row
+--     leader t m n u     the smallest account connected with u through rows of m among the first n, computed row by row
 --     none               65,535: the label of a row outside
 --     labelsOf t m       the labels of all rows: `IsLabel` holds of a label of m's rows and of nothing else
 --                        (proofs/ConnectedLaws.antt)

@@ -1,8 +1,10 @@
 -- `label::label_ring` meets its contract: Window ring's answer for marks of that length is the answer for the labels.
 -- Assumes nothing.
-use Rattle.groups.proofs.CallLaws.{ring-call, ringed-of, prefix-long, ring-bytes, places-of, label-refused, label-done}
-use Rattle.groups.proofs.CallLaws.{ring-call, ringed-of, prefix-long, ring-bytes, places-of}
-use Rattle.groups.proofs.CallLaws.{ring-call, ringed-of}
+use Rattle.groups.proofs.RingCallLaws.{ring-call, ringed-of}
+use Rattle.groups.proofs.CallLaws.{prefix-long, ring-bytes, places-of, label-refused, label-done}
+use Rattle.groups.proofs.RingCallLaws.{ring-call, ringed-of}
+use Rattle.groups.proofs.CallLaws.{prefix-long, ring-bytes, places-of}
+use Rattle.groups.proofs.RingCallLaws.{ring-call, ringed-of}
 use Prim.Native.Nat.{ℕ}
 use mathlib.Core.Path.{refl, sym, _∙_, ap}
 use native.Mathlib.Omega.{arith}

@@ -1,9 +1,9 @@
 -- `label::label_rows` meets its contract: the marks lie in the window's rows, and what is written by the leaders is the
 -- labels.
 -- Assumes nothing.
-use Rattle.groups.proofs.CallLaws.{lent-of, writing-of, labelled-is, fresh-long, fresh}
+use Rattle.groups.proofs.RingCallLaws.{lent-of, writing-of, labelled-is, fresh-long, fresh}
 use Rattle.groups.specs.Groups.{none}
-use Rattle.groups.proofs.CallLaws.{lent-of, writing-of, labelled-is, fresh-long}
+use Rattle.groups.proofs.RingCallLaws.{lent-of, writing-of, labelled-is, fresh-long}
 use lib.ListN.{length, replicate, length-replicate}
 use Prim.Native.Nat.{ℕ}
 use mathlib.Core.Path.{refl, sym, _∙_, ap}

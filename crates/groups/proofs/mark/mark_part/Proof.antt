@@ -2,7 +2,8 @@
 -- Assumes nothing.
 use borrow.Author.Tests.{not-true, not-false}
 use Rattle.groups.proofs.CallLaws.{group-refused, group-absent, group-done}
-use Rattle.groups.proofs.CallLaws.{ring-call, ringed-of, prefix-long, ring-bytes, places-of, lent-of, account-small}
+use Rattle.groups.proofs.RingCallLaws.{ring-call, ringed-of, lent-of}
+use Rattle.groups.proofs.CallLaws.{prefix-long, ring-bytes, places-of, account-small}
 use mathlib.Core.Path.{refl, sym, _∙_, ap}
 use native.Mathlib.Omega.{arith}
 use borrow.Author.Needs.{needs}

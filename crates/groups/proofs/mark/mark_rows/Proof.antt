@@ -1,7 +1,7 @@
 -- `mark::mark_rows` meets its contract: what is marked by the leaders is the group.
 -- Assumes nothing.
-use Rattle.groups.proofs.CallLaws.{writing-of, group-is, fresh-long, fresh}
-use Rattle.groups.proofs.CallLaws.{writing-of, group-is, fresh-long}
+use Rattle.groups.proofs.RingCallLaws.{writing-of, group-is, fresh-long, fresh}
+use Rattle.groups.proofs.RingCallLaws.{writing-of, group-is, fresh-long}
 use lib.ListN.{length, replicate, length-replicate}
 use Prim.Native.Nat.{ℕ}
 use mathlib.Core.Path.{refl, sym, _∙_, ap}
