@@ -1,4 +1,4 @@
--- The numbers, places and counts of document 01 for each case of the answers.
+-- The numbers, places and counts of document 01, and of 02 from 15 on, for each case of the answers.
 --     Rule, ruleOf r     what 01 says of a refusal: a row for each
 --     numberOf r         its number
 --     placeNumber p, placeOf r     a place as a number; the place of a refusal

@@ -1,6 +1,6 @@
 // Rings of a dated payment table.
-// A customer's calls are re-exported here. Two modules are for the parts above: the checks that calls share, and the
-// starts of a range.
+// A customer's calls are re-exported here. Three modules are for the parts above: the checks that calls share, choices
+// without a branch, and the starts of a range.
 
 mod adjacency;
 pub mod checks;
