@@ -1,7 +1,8 @@
 -- The rows of a row set as a table of their own.
 --     place, rank              which row of the table a row of the part is, and the other way round
---     picked-at, rank-at       their entries are the same
---     picked-most              a part is not longer
+--     PickedAt, picked-at, RankAt, rank-at     their entries are the same
+--     picked-most, picked-same a part is not longer, and columns of one length stay so
+--     all, all-i, all-below    all rows of a table
 --     alone-copies, copies-alone     so each row has its like
 --     alone-sound              a part of a sound table is sound
 -- Assumes nothing.
@@ -40,7 +41,8 @@ pub record PickedAt (m : List Bool) (xs : List ℕ) (i : ℕ) : Type 0 where
   pub has : marked m (place m i) ≡ true
   pub same : getD (picked m xs) i 0 ≡ getD xs (place m i) 0
 
-pub picked-at : (m : List Bool) (xs : List ℕ) (i : ℕ) → length xs ≡ length m → i < length (picked m xs) → PickedAt m xs i
+pub picked-at : (m : List Bool) (xs : List ℕ) (i : ℕ) → length xs ≡ length m → i < length (picked m xs) → PickedAt
+    m xs i
 unfolding picked consIf marked place
 picked-at [] xs i e l = absurd (not-suc-le-zero l)
 picked-at (b ∷ m) [] i e l = absurd (not-suc-le-zero l)

@@ -50,10 +50,12 @@ zeros-front (suc n) (suc m) h = ap (λ (xs : List ℕ). 0 ∷ xs) (zeros-front n
 front-cleared : {p sc : List ℕ} {m : ℕ} → sc ≡ replicate m 0 → 4096 ≤ m → p ≡ replicate (length (take 4096 sc)) 0
     → p ++ drop 4096 sc ≡ replicate m 0
 front-cleared {p} {sc} {m} e h k =
-    ap (λ (x : List ℕ). x ++ drop 4096 sc) (k ∙ ap (λ (n : ℕ). replicate {A = ℕ} n 0) (length-take-le 4096 sc (let w : length sc ≡ m = fresh-long 0 e in omega arith)))
+    ap (λ (x : List ℕ). x ++ drop 4096 sc) (k ∙ ap (λ (n : ℕ). replicate {A = ℕ} n 0) (length-take-le 4096 sc (let
+    w : length sc ≡ m = fresh-long 0 e in omega arith)))
     ∙ (ap (λ (x : List ℕ). replicate 4096 0 ++ drop 4096 x) e ∙ zeros-front 4096 m h)
 
-pub places-of : {d f g : List ℕ} {q : Query} {s e p sc n l : ℕ} → RingCall d f g q s e p sc n → p ≡ atMost l → l ≡ length d
+pub places-of : {d f g : List ℕ} {q : Query} {s e p sc n l : ℕ} → RingCall d f g q s e p sc n → p ≡ atMost l → l ≡
+    length d
 unfolding atMost
 places-of C h = let a = C .places in let b = C .sound .most in omega arith
 
@@ -75,11 +77,13 @@ module _ (d f g : List ℕ) (q : Query) (s e : ℕ) where
     told : v ≡ labelAnswer table q s e (length labels) (length sc)
     unfolding labelAnswer
     told =
-        answer ∙ (ap (λ (n : ℕ). ringAnswer table q s e n (length sc)) few ∙ ring-places d f g q s e (length labels) (length sc))
+        answer ∙ (ap (λ (n : ℕ). ringAnswer table q s e n (length sc)) few ∙ ring-places d f g q s e (length
+        labels) (length sc))
 
     pub label-refused : {r : Refusal} → v ≡ Counted.Refused r
         → (Counted.Refused r ≡ labelAnswer table q s e (length labels) (length sc))
-        × ((labels ≡ labelColumn (Counted.Refused r) table q s e labels) × (sc′ ≡ countedScratch (Counted.Refused r) sc))
+        × ((labels ≡ labelColumn (Counted.Refused r) table q s e labels) × (sc′ ≡ countedScratch (Counted.Refused
+        r) sc))
     unfolding labelColumn
     label-refused h = (sym h ∙ told, (refl, left-of sc left h))
 
@@ -158,7 +162,8 @@ module _ (d f g : List ℕ) (q : Query) (s e a : ℕ) (bs sc : List ℕ) {p : �
     (refl, left-of d f g q s e sc left h),
   )
 
-  module _ {n : ℕ} (old : List ℕ) {bytes : List ℕ} (h : v ≡ Counted.Count n) (b : bytes ≡ ringMarks v here q s e old) where
+  module _ {n : ℕ} (old : List ℕ) {bytes : List ℕ} (h : v ≡ Counted.Count n) (b : bytes ≡ ringMarks v here q s e
+      old) where
     is-ring : rowsOf bytes ≡ ring here q s e
     is-ring = ap rowsOf (ring-bytes d f g q s e old h b) ∙ rows-back (ring here q s e)
 
@@ -189,9 +194,11 @@ module _ (d f g : List ℕ) (q : Query) (s e a : ℕ) (bs sc : List ℕ) {p : �
     group-done {c} {k} i y M z = (
       ap Counted.Count (M .number ∙ ap (λ (m : List Bool). members (group here m a)) is-ring)
           ∙ sym (counted-yes (members its)
-          (then-accepted (NotInRing when no (met here (ring here q s e) a)) passed-all ∙ passes NotInRing (is-met i ∙ y))),
+          (then-accepted (NotInRing when no (met here (ring here q s e) a)) passed-all ∙ passes NotInRing (is-met i
+          ∙ y))),
       (
         M .marks ∙ ap (λ (m : List Bool). marks (group here m a)) is-ring,
-        front-cleared {m = length sc} (left-of d f g q s e sc left h) (let w = ring-call answer h .scratch in omega arith) z,
+        front-cleared {m = length sc} (left-of d f g q s e sc left h) (let w = ring-call answer h .scratch in omega
+            arith) z,
       ),
     )

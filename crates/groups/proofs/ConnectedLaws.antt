@@ -82,7 +82,8 @@ module _ (t : Table) (m : List Bool) where
     -- ---- a leader is connected with its account
 
     -- one row more: `before` is what holds of the rows before it
-    next-connected : (n u : ℕ) (before : (w : ℕ) → Connected t m (leader t m n w) w) → Connected t m (leader t m (suc n) u) u
+    next-connected : (n u : ℕ) (before : (w : ℕ) → Connected t m (leader t m n w) w) → Connected t m (leader t m
+        (suc n) u) u
     next-connected n u before =
         ⊎-elim
         (λ h. subst (λ (x : ℕ). Connected t m x u) (sym (leader-yes t m n u h)) (one h))
@@ -216,7 +217,9 @@ module _ (t : Table) (m : List Bool) where
     pub group-e : (a j : ℕ) → marked (group t m a) j ≡ true → (marked m j ≡ true) × Reaches t m j a
     unfolding group
     group-e a j h =
-        let x = marked-tabulate-e (λ i. marked m i and eqb (leader t m (size t) (firstOf t i)) (leader t m (size t) a)) (size t) j h .1 in
+        let x =
+        marked-tabulate-e (λ i. marked m i and eqb (leader t m (size t) (firstOf t i)) (leader t m (size t) a)) (size
+        t) j h .1 in
         let b = eqb (leader t m (size t) (firstOf t j)) (leader t m (size t) a) in
         let e = eqb-true (leader t m (size t) (firstOf t j)) (leader t m (size t) a) (and-r (marked m j) b x) in (
           and-l (marked m j) b x,
@@ -231,7 +234,8 @@ module _ (t : Table) (m : List Bool) where
     pub group-i : (a j : ℕ) → marked m j ≡ true → Reaches t m j a → marked (group t m a) j ≡ true
     unfolding group
     group-i a j h R =
-        marked-tabulate-i (λ i. marked m i and eqb (leader t m (size t) (firstOf t i)) (leader t m (size t) a)) (size t) j
+        marked-tabulate-i (λ i. marked m i and eqb (leader t m (size t) (firstOf t i)) (leader t m (size t) a))
+        (size t) j
         (P .in-table j h)
         (and-i h (eq-eqb (leader t m (size t) (firstOf t j)) (leader t m (size t) a)
         (row-leader j (R .account) h (R .has) ∙ leader-same (R .connected))))

@@ -198,7 +198,8 @@ walk-step {p₀} {p} {x} {y} {up} {next} W l n e f =
         let o = walk-order W l in
         let a = o .0 in
         let c = W .below in
-        ap g (W .is-next) ∙ (W .stands g S .same up (omega arith) ∙ (ap g (W .is-up) ∙ W .stands g S .same y (omega arith)))
+        ap g (W .is-next) ∙ (W .stands g S .same up (omega arith) ∙ (ap g (W .is-up) ∙ W .stands g S .same y (omega
+        arith)))
 
 pub walk-end : {p₀ p : List ℕ} {x y up next : ℕ} → Walk p₀ p x y up next → x < 4096 → next ≡ up → Found p₀ p x up
 walk-end {p₀} {p} {x} {y} {up} {next} W l e =
@@ -280,7 +281,8 @@ join-roots {p} {g} x y F S l k ex ey =
     root z n e =
         ap (joined x y) e
         ∙ ⊎-elim (λ (w : z ≡ min x y). subst (λ (v : ℕ). joined x y v ≡ v) (sym w) (joined-least x y))
-        (λ m. joined-other x y z (λ w. ⊎-elim (λ (v : min x y ≡ x). m (w ∙ sym v)) (λ v. n (omega (arith, v))) (same-or (min x y) x))
+        (λ m. joined-other x y z (λ w. ⊎-elim (λ (v : min x y ≡ x). m (w ∙ sym v)) (λ v. n (omega (arith, v)))
+        (same-or (min x y) x))
         (λ w. ⊎-elim (λ (v : min x y ≡ y). m (w ∙ sym v)) (λ v. n (omega (arith, v))) (same-or (min x y) y)))
         (same-or z (min x y))
 
@@ -312,7 +314,11 @@ joins-of {p} {p₁} {p₂} {p₃} {p₄} {a} {b} {x} {y} {r} {h} l k A B er eh C
     rooted g S =
         subst (λ (w : ℕ). Stands (set p₂ w r) (λ u. joined x y (g u))) (sym eh)
         (subst (λ (w : ℕ). Stands (set p₂ (max x y) w) (λ u. joined x y (g u))) (sym er)
-        (join-roots x y (B .forest) (B .stands g (A .stands g S)) (omega (arith, A .below)) (omega (arith, B .below)) (own-x g S) (own-y g S)))
+        (join-roots x y (B .forest) (B .stands g (A .stands g S)) (omega (arith, A .below)) (omega (
+          arith,
+          B
+              .below,
+        )) (own-x g S) (own-y g S)))
 
     at-root : (g : ℕ → ℕ) → Stands p g → joined x y (g r) ≡ r
     at-root g S = subst (λ (w : ℕ). joined x y (g w) ≡ w) (sym er) (joined-root g x y (own-x g S) (own-y g S))
@@ -372,7 +378,8 @@ flat-next {x} {up} {r} {p₀} {p} A l eu er =
     is : (g : ℕ → ℕ) → Stands p₀ g → r ≡ g x
     is g S =
         ⊎-elim
-        (λ (e : up ≡ x). er ∙ (ap (λ (z : ℕ). getD p z 0) e ∙ (sym eu ∙ (e ∙ sym (A .stands g S .top x l (sym eu ∙ e))))))
+        (λ (e : up ≡ x). er ∙ (ap (λ (z : ℕ). getD p z 0) e ∙ (sym eu ∙ (e ∙ sym (A .stands g S .top x l (sym eu ∙
+        e))))))
         (λ n. let a = low-up in er ∙ (A .each g S up (omega (arith, n)) ∙ (ap g eu ∙ A .stands g S .same x l)))
         (same-or up x)
 

@@ -3,7 +3,7 @@
 --     leader-none, leader-rest rows outside change nothing
 --     joined-same              two accounts with one leader
 --     rows-marked, rows-in, rows-out     a row set by its mark bytes
---     row-accounts             the accounts of a row are below 4,096
+--     RowAt, row-accounts      the accounts of a row are below 4,096
 --     Joining, join-start, join-skip, join-row, join-end     the loop
 -- Assumes nothing.
 use Prim.Native.Nat.{ℕ, zero, suc, min, _+_, _≤_, _<_}
@@ -150,7 +150,8 @@ module _ {d f g bytes : List ℕ} {r : Rows} (L : Lent d f g bytes r) where
   join-skip {j} {a} {b} {va} {vb} {q} {p} J l ea eb eva evb P e =
       same-next J l (λ u. ⊎-elim
       (λ h. leader-no t m j u (rows-out bytes j h))
-      (λ h. leader-yes t m j u (rows-in bytes j h) ∙ joined-same (leader t m j (firstOf t j)) (leader t m j (secondOf t j)) (leader t m j u) (one h))
+      (λ h. leader-yes t m j u (rows-in bytes j h) ∙ joined-same (leader t m j (firstOf t j)) (leader t m j
+      (secondOf t j)) (leader t m j u) (one h))
       (true-or-false (eqb (getD bytes j 0) 0)))
     where
       A : RowAt f g j
@@ -173,7 +174,11 @@ module _ {d f g bytes : List ℕ} {r : Rows} (L : Lent d f g bytes r) where
       record {
         from = let x = J .from in omega arith;
         most = omega arith;
-        grown = record { forest = K .forest; stands = rw add-one (stands-same (λ u. sym (is u)) (K .stands (leader t m j) (J .grown .stands))) };
+        grown = record {
+          forest = K .forest;
+          stands = rw add-one (stands-same (λ u. sym (is u)) (K .stands (leader
+              t m j) (J .grown .stands)));
+        };
       }
     where
       yes : marked m j ≡ true

@@ -24,9 +24,11 @@ abbrev meets : Table → List Bool → ℕ → ℕ → Bool
 meets t m a j = marked m j and touches t j a
 
 found-is : (d f g bytes : List ℕ) (a j : ℕ)
-    → (no (eqb (getD bytes j 0) 0) and (eqb (getD f j 0) a or eqb (getD g j 0) a)) ≡ meets (tableOf d f g) (rowsOf bytes) a j
+    → (no (eqb (getD bytes j 0) 0) and (eqb (getD f j 0) a or eqb (getD g j 0) a)) ≡ meets (tableOf d f g) (rowsOf
+    bytes) a j
 unfolding touches firstOf secondOf at
-found-is d f g bytes a j = ap (λ (b : Bool). b and (eqb (getD f j 0) a or eqb (getD g j 0) a)) (sym (rows-marked bytes j))
+found-is d f g bytes a j =
+    ap (λ (b : Bool). b and (eqb (getD f j 0) a or eqb (getD g j 0) a)) (sym (rows-marked bytes j))
 
 -- no row from lo to before j is one
 pub record Unmet (t : Table) (m : List Bool) (a lo end j : ℕ) : Type 0 where
@@ -43,7 +45,8 @@ module _ {d f g bytes : List ℕ} {r : Rows} (L : Lent d f g bytes r) (a : ℕ) 
 
   outside : (i : ℕ) → ((r .lo ≤ i) × (i < r .end) → ⊥) → meets t m a i ≡ false
   outside i n =
-      ⊎-elim (λ h. absurd (n (L .among i (and-l (marked m i) (touches t i a) h)))) (λ h. h) (true-or-false (meets t m a i))
+      ⊎-elim (λ h. absurd (n (L .among i (and-l (marked m i) (touches t i a) h)))) (λ h. h) (true-or-false (meets t
+      m a i))
 
   pub unmet-start : Unmet t m a (r .lo) (r .end) (r .lo)
   unmet-start =
@@ -67,7 +70,8 @@ module _ {d f g bytes : List ℕ} {r : Rows} (L : Lent d f g bytes r) (a : ℕ) 
       → true ≡ met t m a
   unfolding met
   unmet-found {j} U l e h =
-      sym (some-i (meets t m a) (size t) j (let k = L .last in omega arith) (sym (found-is d f g bytes a j) ∙ (sym e ∙ h)))
+      sym (some-i (meets t m a) (size t) j (let k = L .last in omega arith) (sym (found-is d f g bytes a j) ∙ (sym
+      e ∙ h)))
 
   pub unmet-end : {j : ℕ} → Unmet t m a (r .lo) (r .end) j → r .end ≤ j → false ≡ met t m a
   unfolding met

@@ -16,13 +16,17 @@ use Rattle.rings.specs.Ring.{touches, met, neighbour, names, degree, Good, With
 use Rattle.rings.specs.Sound.{Sound}
 use Rattle.rings.specs.declared.Query.{Query}
 use Rattle.rings.proofs.WordLaws.{true-or-false, same-marks, length-tabulate, getD-tabulate, marked-below, count-mono}
-use Rattle.rings.proofs.RingLaws.{Inside, window-e, window-i, window-sized, ring-sized, ring-within, ring-good, ring-only}
-use Rattle.rings.proofs.RingLaws.{met-i, met-e, met-mono, neighbour-i, neighbour-e, joins-touch, touch-first, touch-second}
+use Rattle.rings.proofs.RingLaws.{Inside, window-e, window-i, window-sized}
+use Rattle.rings.proofs.RingLaws.{ring-sized, ring-within, ring-good, ring-only}
+use Rattle.rings.proofs.RingLaws.{met-i, met-e, met-mono, neighbour-i}
+use Rattle.rings.proofs.RingLaws.{neighbour-e, joins-touch, touch-first, touch-second}
 use Rattle.rings.proofs.PartLaws.{copy-good}
-use Rattle.groups.specs.Groups.{Connected, Reaches, IsLabel, RowsConnected, choose, none, leader, labelsOf, group, picked, alone}
+use Rattle.groups.specs.Groups.{Connected, Reaches, IsLabel, RowsConnected, choose, none}
+use Rattle.groups.specs.Groups.{leader, labelsOf, group, picked, alone}
 use Rattle.groups.specs.Groups.Connected.{itself, through}
 use Rattle.groups.proofs.ForestLaws.{choose-yes, choose-no}
-use Rattle.groups.proofs.ConnectedLaws.{Proper, connected-trans, connected-symm, row-linked, leader-connected, leader-same, leader-least, row-leader}
+use Rattle.groups.proofs.ConnectedLaws.{Proper, connected-trans, connected-symm, row-linked}
+use Rattle.groups.proofs.ConnectedLaws.{leader-connected, leader-same, leader-least, row-leader}
 use Rattle.groups.proofs.ConnectedLaws.{label-is, group-e, group-i}
 use Rattle.groups.proofs.AloneLaws.{all, all-i, all-below, place, d-at, alone-copies, copies-alone, alone-sound}
 
@@ -45,18 +49,21 @@ pub record Grouped (t : Table) (q : Query) (s e : ℕ) (m : List Bool) : Type 0 
   -- a row is in the group of an account exactly if it is a row of the ring that is connected with the account
   pub member : (a j : ℕ) → marked (group t m a) j ≡ true → (marked m j ≡ true) × Reaches t m j a
   pub members : (a j : ℕ) → marked m j ≡ true → Reaches t m j a → marked (group t m a) j ≡ true
-  -- "the groups together are the whole ring": a row of the ring is in the group of its label, and a group has no other rows
+  -- "the groups together are the whole ring": a row of the ring is in the group of its label, and a group has
+  -- no other rows
   pub together : (j : ℕ) → marked m j ≡ true → marked (group t m (at (labelsOf t m) j)) j ≡ true
   pub within : (a : ℕ) → Within (group t m a) m
   -- no two groups share a row
   pub apart : (a b j : ℕ) → marked (group t m a) j ≡ true → marked (group t m b) j ≡ true → group t m a ≡ group t m b
   -- a label is an account of its own group, and the smallest
   pub own-account : (j : ℕ) → marked m j ≡ true → met t (group t m (at (labelsOf t m) j)) (at (labelsOf t m) j) ≡ true
-  pub smallest : (j a : ℕ) → marked m j ≡ true → met t (group t m (at (labelsOf t m) j)) a ≡ true → at (labelsOf t m) j ≤ a
+  pub smallest : (j a : ℕ) → marked m j ≡ true → met t (group t m (at (labelsOf t m) j)) a ≡ true → at (labelsOf t
+      m) j ≤ a
   -- "Each group taken as a table of its own has itself as its ring for that window"
   pub itself : (a : ℕ) → ring (alone t (group t m a)) q s e ≡ all (alone t (group t m a))
   -- and is a table that is accepted
-  pub accepted : (a : ℕ) → Sound (alone t (group t m a) .days) (alone t (group t m a) .first) (alone t (group t m a) .second)
+  pub accepted : (a : ℕ) → Sound (alone t (group t m a) .days) (alone t (group t m a) .first) (alone t (group t m
+      a) .second)
 
 module _ {d f g : List ℕ} (S : Sound d f g) (q : Query) (s e : ℕ) where
   abbrev t : Table
@@ -77,7 +84,8 @@ module _ {d f g : List ℕ} (S : Sound d f g) (q : Query) (s e : ℕ) where
   label-at : (j : ℕ) → marked m j ≡ true → at (labelsOf t m) j ≡ leader t m (size t) (firstOf t j)
   unfolding labelsOf at
   label-at j h =
-      getD-tabulate (λ j. choose (marked m j) (leader t m (size t) (firstOf t j)) none) 0 (size t) j 0 (proper .in-table j h)
+      getD-tabulate (λ j. choose (marked m j) (leader t m (size t) (firstOf t j)) none) 0 (size t) j 0 (proper
+      .in-table j h)
       ∙ (ap (λ (i : ℕ). choose (marked m i) (leader t m (size t) (firstOf t i)) none) (zero-add j)
       ∙ choose-yes (leader t m (size t) (firstOf t j)) none h)
 
@@ -104,7 +112,8 @@ module _ {d f g : List ℕ} (S : Sound d f g) (q : Query) (s e : ℕ) where
   met-connected a u h =
       let w = met-e t (group t m a) u h in
       let x = group-e t m proper a (w .row) (w .has) in
-      connected-trans t m (row-linked t m proper (w .row) u (x .1 .account) (x .0) (w .touch) (x .1 .has)) (x .1 .connected)
+      connected-trans t m (row-linked t m proper (w .row) u (x .1 .account) (x .0) (w .touch) (x .1 .has)) (x .1
+      .connected)
 
   group-within : (a : ℕ) → Within (group t m a) m
   group-within a = record { all = λ j h. group-e t m proper a j h .0 }
@@ -114,7 +123,8 @@ module _ {d f g : List ℕ} (S : Sound d f g) (q : Query) (s e : ℕ) where
   group-sized a = length-tabulate _ 0 (size t)
 
   -- every row of the ring at an account of the group is in the group
-  kept : (a u j : ℕ) → met t (group t m a) u ≡ true → marked m j ≡ true → touches t j u ≡ true → marked (group t m a) j ≡ true
+  kept : (a u j : ℕ) → met t (group t m a) u ≡ true → marked m j ≡ true → touches t j u ≡ true → marked (group t m
+      a) j ≡ true
   kept a u j h k w = group-i t m proper a j k (record { account = u; has = w; connected = met-connected a u h })
 
   group-good : (a : ℕ) → Good t q (group t m a)
@@ -148,7 +158,8 @@ module _ {d f g : List ℕ} (S : Sound d f g) (q : Query) (s e : ℕ) where
       let x = group-e t m proper a j h in
       let y = group-e t m proper b j k in
       connected-trans t m (connected-symm t m (x .1 .connected))
-      (connected-trans t m (row-linked t m proper j (x .1 .account) (y .1 .account) (x .0) (x .1 .has) (y .1 .has)) (y .1 .connected))
+      (connected-trans t m (row-linked t m proper j (x .1 .account) (y .1 .account) (x .0) (x .1 .has) (y .1 .has))
+      (y .1 .connected))
 
   carried : (a b i : ℕ) → Connected t m a b → marked (group t m a) i ≡ true → marked (group t m b) i ≡ true
   carried a b i C h =
@@ -162,7 +173,9 @@ module _ {d f g : List ℕ} (S : Sound d f g) (q : Query) (s e : ℕ) where
   unfolding dayOf at
   its-window a i l =
       let w = d-at S (group t m a) (group-sized a) i l in
-      let x = window-e t s e (place (group t m a) i) (ring-within t q s e .all (place (group t m a) i) (group-within a .all (place (group t m a) i) (w .has))) in
+      let x =
+      window-e t s e (place (group t m a) i) (ring-within t q s e .all (place (group t m a) i) (group-within a .all
+      (place (group t m a) i) (w .has))) in
       let y = w .same in
       let from = x .from in
       let to = x .to in
@@ -174,7 +187,8 @@ module _ {d f g : List ℕ} (S : Sound d f g) (q : Query) (s e : ℕ) where
       record {
         sized = length-replicate (size p) true;
         within = record { all = λ i h. window-i p s e i (its-window a i (all-below (size p) i h)) };
-        good = copy-good q (alone-copies S (group t m a) (group-sized a)) (copies-alone S (group t m a) (group-sized a)) (group-good a);
+        good = copy-good q (alone-copies S (group t m a) (group-sized a)) (copies-alone S (group t m a)
+            (group-sized a)) (group-good a);
         greatest-one = λ m′ W G. record { all = λ i h. all-i (size p) i (window-e p s e i (W .all i h) .row) };
       }
 

@@ -30,13 +30,15 @@ use Rattle.rings.specs.declared.refusal.Refusal.the-variants.{BadLength}
 use Rattle.rings.specs.declared.refusal.Verdict.{Verdict}
 use Rattle.rings.specs.declared.refusal.Verdict.the-variants.{Accepted, Refused}
 use Rattle.rings.specs.declared.refusal.Counted.{Counted}
-use Rattle.rings.proofs.WordLaws.{true-or-false, same-truth, marked-tabulate, count-same, length-tabulate, getD-tabulate}
+use Rattle.rings.proofs.WordLaws.{true-or-false, same-truth, marked-tabulate}
+use Rattle.rings.proofs.WordLaws.{count-same, length-tabulate, getD-tabulate}
 use Rattle.rings.proofs.RingLaws.{window-e, ring-sized, ring-within}
 use Rattle.rings.proofs.CheckLaws.{counted-e}
 use Rattle.rings.proofs.TableLaws.{table-sound}
 use Rattle.rings.proofs.AcceptedLaws.{call-sound, call-window, call-lengths, call-scratch, window-e as window-passed}
 use Rattle.groups.specs.Groups.{choose, none, leader, labelsOf, group}
-use Rattle.groups.specs.Inner.{Leaders, rowsOf, Between, Lent, Ringed, Writing, labelled, led, LedMarked, GroupMarked, atMost}
+use Rattle.groups.specs.Inner.{Leaders, rowsOf, Between, Lent, Ringed, Writing}
+use Rattle.groups.specs.Inner.{labelled, led, LedMarked, GroupMarked, atMost}
 use Rattle.groups.specs.declared.rows.Rows.{Rows}
 
 -- ---- mark bytes and row sets
@@ -140,7 +142,8 @@ ringed-of {d} {f} {g} {q} {s} {e} {bytes = bytes} C h =
     t : Table
     t = tableOf d f g
 
-pub lent-of : {d f g bytes : List ℕ} {s e : ℕ} {r : Rows} → Ringed d f g bytes s e → Between d s e r → Lent d f g bytes r
+pub lent-of : {d f g bytes : List ℕ} {s e : ℕ} {r : Rows} → Ringed d f g bytes s e → Between d s e r → Lent d f g
+    bytes r
 unfolding dayOf at
 lent-of {d} {f} {g} {bytes} {s} {e} {r} R B =
     record {
@@ -168,7 +171,8 @@ lent-of {d} {f} {g} {bytes} {s} {e} {r} R B =
 
 -- ---- what the loops write
 
-pub writing-of : {d f g bytes x : List ℕ} {r : Rows} {h : ℕ → ℕ} {n : ℕ} → Lent d f g bytes r → Leaders x h → n ≡ length d
+pub writing-of : {d f g bytes x : List ℕ} {r : Rows} {h : ℕ → ℕ} {n : ℕ} → Lent d f g bytes r → Leaders x h → n ≡
+    length d
     → Writing f bytes r x n
 writing-of L P e =
     record {
@@ -231,7 +235,8 @@ module _ {d f g bytes x : List ℕ} {r : Rows} (L : Lent d f g bytes r)
     written =
         ext-getD 0 (tabulate (λ j. mark (led f bytes x a j)) 0 (length d)) (marks (group t m a))
         (length-tabulate (λ j. mark (led f bytes x a j)) 0 (length d) ∙ sym (marks-long (group t m a) ∙ group-long))
-        (λ i l. let k : i < length d = (let e = length-tabulate (λ j. mark (led f bytes x a j)) 0 (length d) in omega arith) in
+        (λ i l. let k : i < length d = (let e = length-tabulate (λ j. mark (led f bytes x a j)) 0 (length d) in
+        omega arith) in
         getD-tabulate (λ j. mark (led f bytes x a j)) 0 (length d) i 0 k
         ∙ (ap (λ (j : ℕ). mark (led f bytes x a j)) (zero-add i)
         ∙ (ap mark (led-group i k ∙ sym (group-at i k)) ∙ sym (List·getD-map mark (group t m a) i false))))
@@ -245,5 +250,6 @@ module _ {d f g bytes x : List ℕ} {r : Rows} (L : Lent d f g bytes r)
               ∙ (count-same (led f bytes x a) (marked (group t m a)) (length d)
               (λ j l. led-group j l ∙ sym (group-at j l))
               ∙ ap (count (marked (group t m a))) (sym group-long)));
-          marks = M .marks ∙ (ap (λ (k : ℕ). tabulate (λ j. mark (led f bytes x a j)) 0 k) (L .sound .firsts) ∙ written);
+          marks = M .marks ∙ (ap (λ (k : ℕ). tabulate (λ j. mark (led f bytes x a j)) 0 k) (L .sound .firsts) ∙
+              written);
         }

@@ -11,7 +11,7 @@
 --     Between d s e r    the rows r are those of the window [s, e]
 --     Lent d f g bytes r    a sound table, a mark byte for each row, and none outside the rows r
 --     Ringed d f g bytes s e    the same, and none outside the window [s, e]
---     Labelling, Marking    what the two writing loops are lent
+--     Writing f bytes r x n    what a loop that writes a column is lent; Labelling, Marking: and the column, cleared
 --     labelled           the labels that are written, by the leaders that are held
 --     led                row j is marked, and held under the leader of a
 --     LedMarked          those rows as marks, with their number

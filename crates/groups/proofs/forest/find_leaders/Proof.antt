@@ -30,7 +30,9 @@ same-length : tie.Need-same-length
 same-length c =
     let flatten = c .before .before .flatten in
     let join-rows = c .before .before .before .before .before .before .join-rows in
-    let pre = c .before .before .before .before .before .before .before .before .before .before .before .before .before .before .before .before .before .pre in
+    let pre =
+    c .before .before .before .before .before .before .before .before .before .before .before .before .before .before
+    .before .before .before .pre in
     flatten .ensures .leaders _ (join-rows .ensures .stands) .long ∙ sym (pre .1)
 
 returns : tie.Need-returns

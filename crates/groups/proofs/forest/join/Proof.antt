@@ -45,21 +45,27 @@ cast-parents : tie.Need-cast-parents
 cast-parents c =
     let find2 = c .before .before .before .before .find2 in
     let find = c .before .before .before .before .before .before .before .before .find in
-    let pre = c .before .before .before .before .before .before .before .before .before .before .before .before .before .before .before .pre in
+    let pre =
+    c .before .before .before .before .before .before .before .before .before .before .before .before .before .before
+    .before .pre in
     omega (arith, c .greater .ensures, find .ensures .below, find2 .ensures .below, pre .1 .0, pre .1 .1)
 
 mul-parents : tie.Need-mul-parents
 mul-parents c =
     let find2 = c .before .before .before .before .find2 in
     let find = c .before .before .before .before .before .before .before .before .find in
-    let pre = c .before .before .before .before .before .before .before .before .before .before .before .before .before .before .before .pre in
+    let pre =
+    c .before .before .before .before .before .before .before .before .before .before .before .before .before .before
+    .before .pre in
     omega (arith, c .greater .ensures, find .ensures .below, find2 .ensures .below, pre .1 .0, pre .1 .1)
 
 slice-write-parents : tie.Need-slice-write-parents
 slice-write-parents c =
     let find2 = c .before .before .before .before .find2 in
     let find = c .before .before .before .before .before .before .before .before .find in
-    let pre = c .before .before .before .before .before .before .before .before .before .before .before .before .before .before .before .pre in
+    let pre =
+    c .before .before .before .before .before .before .before .before .before .before .before .before .before .before
+    .before .pre in
     omega (
       arith,
       find2 .ensures .forest .long,
@@ -76,7 +82,9 @@ point-requires c κs =
     let lesser = c .before .before .lesser in
     let find2 = c .before .before .before .before .before .find2 in
     let find = c .before .before .before .before .before .before .before .before .before .find in
-    let pre = c .before .before .before .before .before .before .before .before .before .before .before .before .before .before .before .before .pre in (
+    let pre =
+    c .before .before .before .before .before .before .before .before .before .before .before .before .before .before
+    .before .before .pre in (
       forest-set _ _ (find2 .ensures .forest)
           (omega (arith, greater .ensures, find .ensures .below, find2 .ensures .below, pre .1 .0, pre .1 .1))
           (omega (arith, lesser .ensures, greater .ensures)),
@@ -88,13 +96,17 @@ point-requires-2 c κs =
     let point = c .before .before .before .point in
     let lesser = c .before .before .before .before .before .before .lesser in
     let find2 = c .before .before .before .before .before .before .before .before .before .find2 in
-    let pre = c .before .before .before .before .before .before .before .before .before .before .before .before .before .before .before .before .before .before .before .before .pre in
+    let pre =
+    c .before .before .before .before .before .before .before .before .before .before .before .before .before .before
+    .before .before .before .before .before .before .pre in
     (point .ensures .forest, (pre .1 .1, omega (arith, lesser .ensures, find2 .ensures .below)))
 
 same-length : tie.Need-same-length
 same-length c =
     let point2 = c .before .before .point2 in
-    let pre = c .before .before .before .before .before .before .before .before .before .before .before .before .before .before .before .before .before .before .before .before .before .before .before .pre in
+    let pre =
+    c .before .before .before .before .before .before .before .before .before .before .before .before .before .before
+    .before .before .before .before .before .before .before .before .before .pre in
     point2 .ensures .forest .long ∙ sym (pre .0 .long)
 
 returns : tie.Need-returns
@@ -103,9 +115,14 @@ returns c =
     let point = c .before .before .before .before .before .before .point in
     let greater = c .before .before .before .before .before .before .before .before .greater in
     let lesser = c .before .before .before .before .before .before .before .before .before .lesser in
-    let find2 = c .before .before .before .before .before .before .before .before .before .before .before .before .find2 in
-    let find = c .before .before .before .before .before .before .before .before .before .before .before .before .before .before .before .before .find in
-    let pre = c .before .before .before .before .before .before .before .before .before .before .before .before .before .before .before .before .before .before .before .before .before .before .before .pre in
+    let find2 =
+    c .before .before .before .before .before .before .before .before .before .before .before .before .find2 in
+    let find =
+    c .before .before .before .before .before .before .before .before .before .before .before .before .before .before
+    .before .before .find in
+    let pre =
+    c .before .before .before .before .before .before .before .before .before .before .before .before .before .before
+    .before .before .before .before .before .before .before .before .before .pre in
     joins-of (pre .1 .0) (pre .1 .1) (find .ensures) (find2 .ensures) (lesser .ensures) (greater .ensures)
     (point .ensures) (point2 .ensures)
 

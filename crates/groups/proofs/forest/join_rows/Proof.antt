@@ -16,7 +16,8 @@ use Rattle.groups.proofs.forest.parent.Reads as parent-reads
 use Rattle.rings.proofs.choice.pick.Reads as pick-reads
 
 abbrev Inv-loop : tie.InvT-loop
-Inv-loop days first second marks parents₀ end j₀ parents j = Joining (tableOf days first second) (rowsOf marks) j₀ end j parents
+Inv-loop days first second marks parents₀ end j₀ parents j =
+    Joining (tableOf days first second) (rowsOf marks) j₀ end j parents
 
 abbrev μ-loop : tie.MeasureT-loop
 μ-loop days first second marks parents₀ end j₀ parents j = end - j
@@ -82,7 +83,8 @@ parent-requires-2 : tie.Need-parent-requires-2 Inv-loop μ-loop
 parent-requires-2 c κs =
     let loop-test = c .before .before .before .before .before .before .loop-test in
     let loop = c .before .before .before .before .before .before .before .loop in
-    let pre = c .before .before .before .before .before .before .before .before .before .before .before .before .before .pre in
+    let pre =
+    c .before .before .before .before .before .before .before .before .before .before .before .before .before .pre in
     (loop .inv .grown .forest, row-at (pre .0) (loop .inv) (loop-test .taken) .second)
 
 pick-requires : tie.Need-pick-requires Inv-loop μ-loop
@@ -91,7 +93,9 @@ pick-requires c κs = search needs
 add-j : tie.Need-add-j Inv-loop μ-loop
 add-j c =
     let loop-test = c .before .before .before .before .before .before .before .before .before .loop-test in
-    let pre = c .before .before .before .before .before .before .before .before .before .before .before .before .before .before .before .before .pre in
+    let pre =
+    c .before .before .before .before .before .before .before .before .before .before .before .before .before .before
+    .before .before .pre in
     omega (arith, loop-test .taken, pre .0 .last, pre .0 .sound .most)
 
 loop-less : tie.Need-loop-less Inv-loop μ-loop
@@ -106,7 +110,9 @@ loop-again c =
     let parent = c .before .before .before .before .before .parent in
     let loop-test = c .before .before .before .before .before .before .before .before .before .loop-test in
     let loop = c .before .before .before .before .before .before .before .before .before .before .loop in
-    let pre = c .before .before .before .before .before .before .before .before .before .before .before .before .before .before .before .before .pre in
+    let pre =
+    c .before .before .before .before .before .before .before .before .before .before .before .before .before .before
+    .before .before .pre in
     join-skip (pre .0) (loop .inv) (loop-test .taken) refl refl (parent .ensures .0) (parent2 .ensures .0)
     (pick .ensures) (c .if1 .taken)
 
@@ -114,20 +120,28 @@ join-requires : tie.Need-join-requires Inv-loop μ-loop
 join-requires c κs =
     let loop-test = c .before .before .before .before .before .before .before .before .before .before .loop-test in
     let loop = c .before .before .before .before .before .before .before .before .before .before .before .loop in
-    let pre = c .before .before .before .before .before .before .before .before .before .before .before .before .before .before .before .before .before .pre in (
+    let pre =
+    c .before .before .before .before .before .before .before .before .before .before .before .before .before .before
+    .before .before .before .pre in (
       loop .inv .grown .forest,
       (row-at (pre .0) (loop .inv) (loop-test .taken) .first, row-at (pre .0) (loop .inv) (loop-test .taken) .second),
     )
 
 add-j-2 : tie.Need-add-j-2 Inv-loop μ-loop
 add-j-2 c =
-    let loop-test = c .before .before .before .before .before .before .before .before .before .before .before .before .before .loop-test in
-    let pre = c .before .before .before .before .before .before .before .before .before .before .before .before .before .before .before .before .before .before .before .before .pre in
+    let loop-test =
+    c .before .before .before .before .before .before .before .before .before .before .before .before .before
+    .loop-test in
+    let pre =
+    c .before .before .before .before .before .before .before .before .before .before .before .before .before .before
+    .before .before .before .before .before .before .pre in
     omega (arith, loop-test .taken, pre .0 .last, pre .0 .sound .most)
 
 loop-less-2 : tie.Need-loop-less-2 Inv-loop μ-loop
 loop-less-2 c =
-    let loop-test = c .before .before .before .before .before .before .before .before .before .before .before .before .before .loop-test in
+    let loop-test =
+    c .before .before .before .before .before .before .before .before .before .before .before .before .before
+    .loop-test in
     omega (arith, loop-test .taken)
 
 loop-again-2 : tie.Need-loop-again-2 Inv-loop μ-loop
@@ -135,9 +149,15 @@ loop-again-2 c =
     let join = c .before .before .join in
     let if1 = c .before .before .before .before .if1 in
     let pick = c .before .before .before .before .before .pick in
-    let loop-test = c .before .before .before .before .before .before .before .before .before .before .before .before .before .loop-test in
-    let loop = c .before .before .before .before .before .before .before .before .before .before .before .before .before .before .loop in
-    let pre = c .before .before .before .before .before .before .before .before .before .before .before .before .before .before .before .before .before .before .before .before .pre in
+    let loop-test =
+    c .before .before .before .before .before .before .before .before .before .before .before .before .before
+    .loop-test in
+    let loop =
+    c .before .before .before .before .before .before .before .before .before .before .before .before .before .before
+    .loop in
+    let pre =
+    c .before .before .before .before .before .before .before .before .before .before .before .before .before .before
+    .before .before .before .before .before .before .pre in
     join-row (pre .0) (loop .inv) (loop-test .taken) refl refl (pick .ensures) (if1 .left) (join .ensures)
 
 same-length : tie.Need-same-length Inv-loop μ-loop

@@ -45,7 +45,9 @@ label-rows-requires c κs =
     let found2 = c .before .before .before .before .found2 in
     let scratch = c .before .before .before .before .before .before .before .scratch in
     let window-ring = c .before .before .before .before .before .before .before .before .before .before .window-ring in
-    let pre = c .before .before .before .before .before .before .before .before .before .before .before .before .before .before .before .before .before .before .before .pre in (
+    let pre =
+    c .before .before .before .before .before .before .before .before .before .before .before .before .before .before
+    .before .before .before .before .before .pre in (
       ringed-of (ring-call (window-ring .ensures .0) (found2 .given .1))
           (ring-bytes _ _ _ _ _ _ _ (found2 .given .1) (window-ring .ensures .1 .0)),
       (
@@ -68,7 +70,9 @@ returns : tie.Need-returns
 returns c =
     let found = c .before .found in
     let window-ring = c .before .before .before .before .before .before .before .window-ring in
-    let pre = c .before .before .before .before .before .before .before .before .before .before .before .before .before .before .before .before .pre in
+    let pre =
+    c .before .before .before .before .before .before .before .before .before .before .before .before .before .before
+    .before .before .pre in
     label-refused _ _ _ _ _ _ _ _ (pre) (window-ring .ensures .0) (window-ring .ensures .1 .1) (found .given .1)
 
 same-length-3 : tie.Need-same-length-3
@@ -84,8 +88,12 @@ returns-2 : tie.Need-returns-2
 returns-2 c =
     let label-rows = c .before .before .before .before .label-rows in
     let found2 = c .before .before .before .before .before .before .before .before .before .found2 in
-    let window-ring = c .before .before .before .before .before .before .before .before .before .before .before .before .before .before .before .window-ring in
-    let pre = c .before .before .before .before .before .before .before .before .before .before .before .before .before .before .before .before .before .before .before .before .before .before .before .before .pre in
+    let window-ring =
+    c .before .before .before .before .before .before .before .before .before .before .before .before .before .before
+    .before .window-ring in
+    let pre =
+    c .before .before .before .before .before .before .before .before .before .before .before .before .before .before
+    .before .before .before .before .before .before .before .before .before .before .pre in
     label-done _ _ _ _ _ _ _ _ (pre) (window-ring .ensures .0) (window-ring .ensures .1 .1) _ (found2 .given .1)
     (window-ring .ensures .1 .0) (label-rows .ensures .0) (label-rows .ensures .1)
 

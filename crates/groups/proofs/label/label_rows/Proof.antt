@@ -38,8 +38,12 @@ write-labels-requires c κs =
     let find-leaders = c .before .before .before .before .find-leaders in
     let clear-labels = c .before .before .before .before .before .before .before .before .clear-labels in
     let window-rows = c .before .before .before .before .before .before .before .before .before .before .window-rows in
-    let args = c .before .before .before .before .before .before .before .before .before .before .before .before .before .before .before .before .before .args in
-    let pre = c .before .before .before .before .before .before .before .before .before .before .before .before .before .before .before .before .before .pre in
+    let args =
+    c .before .before .before .before .before .before .before .before .before .before .before .before .before .before
+    .before .before .before .args in
+    let pre =
+    c .before .before .before .before .before .before .before .before .before .before .before .before .before .before
+    .before .before .before .pre in
     record {
       lent = writing-of (lent-of (pre .0) (window-rows .ensures)) (find-leaders .ensures)
           (fresh-long none {n = length (args .labels .now)} (clear-labels .ensures) ∙ pre .1 .0);
@@ -60,9 +64,14 @@ returns : tie.Need-returns
 returns c =
     let clear = c .before .before .clear in
     let write-labels = c .before .before .before .before .before .before .write-labels in
-    let find-leaders = c .before .before .before .before .before .before .before .before .before .before .before .find-leaders in
-    let window-rows = c .before .before .before .before .before .before .before .before .before .before .before .before .before .before .before .before .before .window-rows in
-    let pre = c .before .before .before .before .before .before .before .before .before .before .before .before .before .before .before .before .before .before .before .before .before .before .before .before .pre in (
+    let find-leaders =
+    c .before .before .before .before .before .before .before .before .before .before .before .find-leaders in
+    let window-rows =
+    c .before .before .before .before .before .before .before .before .before .before .before .before .before .before
+    .before .before .before .window-rows in
+    let pre =
+    c .before .before .before .before .before .before .before .before .before .before .before .before .before .before
+    .before .before .before .before .before .before .before .before .before .before .pre in (
       write-labels .ensures ∙ labelled-is (lent-of (pre .0) (window-rows .ensures)) (find-leaders .ensures),
       clear .ensures ∙ ap (λ (n : ℕ). replicate {A = ℕ} n 0) (find-leaders .ensures .long ∙ sym (pre .1 .1)),
     )

@@ -15,7 +15,9 @@ use Rattle.groups.proofs.label.write_labels.Lts as lts
 use Rattle.rings.proofs.choice.pick.Reads as pick-reads
 
 abbrev Inv-loop : tie.InvT-loop
-Inv-loop first marks leaders labels₀ end j₀ labels j = Written (λ i. choose (marked (rowsOf marks) i) (getD leaders (getD first i 0) 0) none) none (length labels₀) j labels
+Inv-loop first marks leaders labels₀ end j₀ labels j =
+    Written (λ i. choose (marked (rowsOf marks) i) (getD leaders (getD first i 0) 0) none) none (length labels₀) j
+    labels
 
 abbrev μ-loop : tie.MeasureT-loop
 μ-loop first marks leaders labels₀ end j₀ labels j = end - j

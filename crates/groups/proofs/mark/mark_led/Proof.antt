@@ -16,7 +16,8 @@ use Rattle.groups.proofs.mark.is_led.Reads as is-led-reads
 use Rattle.rings.proofs.choice.one.Reads as one-reads
 
 abbrev Inv-loop : tie.InvT-loop
-Inv-loop first ring leaders account marks₀ end asked n₀ j₀ marks n j = (j ≤ end) × Marked (led first ring leaders account) (length marks₀) j n marks
+Inv-loop first ring leaders account marks₀ end asked n₀ j₀ marks n j =
+    (j ≤ end) × Marked (led first ring leaders account) (length marks₀) j n marks
 
 abbrev μ-loop : tie.MeasureT-loop
 μ-loop first ring leaders account marks₀ end asked n₀ j₀ marks n j = end - j
@@ -128,7 +129,8 @@ loop-again c =
     let is-led = c .before .is-led in
     let loop-test = c .before .before .before .before .before .loop-test in
     let loop = c .before .before .before .before .before .before .loop in
-    let pre = c .before .before .before .before .before .before .before .before .before .before .before .before .pre in (
+    let pre =
+    c .before .before .before .before .before .before .before .before .before .before .before .before .pre in (
       omega (arith, loop-test .taken),
       mark-next (pre .0) _ (loop .inv .1) (loop-test .taken) (is-led .ensures) (c .one .ensures),
     )

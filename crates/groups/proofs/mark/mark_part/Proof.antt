@@ -54,8 +54,11 @@ returns : tie.Need-returns
 returns c =
     let is-met = c .before .is-met in
     let found2 = c .before .before .before .before .before .found2 in
-    let window-ring = c .before .before .before .before .before .before .before .before .before .before .before .window-ring in
-    let pre = c .before .before .before .before .before .before .before .before .before .before .before .before .before .before .before .before .before .before .before .before .pre in
+    let window-ring =
+    c .before .before .before .before .before .before .before .before .before .before .before .window-ring in
+    let pre =
+    c .before .before .before .before .before .before .before .before .before .before .before .before .before .before
+    .before .before .before .before .before .before .pre in
     group-absent _ _ _ _ _ _ _ _ _ (pre) (window-ring .ensures .0) (window-ring .ensures .1 .1) _ (found2 .given .1)
     (window-ring .ensures .1 .0) (is-met .ensures) (not-true _ (c .if1 .taken))
 
@@ -63,14 +66,18 @@ slice-relend-prefix-mark-rows : tie.Need-slice-relend-prefix-mark-rows
 slice-relend-prefix-mark-rows c =
     let found2 = c .before .before .before .before .before .before .before .found2 in
     let scratch = c .before .before .before .before .before .before .before .before .before .before .scratch in
-    let window-ring = c .before .before .before .before .before .before .before .before .before .before .before .before .before .window-ring in
+    let window-ring =
+    c .before .before .before .before .before .before .before .before .before .before .before .before .before
+    .window-ring in
     omega (arith, scratch .given, ring-call (window-ring .ensures .0) (found2 .given .1) .scratch)
 
 slice-aggregate-mark-rows : tie.Need-slice-aggregate-mark-rows
 slice-aggregate-mark-rows c =
     let found2 = c .before .before .before .before .before .before .before .before .found2 in
     let scratch = c .before .before .before .before .before .before .before .before .before .before .before .scratch in
-    let window-ring = c .before .before .before .before .before .before .before .before .before .before .before .before .before .before .window-ring in
+    let window-ring =
+    c .before .before .before .before .before .before .before .before .before .before .before .before .before .before
+    .window-ring in
     prefix-long (window-ring .last .1 .1 .1 .1 .1 .1 .1 .0) _ (scratch .given)
     (ring-call (window-ring .ensures .0) (found2 .given .1) .scratch)
 
@@ -81,8 +88,12 @@ mark-rows-requires c κs =
     let window-rows = c .before .before .before .before .before .before .window-rows in
     let found2 = c .before .before .before .before .before .before .before .before .found2 in
     let scratch = c .before .before .before .before .before .before .before .before .before .before .before .scratch in
-    let window-ring = c .before .before .before .before .before .before .before .before .before .before .before .before .before .before .window-ring in
-    let pre = c .before .before .before .before .before .before .before .before .before .before .before .before .before .before .before .before .before .before .before .before .before .before .before .pre in (
+    let window-ring =
+    c .before .before .before .before .before .before .before .before .before .before .before .before .before .before
+    .window-ring in
+    let pre =
+    c .before .before .before .before .before .before .before .before .before .before .before .before .before .before
+    .before .before .before .before .before .before .before .before .before .pre in (
       lent-of
           (
           ringed-of (ring-call (window-ring .ensures .0) (found2 .given .1))
@@ -112,7 +123,9 @@ returns-2 : tie.Need-returns-2
 returns-2 c =
     let found = c .before .found in
     let window-ring = c .before .before .before .before .before .before .before .window-ring in
-    let pre = c .before .before .before .before .before .before .before .before .before .before .before .before .before .before .before .before .pre in
+    let pre =
+    c .before .before .before .before .before .before .before .before .before .before .before .before .before .before
+    .before .before .pre in
     group-refused _ _ _ _ _ _ _ _ _ (pre) (window-ring .ensures .0) (window-ring .ensures .1 .1) (found .given .1)
 
 same-length-5 : tie.Need-same-length-5
@@ -129,9 +142,16 @@ returns-3 c =
     let mark-rows = c .before .before .before .before .mark-rows in
     let if1 = c .before .before .before .before .before .before .before .before .if1 in
     let is-met = c .before .before .before .before .before .before .before .before .before .is-met in
-    let found2 = c .before .before .before .before .before .before .before .before .before .before .before .before .before .found2 in
-    let window-ring = c .before .before .before .before .before .before .before .before .before .before .before .before .before .before .before .before .before .before .before .window-ring in
-    let pre = c .before .before .before .before .before .before .before .before .before .before .before .before .before .before .before .before .before .before .before .before .before .before .before .before .before .before .before .before .pre in
+    let found2 =
+    c .before .before .before .before .before .before .before .before .before .before .before .before .before .found2
+    in
+    let window-ring =
+    c .before .before .before .before .before .before .before .before .before .before .before .before .before .before
+    .before .before .before .before .before .window-ring in
+    let pre =
+    c .before .before .before .before .before .before .before .before .before .before .before .before .before .before
+    .before .before .before .before .before .before .before .before .before .before .before .before .before .before
+    .pre in
     group-done _ _ _ _ _ _ _ _ _ (pre) (window-ring .ensures .0) (window-ring .ensures .1 .1) _ (found2 .given .1)
     (window-ring .ensures .1 .0) (is-met .ensures) (not-false _ (if1 .left)) (mark-rows .ensures .0)
     (mark-rows .ensures .1)

@@ -28,10 +28,18 @@ mark-led-requires : tie.Need-mark-led-requires
 mark-led-requires c κs =
     let find-leaders = c .before .before .before .before .find-leaders in
     let clear-marks = c .before .before .before .before .before .before .before .before .clear-marks in
-    let args = c .before .before .before .before .before .before .before .before .before .before .before .before .before .before .before .before .args in
-    let pre = c .before .before .before .before .before .before .before .before .before .before .before .before .before .before .before .before .pre in (
-      record
-          { lent = writing-of (pre .0) (find-leaders .ensures) (fresh-long 0 (clear-marks .ensures) ∙ pre .1 .1 .0); cleared = fresh 0 {n = length (args .marks .now)} (fresh-long 0 {n = length (args .marks .now)} (clear-marks .ensures)) (clear-marks .ensures) },
+    let args =
+    c .before .before .before .before .before .before .before .before .before .before .before .before .before .before
+    .before .before .args in
+    let pre =
+    c .before .before .before .before .before .before .before .before .before .before .before .before .before .before
+    .before .before .pre in (
+      record {
+        lent = writing-of (pre .0) (find-leaders .ensures) (fresh-long 0 (clear-marks .ensures) ∙ pre .1 .1
+            .0);
+        cleared = fresh 0 {n = length (args .marks .now)} (fresh-long 0 {n = length (args .marks .now)}
+            (clear-marks .ensures)) (clear-marks .ensures);
+      },
       pre .1 .0,
     )
 
@@ -48,8 +56,11 @@ returns : tie.Need-returns
 returns c =
     let clear = c .before .before .clear in
     let mark-led = c .before .before .before .before .before .before .mark-led in
-    let find-leaders = c .before .before .before .before .before .before .before .before .before .before .before .find-leaders in
-    let pre = c .before .before .before .before .before .before .before .before .before .before .before .before .before .before .before .before .before .before .before .before .before .before .before .pre in (
+    let find-leaders =
+    c .before .before .before .before .before .before .before .before .before .before .before .find-leaders in
+    let pre =
+    c .before .before .before .before .before .before .before .before .before .before .before .before .before .before
+    .before .before .before .before .before .before .before .before .before .pre in (
       group-is (pre .0) (find-leaders .ensures) _ (pre .1 .0) (mark-led .ensures),
       clear .ensures ∙ ap (λ (n : ℕ). replicate {A = ℕ} n 0) (find-leaders .ensures .long ∙ sym (pre .1 .1 .1)),
     )
