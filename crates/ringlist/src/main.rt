@@ -19,7 +19,7 @@ use text::put_refused;
 
 // The refused line.
 fn refuse(number: u32, line: usize, output: &mut [u8]) -> usize
-    requires { ⌜ (number ≤ 14) × (line ≤ mostInput + 2) × (length (now output) ≡ mostOutput) ⌝ }
+    requires { ⌜ (number ≤ 15) × (line ≤ mostInput + 2) × (length (now output) ≡ mostOutput) ⌝ }
     ensures { λ r. ⌜ Counts r (now (output .exit)) ⌝ }
     ensures { λ r. ⌜ take r (now (output .exit)) ≡ refusedLine number line ⌝ }
 {
