@@ -7,7 +7,7 @@ use rings::{Counted, Place, Refusal, Verdict, tell};
 use text::{Report, TableRead, TableWritten, report_table, report_written};
 
 // The refusal's number, 0 for none; its place; the count, 0 on a refusal.
-#[derive(Drop)]
+#[derive(Clone, Copy)]
 pub struct Numbers {
     pub number: u32,
     pub place: u64,

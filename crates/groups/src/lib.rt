@@ -1,4 +1,5 @@
 // The groups of a ring: a ring falls into groups with no payment between them, and a case is opened for each.
+#![tactic(auto)]
 
 mod forest;
 mod label;
@@ -10,7 +11,7 @@ pub use mark::mark_group;
 pub use rings::{Counted, Query, Refusal};
 
 // The ring that is asked for.
-#[derive(Drop)]
+#[derive(Clone, Copy)]
 pub(crate) struct Asked {
     pub query: Query,
     pub s: u16,

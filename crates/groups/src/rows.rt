@@ -9,7 +9,7 @@ use rings::rows_before;
 pub(crate) const MARKS: usize = 16385;
 
 // The rows from lo to before end: days never fall, so those of a window stand side by side.
-#[derive(Drop)]
+#[derive(Clone, Copy)]
 pub(crate) struct Rows {
     pub lo: usize,
     pub end: usize,

@@ -1,4 +1,5 @@
 // The listing of a range's rings, the longest list there can be, and the listing as text.
+#![tactic(auto)]
 
 mod list;
 mod longest;
@@ -10,7 +11,7 @@ pub use program::{MOST_OUTPUT, list_text};
 pub use rings::{Counted, Query, Refusal, Verdict};
 
 // Listing's answer: how many rings, the sum of their rows, and how many windows have no ring. Longest list answers a `Counted`.
-#[derive(Drop)]
+#[derive(Clone, Copy)]
 pub enum Listed {
     Rings { count: usize, sum: u64, empty: u64 },
     Refused(Refusal),
@@ -18,7 +19,7 @@ pub enum Listed {
 
 // The answer of the listing program's work on bytes: the length of the listing text, or a refusal's number and its
 // input line, 0 where it has none.
-#[derive(Drop)]
+#[derive(Clone, Copy)]
 pub enum Printed {
     Text(usize),
     Refused { number: u32, line: usize },

@@ -28,7 +28,7 @@ const SCRATCH: usize = 8192 + 4 * MOST_ROWS;
 pub const MOST_OUTPUT: usize = ENTRY_BYTES * (MOST_LISTED + 1);
 
 // What an input asks for: the listing of a query over so many rows, or nothing, by a refusal.
-#[derive(Drop)]
+#[derive(Clone, Copy)]
 pub enum Asked {
     Rows {
         query: Query,

@@ -7,7 +7,7 @@ use crate::Query;
 
 // It goes by value through every inner function that works on a start. A hot leaf copies the numbers that it needs
 // first.
-#[derive(Drop)]
+#[derive(Clone, Copy)]
 pub struct Frame {
     pub query: Query,
     pub start: u16,

@@ -10,7 +10,7 @@ use crate::slices::entry;
 
 // A row as a walk over the rows of one of its accounts meets it: the row, its day, its other account,
 // and, for a row at lo or later, whether it is the first of its pair from lo on, so that it brings a new neighbour.
-#[derive(Drop)]
+#[derive(Clone, Copy)]
 pub struct Incident {
     pub row: usize,
     pub day: u16,

@@ -1,6 +1,7 @@
 // Rings of a dated payment table.
 // A customer's calls are re-exported here. Three modules are for the parts above: the checks that calls share, choices
 // without a branch, and the starts of a range.
+#![tactic(auto)]
 
 mod adjacency;
 pub mod checks;
@@ -35,7 +36,7 @@ pub use times::core_times;
 pub use windows::minimal_windows;
 
 // What a query asks of a ring: each account met has at least k distinct others.
-#[derive(Drop)]
+#[derive(Clone, Copy)]
 pub struct Query {
     pub k: u16,
 }

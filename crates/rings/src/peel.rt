@@ -18,7 +18,7 @@ use crate::slices::{clear, entry, put};
 // How far the removal has come: the day that is the core time of who is removed now, the end of the rows that have
 // not left,
 // and the queue of the fallen from head to tail.
-#[derive(Drop)]
+#[derive(Clone, Copy)]
 pub struct Removal {
     pub day: u16,
     pub end: usize,

@@ -4,7 +4,7 @@ ghost use Rattle.rings.specs.Refusals.{told_of};
 
 // Why a call refuses: document 01's refusals, and 02's from 15 on, each with its place where it has one. specs/Refusals.antt gives number
 // and place.
-#[derive(Drop)]
+#[derive(Clone, Copy)]
 pub enum Refusal {
     // 1: column lengths differ.
     ColumnsDiffer,
@@ -33,21 +33,21 @@ pub enum Refusal {
 }
 
 // Table check, Core times, Recall; and every list of checks.
-#[derive(Drop)]
+#[derive(Clone, Copy)]
 pub enum Verdict {
     Accepted,
     Refused(Refusal),
 }
 
 // Window ring, Minimal windows.
-#[derive(Drop)]
+#[derive(Clone, Copy)]
 pub enum Counted {
     Count(usize),
     Refused(Refusal),
 }
 
 // Where a refusal lies: nowhere, at a row of the table, or at an entry of a minimal-window list, both counted from 0.
-#[derive(Drop)]
+#[derive(Clone, Copy)]
 pub enum Place {
     Nowhere,
     Row(usize),
@@ -55,7 +55,7 @@ pub enum Place {
 }
 
 // What a caller is told of a refusal: its number and its place.
-#[derive(Drop)]
+#[derive(Clone, Copy)]
 pub struct Told {
     pub number: u32,
     pub place: Place,

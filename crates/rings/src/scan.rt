@@ -15,7 +15,7 @@ use crate::slices::{entry, put, wide};
 
 // A scan of an account's rows: where they begin in the adjacency, the day that is asked about, and the rows that may
 // be passed before it is given up.
-#[derive(Drop)]
+#[derive(Clone, Copy)]
 pub struct Scan {
     pub account: usize,
     pub from: usize,
@@ -24,7 +24,7 @@ pub struct Scan {
 }
 
 // How many support an account on a day, the least later day on which one more may, and how many more then.
-#[derive(Drop)]
+#[derive(Clone, Copy)]
 struct ScanCounts {
     count: u16,
     above: u16,
@@ -32,7 +32,7 @@ struct ScanCounts {
 }
 
 // The same with the number of rows that a walk passed.
-#[derive(Drop)]
+#[derive(Clone, Copy)]
 pub struct DayScan {
     pub count: u16,
     pub above: u16,
@@ -42,7 +42,7 @@ pub struct DayScan {
 
 // The same with what a rise to the day above needs: how many rows of the account move with it, and where the list of
 // those who lose it ends.
-#[derive(Drop)]
+#[derive(Clone, Copy)]
 pub struct RiseScan {
     pub count: u16,
     pub above: u16,
@@ -54,7 +54,7 @@ pub struct RiseScan {
 
 // What a scan finds: the account's time, its spare supporters, counted from 1, and the rows that it passed; or that
 // it gave up.
-#[derive(Drop)]
+#[derive(Clone, Copy)]
 pub enum FoundDay {
     Found { time: u16, left: u16, walked: usize },
     GaveUp,

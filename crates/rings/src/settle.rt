@@ -25,7 +25,7 @@ use crate::supporters::{
 
 // The worklist of a start, in the queue: who rose stands below `raised`, who waits from `head` to `tail`. And how
 // many rows scans have passed.
-#[derive(Drop)]
+#[derive(Clone, Copy)]
 pub struct Worklist {
     pub head: usize,
     pub tail: usize,
@@ -35,21 +35,21 @@ pub struct Worklist {
 
 // What one walk comes to: the account is settled; or nothing has changed but what stands behind the queue, and a scan
 // is to go on from this day.
-#[derive(Drop)]
+#[derive(Clone, Copy)]
 pub enum Near {
     Settled(Worklist),
     Open { walked: usize, day: u16 },
 }
 
 // An account is settled, or the start is given up.
-#[derive(Drop)]
+#[derive(Clone, Copy)]
 pub enum Attempt {
     Settled(Worklist),
     GaveUp,
 }
 
 // A start is settled, with so many accounts listed as raised, or it is given up: it is to be peeled then.
-#[derive(Drop)]
+#[derive(Clone, Copy)]
 pub enum Settled {
     Raised(usize),
     GaveUp,

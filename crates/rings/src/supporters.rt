@@ -25,7 +25,7 @@ pub(crate) fn loses_supporter(z: u16, day: u16, old: u16, new: u16) -> bool
 }
 
 // A rise: the account, where its rows begin in the adjacency, its time till now and its new one.
-#[derive(Drop)]
+#[derive(Clone, Copy)]
 pub struct Rise {
     pub account: usize,
     pub from: usize,

@@ -9,7 +9,7 @@ use crate::layout::MOST_DIGITS;
 const PLACES: [u64; MOST_DIGITS] = [1, 10, 100, 1000, 10000];
 
 // What a field holds.
-#[derive(Drop)]
+#[derive(Clone, Copy)]
 pub enum Field {
     Number(u16),
     Large,

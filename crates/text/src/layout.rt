@@ -1,14 +1,14 @@
 // How lines are laid out: 01's widths, limits and sizes, each once. The definitions have them in specs/Layout.antt.
 
 // A field of a line: how many columns it has, and the largest number that it may hold.
-#[derive(Drop)]
+#[derive(Clone, Copy)]
 pub(crate) struct Format {
     pub width: usize,
     pub limit: u16,
 }
 
 // The three fields of a line.
-#[derive(Drop)]
+#[derive(Clone, Copy)]
 pub(crate) struct Layout {
     pub first: Format,
     pub second: Format,

@@ -1,4 +1,6 @@
 // Text of tables and listings: fixed decimal fields, lines, printing, the table reader and the table writer.
+#![tactic(auto)]
+
 mod decimal;
 mod layout;
 mod lines;

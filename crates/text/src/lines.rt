@@ -8,7 +8,7 @@ use crate::decimal::{Field, read_field};
 use crate::layout::{Format, LINE_BYTES, Layout, QUERY, TABLE};
 
 // What stands at a line: its row, the text's end, or the line's first fault.
-#[derive(Drop)]
+#[derive(Clone, Copy)]
 pub enum Line {
     Row(u16, u16, u16),
     End,
@@ -18,14 +18,14 @@ pub enum Line {
 }
 
 // What a step of the line reader finds at a line, and the line that is reached then.
-#[derive(Drop)]
+#[derive(Clone, Copy)]
 pub struct Step {
     pub found: Line,
     pub line: usize,
 }
 
 // What a query line holds.
-#[derive(Drop)]
+#[derive(Clone, Copy)]
 pub enum QueryRead {
     Query(u16, u16, u16),
     BadLine,

@@ -10,7 +10,7 @@ use crate::layout::{
 };
 
 // The position after what was written, or that nothing was.
-#[derive(Drop)]
+#[derive(Clone, Copy)]
 pub enum Put {
     Wrote(usize),
     NoRoom,

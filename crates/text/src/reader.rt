@@ -7,7 +7,7 @@ ghost use Rattle.text.specs.Reader.{ReaderAt, Stepped};
 
 use crate::lines::{Line, Step, step_from};
 
-#[derive(Drop)]
+#[derive(Clone, Copy)]
 pub struct LineReader<'a> {
     pub text: &'a [u8],
     pub line: usize,

@@ -7,7 +7,7 @@ use crate::lines::QueryRead;
 use crate::table::TableRead;
 use crate::writer::TableWritten;
 
-#[derive(Drop)]
+#[derive(Clone, Copy)]
 pub struct Report {
     pub number: u32,
     pub place: usize,

@@ -8,7 +8,7 @@ use crate::lines::Line;
 use crate::reader::read_line;
 
 // The rows read, or the refusal. A line is counted from 1.
-#[derive(Drop)]
+#[derive(Clone, Copy)]
 pub enum TableRead {
     Rows(usize),
     // 11: a line that is not 18 bytes, at that line.

@@ -10,7 +10,7 @@ use crate::layout::{ACCOUNT_WIDTH, DAY_WIDTH, LINE_BYTES};
 use crate::print::{write_bytes, write_field};
 
 // The bytes written, or the refusal.
-#[derive(Drop)]
+#[derive(Clone, Copy)]
 pub enum TableWritten {
     Text(usize),
     // 1: columns of different lengths.
