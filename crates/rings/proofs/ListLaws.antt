@@ -57,7 +57,7 @@ module _ {A : Type 0} where
   unfolding flatten
   mem_flatten {xss = []} h m = absurd (not-nil h)
   mem_flatten {xss = ys ∷ yss} {x = x} h m =
-      ⊎_elim (λ e. append_left (flatten yss) (subst (Mem x) e m)) (λ r. append_right ys (mem_flatten r m))
+      ⊎_elim (λ e. append_left (flatten yss) (subst (Mem x) e m)) (λ r. append_right ys (mem_flatten {xss = yss} r m))
       (cases_cons h)
 
   pub record FromFlatten (xss : List (List A)) (x : A) : Type 0 where

@@ -1,0 +1,20 @@
+use Rattle.rings.proofs.PeelStartLaws.{remove_rows_start}
+use Rattle.rings.proofs.peel.peel.Goals as goal
+
+pub core-ring-requires : goal.core-ring-requires
+core-ring-requires c =
+    let all = c.requires in record {
+      ready = all.0;
+      span = all.1.0;
+      peel_buffers = all.1.1;
+    }
+
+pub remove_rows_from_the_end-requires : goal.remove_rows_from_the_end-requires
+remove_rows_from_the_end-requires c =
+    record {
+      ready = c.requires.ready;
+      row_removal = remove_rows_start _ _ _ _ _ c.requires.ready c.requires.span c.core-ring.ensures;
+    }
+
+pub returns : goal.returns
+returns c = c.remove_rows_from_the_end.ensures

@@ -1,0 +1,158 @@
+use Rattle.rings.proofs.CountingLaws.{counted_so}
+use Rattle.rings.proofs.PeelStateLaws.{estimate_at}
+use lib.ListN.{length-set}
+use Rattle.rings.proofs.SettleLaws.{account_same, account_rise}
+use Rattle.rings.proofs.SettleNearLaws.{account_days, account_now, account_never, account_every}
+use Rattle.rings.proofs.SettleNearLaws.{account_counts_before_rise}
+use mathlib.Core.Path.{refl, sym, ◌∙◌}
+use native.Mathlib.Omega.{arith}
+use borrow.Author.Rules.{rules}
+use Rattle.rings.specs.Table.{table_of}
+use Rattle.rings.specs.Inner.Settling.{DayFoundBy}
+use Rattle.rings.proofs.settle.settle_far.Goals as goal
+
+-- what find_day ensures, where it found a day
+found-day-at : (c : tie.After-outcome)
+    → let a = (outcome-to-start c).args in
+    let o = c.outcome.given.0 in
+    DayFoundBy (table_of a.days.now a.first.now a.second.now) a.frame a.times.now a.scan
+    o.0 o.1.0
+    o.1.1.0
+found-day-at c = rw c.outcome.given.1 at c.before.before.find-day.ensures
+
+pub offset_bounds-times-u : goal.offset_bounds-times-u
+offset_bounds-times-u c = omega (arith, c.requires.at_head.small)
+
+pub bounds-times-u : goal.bounds-times-u
+bounds-times-u c = omega (arith, c.requires.at_head.small, c.requires.working.times_long)
+
+pub find_day-outcome-requires : goal.find_day-outcome-requires
+find_day-outcome-requires c =
+    record {
+      lent = record {
+        opened = c.requires.working.opened;
+        small = c.requires.at_head.small;
+        long = c.requires.working.times_long;
+        days = c.requires.working.days;
+        reading = c.requires.at_head.reading;
+      };
+      bounded = c.requires.bounded;
+      every = λ n.
+          c.requires.working.covered.rows _ c.requires.at_head.small
+          (λ e. n (sym (estimate_at c.args.times.now _ c.requires.working.times_long c.requires.at_head.small) ∙ e));
+      short = c.requires.short;
+    }
+
+pub returns-in_default : goal.returns-in_default
+returns-in_default c = record { same = λ y. refl }
+
+pub offset_bounds-slack-u : goal.offset_bounds-slack-u
+offset_bounds-slack-u c = omega (arith, c.requires.at_head.small)
+
+pub bounds-slack-u : goal.bounds-slack-u
+bounds-slack-u c = omega (arith, c.requires.at_head.small, c.requires.working.slack_long)
+
+pub overflow_add-result : goal.overflow_add-result
+overflow_add-result c =
+    let found-day = found-day-at c in
+    omega (arith, c.requires.working.waits, c.requires.working.within, c.requires.working.behind, c.requires.working.few, found-day.short_walk)
+
+pub overflow_add-result-then-time-old : goal.overflow_add-result-then-time-old
+overflow_add-result-then-time-old c =
+    let found-day = found-day-at c in
+    omega (arith, c.requires.working.waits, c.requires.working.within, c.requires.working.behind, c.requires.working.few, found-day.short_walk)
+
+pub returns-then-time-old : goal.returns-then-time-old
+returns-then-time-old c =
+    let found-day = found-day-at c in
+    record {
+      next = refl;
+      within = c.requires.working.within;
+      walked = omega (arith, found-day.short_walk);
+      rising = λ xs Z.
+          account_same _ _ _ _ _ c.requires.working.opened.setting Z.settling c.requires.at_head.small found-day.day_found Z.waiting
+          c.requires.at_head.is_head Z.behind Z.raised c.requires.working.waits c.requires.working.within c.if-time-old.true;
+      nevers = λ v e. e;
+      counted = record { counted = λ y. (c.requires.working.counted y).counts_are; same = λ y. refl };
+    }
+
+pub offset_bounds-times-u-2 : goal.offset_bounds-times-u-2
+offset_bounds-times-u-2 c = omega (arith, c.requires.at_head.small)
+
+pub bounds-times-u-2 : goal.bounds-times-u-2
+bounds-times-u-2 c = omega (arith, c.requires.at_head.small, c.requires.working.times_long)
+
+pub put-requires : goal.put-requires
+put-requires c =
+    record {
+      place = omega (arith, c.requires.working.waits, c.requires.working.within, c.requires.working.behind, c.requires.working.queue_long);
+      number = omega (arith, c.requires.at_head.small);
+    }
+
+pub drop_supported-end-requires : goal.drop_supported-end-requires
+drop_supported-end-requires c =
+    let found-day = found-day-at c in
+    record {
+      opened = c.requires.working.opened;
+      small = c.requires.at_head.small;
+      times_long = search (rules, c.requires.working.times_long);
+      slack_long = search (rules, c.requires.working.slack_long);
+      queue_long = c.put.auto.s ∙ c.requires.working.queue_long;
+      reading = c.requires.at_head.reading;
+      every =
+          account_every c.args.times.now (omega (arith, c.requires.working.opened.setting.fits)) c.requires.working.times_long c.requires.at_head.small
+          c.requires.working.days found-day.day_found
+          c.if-time-old.false c.requires.working.covered;
+      days =
+          account_days c.args.times.now (omega (arith, c.requires.working.opened.setting.fits)) c.requires.working.times_long c.requires.at_head.small
+          c.requires.working.days found-day.day_found;
+      now_is =
+          account_now c.args.times.now (omega (arith, c.requires.working.opened.setting.fits)) c.requires.working.times_long c.requires.at_head.small
+          c.requires.working.days found-day.day_found;
+      counted = λ y.
+          account_counts_before_rise c.args.times.now (omega (arith, c.requires.working.opened.setting.fits)) c.requires.working.times_long
+          c.requires.at_head.small c.requires.working.days found-day.day_found
+          c.if-time-old.false (c.requires.working.counted y).in_days (c.requires.working.counted y).counts_are;
+    }
+
+pub shape_of-slack-then-end-gt-QUEUE : goal.shape_of-slack-then-end-gt-QUEUE
+shape_of-slack-then-end-gt-QUEUE c = c.drop_supported-end.auto.slack ∙ simp length-set
+
+pub returns-then-end-gt-QUEUE : goal.returns-then-end-gt-QUEUE
+returns-then-end-gt-QUEUE c = record { same = c.drop_supported-end.ensures.counted.same }
+
+pub overflow_add-result-2 : goal.overflow_add-result-2
+overflow_add-result-2 c =
+    let found-day = found-day-at c in
+    omega (arith, c.requires.working.waits, c.requires.working.within, c.requires.working.behind, c.requires.working.few, found-day.short_walk)
+
+pub overflow_add-result-3 : goal.overflow_add-result-3
+overflow_add-result-3 c =
+    let found-day = found-day-at c in
+    omega (arith, c.requires.working.waits, c.requires.working.within, c.requires.working.behind, c.requires.working.few, found-day.short_walk)
+
+pub overflow_add-result-4 : goal.overflow_add-result-4
+overflow_add-result-4 c =
+    let found-day = found-day-at c in
+    omega (arith, c.requires.working.waits, c.requires.working.within, c.requires.working.behind, c.requires.working.few, found-day.short_walk)
+
+pub shape_of-slack : goal.shape_of-slack
+shape_of-slack c = c.drop_supported-end.auto.slack ∙ simp length-set
+
+pub returns : goal.returns
+returns c =
+    let found-day = found-day-at c in
+    record {
+      next = refl;
+      within = c.if-end-gt-QUEUE.false;
+      walked = omega (arith, found-day.short_walk);
+      rising = λ xs Z.
+          account_rise _ _ _ _ _ c.requires.working.opened.setting Z.settling c.requires.at_head.small found-day.day_found Z.waiting
+          c.requires.at_head.is_head Z.behind Z.raised c.requires.working.waits c.requires.working.within c.put.ensures
+          (c.drop_supported-end.ensures.dropped_supported c.if-end-gt-QUEUE.false) (c.drop_supported-end.ensures.queued c.if-end-gt-QUEUE.false)
+          c.if-end-gt-QUEUE.false;
+      nevers =
+          account_never c.args.times.now (omega (arith, c.requires.working.opened.setting.fits)) c.requires.working.times_long c.requires.at_head.small
+          c.requires.working.days found-day.day_found;
+      counted = counted_so (λ y. y c.if-end-gt-QUEUE.false) c.drop_supported-end.ensures.counted;
+    }

@@ -1,0 +1,113 @@
+use native.Mathlib.Omega.{arith}
+use native.Mathlib.Nat.{le_refl}
+use mathlib.Core.Path.{◌∙◌, refl}
+use Rattle.rings.proofs.DayLaws.{ready_pruned_of, ready_pruned_framed, pruned_paired, span_of}
+use Rattle.rings.proofs.SettleStartLaws.{split_rises, core_never}
+use Rattle.rings.proofs.PrunedLaws.{covered_rise}
+use Rattle.rings.proofs.starts.next_start.Goals as goal
+
+pub drop_rows-requires : goal.drop_rows-requires
+drop_rows-requires c =
+    let all = (
+      record {
+        known = record {
+          framed = ready_pruned_framed c.requires.fact.inside.opened;
+          span = span_of c.requires.start_asks.ordered c.requires.start_asks.starts c.requires.start_asks.ends;
+          times_are = c.requires.fact.inside.times_are;
+        };
+        in_days = c.requires.start_asks.in_days;
+      },
+      record { follows = c.requires.start_asks.follows; timed = c.requires.fact.inside.timed },
+    ) in record {
+      count_asks = all.0;
+      drop_asks = all.1;
+    }
+
+pub pass_heads-requires : goal.pass_heads-requires
+pass_heads-requires c =
+    record {
+      sound = c.requires.fact.inside.opened.sound;
+      pruned = c.requires.fact.inside.opened.pruned;
+      ordered = split_rises c.requires.start_asks.starts c.requires.start_asks.follows;
+      within = c.requires.start_asks.follows.within;
+    }
+
+pub step-found-requires : goal.step-found-requires
+step-found-requires c =
+    record {
+      opened =
+          ready_pruned_of c.requires.fact.inside.opened.sound c.pass_heads.ensures.pruned c.requires.fact.inside.opened.setting.some_k
+          c.requires.start_asks.in_days c.requires.start_asks.follows;
+      ordered = c.requires.start_asks.ordered;
+      in_days = c.requires.start_asks.in_days;
+      starts = c.requires.start_asks.starts;
+      follows = c.requires.start_asks.follows;
+      ends = c.requires.start_asks.ends;
+      times_are = c.requires.fact.inside.times_are;
+      slacks = c.requires.fact.inside.slacks;
+      queue_long = c.requires.queue_len;
+      covered = c.pass_heads.ensures.covered _ c.requires.fact.inside.covered;
+      counted = λ y. c.drop_rows.ensures;
+    }
+
+pub next_frame-after-requires : goal.next_frame-after-requires
+next_frame-after-requires c = omega (arith, c.requires.start_asks.ordered, c.requires.start_asks.in_days)
+
+pub first_start-requires : goal.first_start-requires
+first_start-requires c =
+    let all = rw c.next_frame-after.ensures (
+      c.requires.fact.inside.opened.sound,
+      (
+        record { inside = pruned_paired c.pass_heads.ensures.pruned },
+        (
+          record {
+            some_k = c.requires.fact.inside.opened.setting.some_k;
+            ordered = omega (arith, c.requires.start_asks.ordered);
+            in_days = c.requires.start_asks.in_days;
+            starts = c.requires.start_asks.follows;
+            ends = c.requires.start_asks.ends;
+          },
+          record {
+            times_long = c.step-found.auto.times ∙ c.requires.fact.inside.times_are.long;
+            slack_long = c.step-found.auto.slack ∙ c.requires.fact.inside.slacks.long;
+            queue_long = c.step-found.auto.queue ∙ c.requires.queue_len;
+            counts_long =
+                c.step-found.auto.counts
+                ∙ (c.drop_rows.auto.counts ∙ c.requires.fact.inside.timed.long);
+          },
+        ),
+      ),
+    ) in record {
+      sound = all.0;
+      prepared = all.1.0;
+      first_asks = all.1.1.0;
+      array_lengths = all.1.1.1;
+    }
+
+pub returns-in-Raised : goal.returns-in-Raised
+returns-in-Raised c =
+    let done = rw c.in-Raised.is at c.step-found.ensures in
+    record {
+      inside = record {
+        opened =
+            ready_pruned_of c.requires.fact.inside.opened.sound c.pass_heads.ensures.pruned c.requires.fact.inside.opened.setting.some_k
+            c.requires.start_asks.in_days c.requires.start_asks.follows;
+        covered =
+            covered_rise (core_never c.requires.fact.inside.opened.setting.fits c.requires.fact.inside.times_are done.times_are) (le_refl _)
+            (c.pass_heads.ensures.covered _ c.requires.fact.inside.covered);
+        times_are = done.times_are;
+        slacks = done.slacks;
+        timed = done.counted.counted refl;
+      };
+    }
+
+pub shape_of-scratch-in-GaveUp : goal.shape_of-scratch-in-GaveUp
+shape_of-scratch-in-GaveUp c = c.first_start.auto.scratch ∙ c.pass_heads.auto.scratch
+
+pub shape_of-counts-in-GaveUp : goal.shape_of-counts-in-GaveUp
+shape_of-counts-in-GaveUp c =
+    c.first_start.auto.counts
+    ∙ (c.step-found.auto.counts ∙ c.drop_rows.auto.counts)
+
+pub returns-in-GaveUp : goal.returns-in-GaveUp
+returns-in-GaveUp c = rw c.next_frame-after.ensures at c.first_start.ensures
