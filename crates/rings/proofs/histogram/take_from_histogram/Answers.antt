@@ -38,14 +38,11 @@ overflow_add-result c =
 
 pub returns : goal.returns
 returns c =
-    let all = (
-      record {
+    record {
+      where_counted = record {
         counted = λ h. take_end c.args.counts.now (picked_as c.wide-e.ensures c.pick.ensures) c.one-more.ensures
             (c.requires c.if-not-counting.false).has;
         same = λ h. clash c.if-not-counting.false h;
-      },
-      λ h. clash c.if-not-counting.false h,
-    ) in record {
-      where_counted = all.0;
-      value = all.1;
+      };
+      value = λ h. clash c.if-not-counting.false h;
     }

@@ -60,14 +60,11 @@ drop_neighbour-two-requires c =
 
 pub remove_queued-idle-requires : goal.remove_queued-idle-requires
 remove_queued-idle-requires c =
-    let all = (
-      c.requires.ready,
-      remove_row_now _ _ _ _ _ c.requires.ready c.requires.row_removable refl c.leads.ensures c.if-leads.true c.entry-a.ensures c.entry-b.ensures
+    record {
+      ready = c.requires.ready;
+      peel_state_of = remove_row_now _ _ _ _ _ c.requires.ready c.requires.row_removable refl c.leads.ensures c.if-leads.true c.entry-a.ensures c.entry-b.ensures
           c.entry.ensures c.entry-then-leads.ensures c.if-entry-ne0.false c.if-entry-ne0-2.false c.drop_neighbour-one.ensures
-          c.drop_neighbour-two.ensures,
-    ) in record {
-      ready = all.0;
-      peel_state_of = all.1;
+          c.drop_neighbour-two.ensures;
     }
 
 pub returns-then-leads : goal.returns-then-leads

@@ -23,12 +23,9 @@ mark_entries-requires c =
 pub returns-in-Accepted : goal.returns-in-Accepted
 unfolding recall_marks
 returns-in-Accepted c =
-    let all = (
-      sym c.in-Accepted.is ∙ c.check_recall-found.ensures,
-      marks_right c.args.days.now c.args.first.now c.args.second.now c.args.rows.now c.args.starts.now
+    record {
+      result_value = sym c.in-Accepted.is ∙ c.check_recall-found.ensures;
+      marks_after = marks_right c.args.days.now c.args.first.now c.args.second.now c.args.rows.now c.args.starts.now
           c.args.ends.now c.args.s c.args.e c.args.marks.now (sym c.in-Accepted.is ∙ c.check_recall-found.ensures)
-          c.clear_marks.ensures c.mark_entries.ensures,
-    ) in record {
-      result_value = all.0;
-      marks_after = all.1;
+          c.clear_marks.ensures c.mark_entries.ensures;
     }

@@ -14,24 +14,21 @@ core-requires c =
       ready = ready_of c.requires.whole_window.sound (adjacency_later c.prepare_adjacency.ensures (omega (arith, c.requires.whole_window.from)))
           c.requires.whole_window.asked.some_k
           c.requires.whole_window.asked.last_day_lem c.requires.whole_window.from;
-      span = (span_of c.requires.whole_window.asked.ordered c.requires.whole_window.from c.requires.whole_window.to, record { times = refl; left = refl; queue = omega arith });
-      peel_buffers = ;
+      span = span_of c.requires.whole_window.asked.ordered c.requires.whole_window.from c.requires.whole_window.to;
+      peel_buffers = record { times = refl; left = refl; queue = omega arith };
     }
 
 pub mark_rows-requires : goal.mark_rows-requires
 mark_rows-requires c =
     record {
       whole_window = c.requires.whole_window;
-      remaining = (
-        remaining_of _ _ _ _ _
+      remaining = remaining_of _ _ _ _ _
             (
             ready_of c.requires.whole_window.sound (adjacency_later c.prepare_adjacency.ensures (omega (arith, c.requires.whole_window.from)))
             c.requires.whole_window.asked.some_k
             c.requires.whole_window.asked.last_day_lem c.requires.whole_window.from
-            ) c.requires.whole_window.asked.ordered (span_of c.requires.whole_window.asked.ordered c.requires.whole_window.from c.requires.whole_window.to) c.core.ensures,
-        c.requires.ring_buffers.marks,
-      );
-      marks_len = ;
+            ) c.requires.whole_window.asked.ordered (span_of c.requires.whole_window.asked.ordered c.requires.whole_window.from c.requires.whole_window.to) c.core.ensures;
+      marks_len = c.requires.ring_buffers.marks;
     }
 
 pub returns : goal.returns

@@ -44,25 +44,22 @@ slice_bounds-mark_part-end-6 c =
 pub mark_part-n-requires : goal.mark_part-n-requires
 mark_part-n-requires c =
     let o = span_of c.requires.asked.ordered c.rows_before-lo.ensures c.rows_before-end.ensures in
-    let all = (
-      record {
+    record {
+      whole_window = record {
         sound = part_sound _ _ _ _ _ o.ordered o.within c.requires.sound;
         asked = c.requires.asked;
         lo = refl;
         from = part_from _ c.args.first.now c.args.second.now _ _ o.ordered o.within c.rows_before-lo.ensures;
         to = part_to _ c.args.first.now c.args.second.now _ _ o.ordered o.within c.rows_before-end.ensures;
-      },
-      record {
+      };
+      ring_buffers = record {
         marks =
             part_same _ c.args.first.now c.args.second.now _ _ o.ordered o.within c.clear_marks.ensures
             c.requires.ring_buffers.marks;
         scratch =
             part_room _ c.args.first.now c.args.second.now _ _ o.ordered o.within c.args.scratch.now
             c.requires.ring_buffers.scratch;
-      },
-    ) in record {
-      whole_window = all.0;
-      ring_buffers = all.1;
+      };
     }
 
 pub returns : goal.returns

@@ -10,14 +10,11 @@ mark_ring-n-requires c =
     c.is_window-window.ensures (call_window _ _ _ _ _ _ _ accepted) in
     record {
       sound = call_sound _ _ _ _ _ _ _ accepted;
-      asked = (
-        record { some_k = (call_k _ _ _ _ _ _ _ accepted).0; ordered = window.1; last_day_lem = window.2 },
-        record {
+      asked = record { some_k = (call_k _ _ _ _ _ _ _ accepted).0; ordered = window.1; last_day_lem = window.2 };
+      ring_buffers = record {
           marks = eqb-true _ _ (call_lengths _ _ _ _ _ _ _ accepted);
           scratch = call_scratch _ _ _ _ _ _ _ accepted;
-        },
-      );
-      ring_buffers = ;
+        };
     }
 
 pub returns-in-Refused : goal.returns-in-Refused

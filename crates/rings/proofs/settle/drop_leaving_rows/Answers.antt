@@ -19,18 +19,15 @@ loop-j-init c =
 
 pub drop_leaving_row-tail-requires : goal.drop_leaving_row-tail-requires
 drop_leaving_row-tail-requires c =
-    let all = (
-      record {
+    record {
+      drop_leaving_asks = record {
         placed = c.requires.drop_leaving_asks.placed;
         times_long = c.requires.drop_leaving_asks.times_long;
         days = c.requires.drop_leaving_asks.days;
         slack_long = c.loop-j.invariant.1;
         queue_long = c.loop-j.invariant.2;
-      },
-      omega (arith, c.loop-j-test.true, c.requires.leaving_rows.within),
-    ) in record {
-      drop_leaving_asks = all.0;
-      j_in_bounds = all.1;
+      };
+      j_in_bounds = omega (arith, c.loop-j-test.true, c.requires.leaving_rows.within);
     }
 
 pub overflow_add-j : goal.overflow_add-j

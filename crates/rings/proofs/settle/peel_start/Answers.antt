@@ -6,11 +6,8 @@ pub peel-requires : goal.peel-requires
 peel-requires c =
     record {
       ready = c.requires.ready;
-      span = (
-        c.requires.span,
-        record { times = c.requires.times_long; left = c.requires.slack_long; queue = omega (arith, c.requires.queue_long) },
-      );
-      peel_buffers = ;
+      span = c.requires.span;
+      peel_buffers = record { times = c.requires.times_long; left = c.requires.slack_long; queue = omega (arith, c.requires.queue_long) };
     }
 
 pub returns : goal.returns

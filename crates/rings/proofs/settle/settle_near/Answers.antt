@@ -32,8 +32,8 @@ returns-then-scan-list c = unmoved_none c.requires
 
 pub scan_for_rise-outcome-requires : goal.scan_for_rise-outcome-requires
 scan_for_rise-outcome-requires c =
-    let all = (
-      record {
+    record {
+      scan_on = record {
         lent = record {
           opened = c.requires.working.opened;
           small = c.requires.at_head.small;
@@ -47,11 +47,8 @@ scan_for_rise-outcome-requires c =
             (λ e. c.if-scan-eq-NEVER.false (c.requires.its_time ∙ e)));
         every = near_every _ _ _ _ _ _ _ c.requires.working.opened.setting c.args.times.now c.requires.working.times_long c.requires.working.days c.requires.at_head.small
             (λ e. c.if-scan-eq-NEVER.false (c.requires.its_time ∙ e)) c.requires.working.covered;
-      },
-      record { long = c.requires.working.queue_long; room = omega (arith, c.entry-last.ensures, c.if-scan-list.false) },
-    ) in record {
-      scan_on = all.0;
-      room_behind = all.1;
+      };
+      room_behind = record { long = c.requires.working.queue_long; room = omega (arith, c.entry-last.ensures, c.if-scan-list.false) };
     }
 
 pub overflow_add-slack : goal.overflow_add-slack

@@ -8,18 +8,15 @@ use Rattle.rings.proofs.settle.step.Goals as goal
 pub drop_leaving_rows-waiting-requires : goal.drop_leaving_rows-waiting-requires
 drop_leaving_rows-waiting-requires c =
     let placed = step_placed c.requires in
-    let all = (
-      record {
+    record {
+      drop_leaving_asks = record {
         placed = placed;
         times_long = c.requires.times_are.long;
         days = core_days _ _ _ _ _ _ _ placed.setting c.requires.times_are;
         slack_long = c.requires.slacks.long;
         queue_long = c.requires.queue_long;
-      },
-      record { order = split_rises c.requires.starts c.requires.follows; within = c.requires.follows.within },
-    ) in record {
-      drop_leaving_asks = all.0;
-      leaving_rows = all.1;
+      };
+      leaving_rows = record { order = split_rises c.requires.starts c.requires.follows; within = c.requires.follows.within };
     }
 
 pub returns-then-waiting-gt-QUEUE : goal.returns-then-waiting-gt-QUEUE

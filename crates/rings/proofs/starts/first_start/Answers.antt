@@ -21,19 +21,16 @@ peel_start-requires c =
 
 pub count_times-requires : goal.count_times-requires
 count_times-requires c =
-    let all = (
-      record {
+    record {
+      count_asks = record {
         known = record {
           framed = first_framed c.requires.sound (c.requires.first_asks);
           span = span_after c.requires.first_asks.ordered c.requires.first_asks.starts c.requires.first_asks.ends;
           times_are = c.peel_start.ensures.times_are;
         };
         in_days = c.requires.first_asks.in_days;
-      },
-      c.requires.array_lengths.counts_long,
-    ) in record {
-      count_asks = all.0;
-      counts_len = all.1;
+      };
+      counts_len = c.requires.array_lengths.counts_long;
     }
 
 pub prune-requires : goal.prune-requires

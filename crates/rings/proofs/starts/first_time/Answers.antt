@@ -10,16 +10,13 @@ loop-j-init c =
 
 pub row_time-time-requires : goal.row_time-time-requires
 row_time-time-requires c =
-    let all = (
-      record {
+    record {
+      times_known = record {
         framed = c.requires.fact.inside.0;
         span = span_of c.requires.start_asks.ordered c.requires.start_asks.starts c.requires.start_asks.ends;
         times_are = c.requires.fact.inside.1;
-      },
-      omega (arith, c.loop-j-test.true, c.requires.start_asks.follows.within),
-    ) in record {
-      times_known = all.0;
-      j_in_bounds = all.1;
+      };
+      j_in_bounds = omega (arith, c.loop-j-test.true, c.requires.start_asks.follows.within);
     }
 
 pub overflow_add-j : goal.overflow_add-j

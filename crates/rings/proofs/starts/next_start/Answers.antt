@@ -8,19 +8,16 @@ use Rattle.rings.proofs.starts.next_start.Goals as goal
 
 pub drop_rows-requires : goal.drop_rows-requires
 drop_rows-requires c =
-    let all = (
-      record {
+    record {
+      count_asks = record {
         known = record {
           framed = ready_pruned_framed c.requires.fact.inside.opened;
           span = span_of c.requires.start_asks.ordered c.requires.start_asks.starts c.requires.start_asks.ends;
           times_are = c.requires.fact.inside.times_are;
         };
         in_days = c.requires.start_asks.in_days;
-      },
-      record { follows = c.requires.start_asks.follows; timed = c.requires.fact.inside.timed },
-    ) in record {
-      count_asks = all.0;
-      drop_asks = all.1;
+      };
+      drop_asks = record { follows = c.requires.start_asks.follows; timed = c.requires.fact.inside.timed };
     }
 
 pub pass_heads-requires : goal.pass_heads-requires

@@ -13,11 +13,8 @@ find_times-requires c =
     (call_lengths _ _ _ _ _ _ _ accepted) in
     record {
       sound = call_sound _ _ _ _ _ _ _ accepted;
-      asked = (
-        record { some_k = (call_k _ _ _ _ _ _ _ accepted).0; ordered = window.0; last_day_lem = window.1 },
-        record { accounts = lengths.0; rows = lengths.1; scratch = call_scratch _ _ _ _ _ _ _ accepted },
-      );
-      times_buffers = ;
+      asked = record { some_k = (call_k _ _ _ _ _ _ _ accepted).0; ordered = window.0; last_day_lem = window.1 };
+      times_buffers = record { accounts = lengths.0; rows = lengths.1; scratch = call_scratch _ _ _ _ _ _ _ accepted };
     }
 
 pub returns-in-Refused : goal.returns-in-Refused

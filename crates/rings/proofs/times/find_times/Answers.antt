@@ -13,25 +13,19 @@ pub peel-requires : goal.peel-requires
 peel-requires c =
     record {
       ready = ready_of c.requires.sound c.move_heads.ensures.adjacency c.requires.asked.some_k c.requires.asked.last_day_lem c.rows_before-lo.ensures;
-      span = (
-        span_of c.requires.asked.ordered c.rows_before-lo.ensures c.rows_before-end.ensures,
-        record { times = c.requires.times_buffers.accounts; left = refl; queue = omega arith },
-      );
-      peel_buffers = ;
+      span = span_of c.requires.asked.ordered c.rows_before-lo.ensures c.rows_before-end.ensures;
+      peel_buffers = record { times = c.requires.times_buffers.accounts; left = refl; queue = omega arith };
     }
 
 pub time_rows-requires : goal.time_rows-requires
 time_rows-requires c =
-    let all = (
-      record {
+    record {
+      times_known = record {
         framed = framed_of c.requires.sound c.requires.asked.some_k c.requires.asked.last_day_lem c.rows_before-lo.ensures;
         span = span_of c.requires.asked.ordered c.rows_before-lo.ensures c.rows_before-end.ensures;
         times_are = c.peel.ensures;
-      },
-      c.requires.times_buffers.rows,
-    ) in record {
-      times_known = all.0;
-      rows_len = all.1;
+      };
+      rows_len = c.requires.times_buffers.rows;
     }
 
 pub returns : goal.returns
