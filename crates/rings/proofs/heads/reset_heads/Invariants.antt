@@ -11,7 +11,7 @@ pub record Held (days first second scratch₀ scratch : List ℕ) (total u : ℕ
 
 abbrev pub invariant-loop-u : goal.invariant-loop-u
 invariant-loop-u l =
-    Held l.days l.first l.second l.initial.scratch l.scratch l.total l.u
+    Held l.days l.first l.second l.initial.scratch l.scratch l.from l.u
 
 abbrev pub decreases-loop-u : goal.decreases-loop-u
 decreases-loop-u l =

@@ -30,11 +30,8 @@ shape_of-times c = c.remove_queued.auto.times ∙ (c.queue_low_degree-low.auto.t
 
 pub shape_of-left : goal.shape_of-left
 shape_of-left c =
-    let count-neighbours =
-    (c
-    ).count-neighbours in
     c.remove_queued.auto.left ∙
-    (c.queue_low_degree-low.auto.left ∙ (count-neighbours.kept.1.1.1.1.1.1.0 ∙ c.clear-2.auto.s))
+    (c.queue_low_degree-low.auto.left ∙ (c.count_neighbours.auto.left ∙ c.clear-2.auto.s))
 
 pub returns : goal.returns
 returns c =

@@ -3,11 +3,7 @@ use Rattle.rings.proofs.peel.peel.Goals as goal
 
 pub core-ring-requires : goal.core-ring-requires
 core-ring-requires c =
-    let all = c.requires in record {
-      ready = all.0;
-      span = all.1.0;
-      peel_buffers = all.1.1;
-    }
+    record { ready = c.requires.ready; span = c.requires.span; peel_buffers = c.requires.peel_buffers }
 
 pub remove_rows_from_the_end-requires : goal.remove_rows_from_the_end-requires
 remove_rows_from_the_end-requires c =

@@ -115,14 +115,11 @@ put-requires c =
 
 pub overflow_add-end : goal.overflow_add-end
 overflow_add-end c =
-    let pre = (c
-    ).requires in
-    let room-behind = pre.1 in
     omega (
       arith,
       picked_most c.one.ensures,
       c.wide-end.ensures,
-      room-behind.room,
+      c.requires.room_behind.room,
       c.loop-p.invariant.cursor,
       c.loop-p.invariant.room,
       c.loop-p-test.true,

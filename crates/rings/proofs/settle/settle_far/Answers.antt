@@ -11,15 +11,6 @@ use Rattle.rings.specs.Table.{table_of}
 use Rattle.rings.specs.Inner.Settling.{DayFoundBy}
 use Rattle.rings.proofs.settle.settle_far.Goals as goal
 
--- what find_day ensures, where it found a day
-found-day-at : (c : tie.After-outcome)
-    → let a = (outcome-to-start c).args in
-    let o = c.outcome.given.0 in
-    DayFoundBy (table_of a.days.now a.first.now a.second.now) a.frame a.times.now a.scan
-    o.0 o.1.0
-    o.1.1.0
-found-day-at c = rw c.outcome.given.1 at c.before.before.find-day.ensures
-
 pub offset_bounds-times-u : goal.offset_bounds-times-u
 offset_bounds-times-u c = omega (arith, c.requires.at_head.small)
 
@@ -54,23 +45,23 @@ bounds-slack-u c = omega (arith, c.requires.at_head.small, c.requires.working.sl
 
 pub overflow_add-result : goal.overflow_add-result
 overflow_add-result c =
-    let found-day = found-day-at c in
-    omega (arith, c.requires.working.waits, c.requires.working.within, c.requires.working.behind, c.requires.working.few, found-day.short_walk)
+    let found_day = rw c.in-Found.is at c.find_day-outcome.ensures in
+    omega (arith, c.requires.working.waits, c.requires.working.within, c.requires.working.behind, c.requires.working.few, found_day.short_walk)
 
 pub overflow_add-result-then-time-old : goal.overflow_add-result-then-time-old
 overflow_add-result-then-time-old c =
-    let found-day = found-day-at c in
-    omega (arith, c.requires.working.waits, c.requires.working.within, c.requires.working.behind, c.requires.working.few, found-day.short_walk)
+    let found_day = rw c.in-Found.is at c.find_day-outcome.ensures in
+    omega (arith, c.requires.working.waits, c.requires.working.within, c.requires.working.behind, c.requires.working.few, found_day.short_walk)
 
 pub returns-then-time-old : goal.returns-then-time-old
 returns-then-time-old c =
-    let found-day = found-day-at c in
+    let found_day = rw c.in-Found.is at c.find_day-outcome.ensures in
     record {
       next = refl;
       within = c.requires.working.within;
-      walked = omega (arith, found-day.short_walk);
+      walked = omega (arith, found_day.short_walk);
       rising = λ xs Z.
-          account_same _ _ _ _ _ c.requires.working.opened.setting Z.settling c.requires.at_head.small found-day.day_found Z.waiting
+          account_same _ _ _ _ _ c.requires.working.opened.setting Z.settling c.requires.at_head.small found_day.day_found Z.waiting
           c.requires.at_head.is_head Z.behind Z.raised c.requires.working.waits c.requires.working.within c.if-time-old.true;
       nevers = λ v e. e;
       counted = record { counted = λ y. (c.requires.working.counted y).counts_are; same = λ y. refl };
@@ -91,7 +82,7 @@ put-requires c =
 
 pub drop_supported-end-requires : goal.drop_supported-end-requires
 drop_supported-end-requires c =
-    let found-day = found-day-at c in
+    let found_day = rw c.in-Found.is at c.find_day-outcome.ensures in
     record {
       opened = c.requires.working.opened;
       small = c.requires.at_head.small;
@@ -101,17 +92,17 @@ drop_supported-end-requires c =
       reading = c.requires.at_head.reading;
       every =
           account_every c.args.times.now (omega (arith, c.requires.working.opened.setting.fits)) c.requires.working.times_long c.requires.at_head.small
-          c.requires.working.days found-day.day_found
+          c.requires.working.days found_day.day_found
           c.if-time-old.false c.requires.working.covered;
       days =
           account_days c.args.times.now (omega (arith, c.requires.working.opened.setting.fits)) c.requires.working.times_long c.requires.at_head.small
-          c.requires.working.days found-day.day_found;
+          c.requires.working.days found_day.day_found;
       now_is =
           account_now c.args.times.now (omega (arith, c.requires.working.opened.setting.fits)) c.requires.working.times_long c.requires.at_head.small
-          c.requires.working.days found-day.day_found;
+          c.requires.working.days found_day.day_found;
       counted = λ y.
           account_counts_before_rise c.args.times.now (omega (arith, c.requires.working.opened.setting.fits)) c.requires.working.times_long
-          c.requires.at_head.small c.requires.working.days found-day.day_found
+          c.requires.at_head.small c.requires.working.days found_day.day_found
           c.if-time-old.false (c.requires.working.counted y).in_days (c.requires.working.counted y).counts_are;
     }
 
@@ -123,36 +114,36 @@ returns-then-end-gt-QUEUE c = record { same = c.drop_supported-end.ensures.count
 
 pub overflow_add-result-2 : goal.overflow_add-result-2
 overflow_add-result-2 c =
-    let found-day = found-day-at c in
-    omega (arith, c.requires.working.waits, c.requires.working.within, c.requires.working.behind, c.requires.working.few, found-day.short_walk)
+    let found_day = rw c.in-Found.is at c.find_day-outcome.ensures in
+    omega (arith, c.requires.working.waits, c.requires.working.within, c.requires.working.behind, c.requires.working.few, found_day.short_walk)
 
 pub overflow_add-result-3 : goal.overflow_add-result-3
 overflow_add-result-3 c =
-    let found-day = found-day-at c in
-    omega (arith, c.requires.working.waits, c.requires.working.within, c.requires.working.behind, c.requires.working.few, found-day.short_walk)
+    let found_day = rw c.in-Found.is at c.find_day-outcome.ensures in
+    omega (arith, c.requires.working.waits, c.requires.working.within, c.requires.working.behind, c.requires.working.few, found_day.short_walk)
 
 pub overflow_add-result-4 : goal.overflow_add-result-4
 overflow_add-result-4 c =
-    let found-day = found-day-at c in
-    omega (arith, c.requires.working.waits, c.requires.working.within, c.requires.working.behind, c.requires.working.few, found-day.short_walk)
+    let found_day = rw c.in-Found.is at c.find_day-outcome.ensures in
+    omega (arith, c.requires.working.waits, c.requires.working.within, c.requires.working.behind, c.requires.working.few, found_day.short_walk)
 
 pub shape_of-slack : goal.shape_of-slack
 shape_of-slack c = c.drop_supported-end.auto.slack ∙ simp length-set
 
 pub returns : goal.returns
 returns c =
-    let found-day = found-day-at c in
+    let found_day = rw c.in-Found.is at c.find_day-outcome.ensures in
     record {
       next = refl;
       within = c.if-end-gt-QUEUE.false;
-      walked = omega (arith, found-day.short_walk);
+      walked = omega (arith, found_day.short_walk);
       rising = λ xs Z.
-          account_rise _ _ _ _ _ c.requires.working.opened.setting Z.settling c.requires.at_head.small found-day.day_found Z.waiting
+          account_rise _ _ _ _ _ c.requires.working.opened.setting Z.settling c.requires.at_head.small found_day.day_found Z.waiting
           c.requires.at_head.is_head Z.behind Z.raised c.requires.working.waits c.requires.working.within c.put.ensures
           (c.drop_supported-end.ensures.dropped_supported c.if-end-gt-QUEUE.false) (c.drop_supported-end.ensures.queued c.if-end-gt-QUEUE.false)
           c.if-end-gt-QUEUE.false;
       nevers =
           account_never c.args.times.now (omega (arith, c.requires.working.opened.setting.fits)) c.requires.working.times_long c.requires.at_head.small
-          c.requires.working.days found-day.day_found;
+          c.requires.working.days found_day.day_found;
       counted = counted_so (λ y. y c.if-end-gt-QUEUE.false) c.drop_supported-end.ensures.counted;
     }

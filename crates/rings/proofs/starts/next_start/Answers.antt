@@ -52,34 +52,25 @@ next_frame-after-requires c = omega (arith, c.requires.start_asks.ordered, c.req
 
 pub first_start-requires : goal.first_start-requires
 first_start-requires c =
-    let all = rw c.next_frame-after.ensures (
-      c.requires.fact.inside.opened.sound,
-      (
-        record { inside = pruned_paired c.pass_heads.ensures.pruned },
-        (
-          record {
-            some_k = c.requires.fact.inside.opened.setting.some_k;
-            ordered = omega (arith, c.requires.start_asks.ordered);
-            in_days = c.requires.start_asks.in_days;
-            starts = c.requires.start_asks.follows;
-            ends = c.requires.start_asks.ends;
-          },
-          record {
-            times_long = c.step-found.auto.times ∙ c.requires.fact.inside.times_are.long;
-            slack_long = c.step-found.auto.slack ∙ c.requires.fact.inside.slacks.long;
-            queue_long = c.step-found.auto.queue ∙ c.requires.queue_len;
-            counts_long =
-                c.step-found.auto.counts
-                ∙ (c.drop_rows.auto.counts ∙ c.requires.fact.inside.timed.long);
-          },
-        ),
-      ),
-    ) in record {
-      sound = all.0;
-      prepared = all.1.0;
-      first_asks = all.1.1.0;
-      array_lengths = all.1.1.1;
-    }
+    rw c.next_frame-after.ensures (record {
+      sound = c.requires.fact.inside.opened.sound;
+      prepared = record { inside = pruned_paired c.pass_heads.ensures.pruned };
+      first_asks = record {
+        some_k = c.requires.fact.inside.opened.setting.some_k;
+        ordered = omega (arith, c.requires.start_asks.ordered);
+        in_days = c.requires.start_asks.in_days;
+        starts = c.requires.start_asks.follows;
+        ends = c.requires.start_asks.ends;
+      };
+      array_lengths = record {
+        times_long = c.step-found.auto.times ∙ c.requires.fact.inside.times_are.long;
+        slack_long = c.step-found.auto.slack ∙ c.requires.fact.inside.slacks.long;
+        queue_long = c.step-found.auto.queue ∙ c.requires.queue_len;
+        counts_long =
+            c.step-found.auto.counts
+            ∙ (c.drop_rows.auto.counts ∙ c.requires.fact.inside.timed.long);
+      };
+    })
 
 pub returns-in-Raised : goal.returns-in-Raised
 returns-in-Raised c =
