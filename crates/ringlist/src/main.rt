@@ -1,14 +1,15 @@
 // The listing program: a query and rows from standard input, their listing or the refused line to standard output.
 #![tactic(auto)]
-ghost use Rattle.std.specs.Prelude.{◌≡◌, ℕ, ◌+◌, ◌≤◌, ◌<◌, List, length, take};
+
+ghost use Rattle.std.specs.Prelude.{◌≡◌, ℕ, ◌+◌, ◌≤◌, ◌<◌, List, length, take, IfOk};
 ghost use Rattle.io.specs.Counts.{IsPrefixLen};
 ghost use Rattle.text.specs.Layout.{most_input};
 ghost use Rattle.text.specs.Print.{refused_line};
 ghost use Rattle.listing.specs.ProgramText.{most_output, program_text};
 ghost use Rattle.listing.specs.ProgramInput.{Brought};
 
-use libc::{STDIN_FILENO, STDOUT_FILENO};
 use listing::{MOST_OUTPUT, Printed, list_text};
+use std::io::{Read, Result, Write, writer};
 use text::{MOST_INPUT, REFUSED_BYTES, put_refused};
 
 // The refused line.
@@ -49,10 +50,26 @@ fn answer(buffer: &[u8], read: usize, output: &mut [u8]) -> usize
     print(&buffer[..read], output)
 }
 
-fn main() {
+// Reads until the buffer is full or the input ends. How many bytes there are.
+fn read_full<R: Read>(reader: &mut R, buffer: &mut [u8]) -> Result<usize>
+    ensures { IfOk result (λ n. IsPrefixLen n buffer.new) }
+{
+    let mut done = 0;
+    while done < buffer.len() {
+        let n = reader.read(&mut buffer[done..])?;
+        if n == 0 {
+            return Ok(done);
+        }
+        done += n;
+    }
+    Ok(done)
+}
+
+fn main(rt: HostRuntime) -> Result<()> {
     let mut buffer = [0u8; MOST_INPUT + 1];
     let mut output = [0u8; MOST_OUTPUT];
-    let read = io::read_full(STDIN_FILENO, &mut buffer);
+    let mut reader = rt.reader();
+    let read = read_full(&mut reader, &mut buffer)?;
     let size = answer(&buffer, read, &mut output);
-    io::write_all(STDOUT_FILENO, &output[..size]);
+    writer(&rt).write_all(&output[..size])
 }
