@@ -7,18 +7,18 @@
 --     alone_sound              a part of a sound table is sound
 -- Assumes nothing.
 use Prim.Native.Nat.{ℕ, zero, suc, ◌≤◌, ◌<◌, zero-le}
-use native.Mathlib.Nat.{le_refl, not-suc-le-zero, le_of_suc-le-suc}
+use native.Mathlib.Nat.{not-suc-le-zero, le_of_suc-le-suc}
 use native.Mathlib.Omega.{arith}
-use mathlib.Core.Path.{◌≡◌, refl, sym, ◌∙◌, ap, subst}
+use mathlib.Core.Path.{◌≡◌, refl, sym, ◌∙◌, ap}
 use mathlib.Core.Bool.{Bool, true, false}
 use mathlib.Core.List.{List, [], ◌∷◌}
-use lib.ListN.{length, get_or, replicate, length-replicate}
+use lib.ListN.{length, get_or, replicate}
 use Rattle.rings.specs.Words.{at, marked, cons_if}
 use Rattle.rings.specs.Table.{Table, table_of, size, first_of, second_of}
 use Rattle.rings.specs.Sound.{RowSound, Sound}
 use Rattle.rings.proofs.WordLaws.{clash}
 use Rattle.rings.proofs.TableLaws.{rising_all}
-use Rattle.rings.proofs.PartLaws.{Copy, Copies}
+use Rattle.rings.proofs.PartLaws.{Copies}
 use Rattle.groups.specs.Groups.{picked, alone}
 
 -- row i of the part, as a row of the table

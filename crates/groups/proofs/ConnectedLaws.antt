@@ -11,19 +11,19 @@
 --     group_e, group_i         a row is in the group of an account exactly if it belongs to m and reaches the account
 -- Assumes nothing.
 use Prim.Native.Nat.{ℕ, zero, suc, min, ◌≤◌, ◌<◌}
-use native.Mathlib.Nat.{le_refl, not-suc-le-zero, eq-or-lt_of_le, le_of_suc-le-suc, le_antisymm, le_trans}
+use native.Mathlib.Nat.{le_refl, not-suc-le-zero, eq-or-lt_of_le, le_of_suc-le-suc, le_antisymm}
 use native.Mathlib.Omega.{arith}
 use mathlib.Core.Path.{◌≡◌, refl, sym, ◌∙◌, ap, subst}
 use mathlib.Core.Logic.{◌⊎◌, ⊎_elim}
-use mathlib.Core.Bool.{Bool, true, false}
+use mathlib.Core.Bool.{Bool, true}
 use mathlib.Core.List.{List}
 use lib.Dec.{eqb}
 use borrow.Author.Tests.{eqb-true, eq-eqb}
-use Rattle.rings.specs.Words.{◌and◌, marked, tabulate}
+use Rattle.rings.specs.Words.{◌and◌, marked}
 use Rattle.rings.specs.Table.{Table, size, first_of, second_of}
 use Rattle.rings.specs.Ring.{touches, Shares}
 use Rattle.rings.proofs.WordLaws.{true_or_false, same_or, and_i, and_l, and_r, marked_tabulate_e, marked_tabulate_i}
-use Rattle.rings.proofs.RingLaws.{touch_cases, touch_first, touch_second}
+use Rattle.rings.proofs.RingLaws.{touch_cases, touch_first}
 use Rattle.groups.specs.Groups.{Connected, Reaches, IsLabel, joined, leader, group}
 use Rattle.groups.specs.Groups.Connected.{itself, through}
 use Rattle.groups.proofs.ForestLaws.{joined_left, joined_right, joined_other}

@@ -6,23 +6,22 @@
 --     RowAt, row_accounts      the accounts of a row are below 4,096
 --     Joining, join_start, join_skip, join_row, join_end     the loop
 -- Assumes nothing.
-use Prim.Native.Nat.{ℕ, zero, suc, min, ◌+◌, ◌≤◌, ◌<◌}
-use native.Mathlib.Nat.{le_refl, not-suc-le-zero, eq-or-lt_of_le, le_of_suc-le-suc}
+use Prim.Native.Nat.{ℕ, zero, suc, ◌+◌, ◌≤◌, ◌<◌}
+use native.Mathlib.Nat.{le_refl, eq-or-lt_of_le, le_of_suc-le-suc}
 use native.Mathlib.Numerals.{add-one}
 use native.Mathlib.Omega.{arith}
 use mathlib.Core.Path.{◌≡◌, refl, sym, ◌∙◌, ap, subst}
-use mathlib.Core.Logic.{◌⊎◌, ⊎_elim}
+use mathlib.Core.Logic.{⊎_elim}
 use mathlib.Core.Bool.{Bool, true, false}
-use mathlib.Core.List.{List, map}
+use mathlib.Core.List.{List}
 use lib.ListN.{length, get_or, get_or-map}
 use lib.Dec.{eqb}
-use borrow.Author.Tests.{eqb-true, eqb-false, eq-eqb, ne_eqb}
 use Rattle.rings.specs.Words.{no, at, marked}
 use Rattle.rings.specs.Table.{Table, table_of, size, first_of, second_of}
 use Rattle.rings.specs.Sound.{Sound}
 use Rattle.rings.specs.Choice.{Picked}
-use Rattle.rings.proofs.WordLaws.{true_or_false, clash, same_or, no_i, not_no, no_e}
-use Rattle.groups.specs.Groups.{choose, joined, leader}
+use Rattle.rings.proofs.WordLaws.{true_or_false, same_or, no_i}
+use Rattle.groups.specs.Groups.{joined, leader}
 use Rattle.groups.specs.Inner.{Stands, Grown, Joins, Leaders, Lent, rows_of}
 use Rattle.groups.specs.declared.rows.Rows.{Rows}
 use Rattle.groups.proofs.ForestLaws.{choose_yes, choose_no, joined_left, joined_other, stands_same, planted}

@@ -5,19 +5,19 @@
 use Prim.Native.Nat.{ℕ, ◌≤◌, ◌<◌}
 use native.Mathlib.Nat.{zero-add, le_trans}
 use native.Mathlib.Omega.{arith}
-use mathlib.Core.Path.{◌≡◌, refl, sym, ◌∙◌, ap, subst}
+use mathlib.Core.Path.{◌≡◌, sym, ◌∙◌, ap, subst}
 use mathlib.Core.Logic.{◌⊎◌, ⊎_elim}
 use mathlib.Core.Bool.{Bool, true, false}
 use mathlib.Core.List.{List}
-use lib.ListN.{length, get_or, replicate, length-replicate}
-use Rattle.rings.specs.Words.{at, marked, count}
-use Rattle.rings.specs.Table.{Table, table_of, size, day_of, first_of, second_of, window_rows}
+use lib.ListN.{length, length-replicate}
+use Rattle.rings.specs.Words.{at, marked}
+use Rattle.rings.specs.Table.{Table, table_of, size, day_of, first_of, second_of}
 use Rattle.rings.specs.Ring.{touches, met, neighbour, names, degree, Good, Within, IsRing, ring}
 use Rattle.rings.specs.Sound.{Sound}
 use Rattle.rings.specs.declared.Query.{Query}
-use Rattle.rings.proofs.WordLaws.{true_or_false, same_marks, length_tabulate, get_d_tabulate, marked_below, count_mono}
-use Rattle.rings.proofs.RingLaws.{Inside, window_e, window_i, window_sized}
-use Rattle.rings.proofs.RingLaws.{ring_sized, ring_within, ring_good, ring_only}
+use Rattle.rings.proofs.WordLaws.{same_marks, length_tabulate, get_d_tabulate, count_mono}
+use Rattle.rings.proofs.RingLaws.{Inside, window_e, window_i}
+use Rattle.rings.proofs.RingLaws.{ring_within, ring_good, ring_only}
 use Rattle.rings.proofs.RingLaws.{met_i, met_e, met_mono, neighbour_i}
 use Rattle.rings.proofs.RingLaws.{neighbour_e, joins_touch, touch_first, touch_second}
 use Rattle.rings.proofs.PartLaws.{copy_good}

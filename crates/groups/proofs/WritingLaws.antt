@@ -7,25 +7,25 @@
 --     Marked, mark_start, mark_next, mark_few, mark_end     marks, with their number
 -- Assumes nothing.
 use Prim.Native.Nat.{ℕ, zero, suc, ◌+◌, ◌≤◌, ◌<◌, zero-le}
-use native.Mathlib.Nat.{le_refl, not-suc-le-zero, eq-or-lt_of_le, le_of_suc-le-suc}
+use native.Mathlib.Nat.{not-suc-le-zero, eq-or-lt_of_le, le_of_suc-le-suc}
 use native.Mathlib.Numerals.{add-one}
 use native.Mathlib.Omega.{arith}
 use mathlib.Core.Path.{◌≡◌, refl, sym, ◌∙◌, ap, subst}
-use mathlib.Core.Logic.{◌⊎◌, ⊎_elim}
+use mathlib.Core.Logic.{⊎_elim}
 use mathlib.Core.Bool.{Bool, true, false}
 use mathlib.Core.List.{List}
 use lib.ListN.{length, get_or, set, replicate, length-set, length-replicate}
 use lib.Seq.{ext_get_or, get_or-set_same, get_or-set_other}
 use lib.Dec.{eqb, ltb}
 use borrow.Author.Tests.{ltb-true, ltb-false}
-use Rattle.rings.specs.Words.{◌and◌, no, marked, suc_if, count, tabulate}
+use Rattle.rings.specs.Words.{◌and◌, no, marked, count, tabulate}
 use Rattle.rings.specs.Buffers.{mark}
 use Rattle.rings.specs.Choice.{Picked}
-use Rattle.rings.proofs.WordLaws.{true_or_false, same_or, and_l, clash, suc_if_yes, suc_if_no, count_le, count_none}
+use Rattle.rings.proofs.WordLaws.{true_or_false, same_or, and_l, suc_if_yes, suc_if_no, count_le, count_none}
 use Rattle.rings.proofs.WordLaws.{length_tabulate, get_d_tabulate}
 use native.Mathlib.Nat.{zero-add}
 use Rattle.groups.specs.Groups.{choose, none}
-use Rattle.groups.specs.Inner.{Writing, Labelling, Marking, LedMarked, labelled, led, rows_of}
+use Rattle.groups.specs.Inner.{Labelling, Marking, LedMarked, labelled, led, rows_of}
 use Rattle.groups.specs.declared.rows.Rows.{Rows}
 use Rattle.groups.proofs.ForestLaws.{choose_yes, choose_no}
 use Rattle.groups.proofs.LeaderLaws.{rows_marked, rows_in, rows_out}

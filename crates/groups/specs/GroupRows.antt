@@ -9,7 +9,7 @@ use Rattle.rings.specs.Refusals.{counted_report}
 use Rattle.rings.specs.Buffers.{counted_scratch}
 use Rattle.rings.specs.Compute.{compute}
 use Rattle.rings.specs.declared.Query.{Query}
-use Rattle.rings.specs.declared.refusal.Refusal.TheVariants.{BadDay, BadK, BadRange, BadLength, Scratch, NotInRing}
+use Rattle.rings.specs.declared.refusal.Refusal.TheVariants.{BadK, BadRange, BadLength, Scratch, NotInRing}
 use Rattle.rings.specs.declared.refusal.Counted.{Counted}
 use Rattle.groups.specs.Groups.{choose, joined, leader, labels_of, group}
 use Rattle.groups.specs.GroupCalls.{label_answer, label_column, group_checks, group_answer, group_marks}

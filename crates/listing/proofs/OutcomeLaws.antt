@@ -14,7 +14,7 @@ use lib.Dec.{leb, ltb}
 use borrow.Author.Tests.{ltb-false, le-leb}
 use Rattle.text.specs.Layout.{query_bytes, entry_bytes, most_rows, most_input}
 use Rattle.text.specs.Line.{lines_of, row_of, query_of}
-use Rattle.text.specs.Table.{day_of, days_of, table_read_of, place}
+use Rattle.text.specs.Table.{day_of, days_of, table_read_of}
 use Rattle.text.specs.Print.{refused_line}
 use Rattle.text.specs.declared.lines.QueryRead.{QueryRead}
 use Rattle.text.specs.declared.table.TableRead.{TableRead}

@@ -4,7 +4,7 @@
 --     DayScanning, day_scan_start, day_scan_out, day_scan_over, day_scan_mark, day_scan_few, day_scan_most     the
 --         walk of `scan_on_day` in the adjacency
 -- Assumes nothing.
-use Prim.Native.Nat.{ℕ, max, ◌+◌, ◌-◌, ◌≤◌, ◌<◌}
+use Prim.Native.Nat.{ℕ, max, ◌+◌, ◌≤◌, ◌<◌}
 use native.Mathlib.Nat.{le_refl}
 use native.Mathlib.Omega.{arith}
 use mathlib.Core.Path.{◌≡◌, refl, sym, ◌∙◌, ap, subst}

@@ -10,7 +10,7 @@ use mathlib.Core.Bool.{Bool, true, false}
 use mathlib.Core.List.{List}
 use lib.ListN.{length, get_or, set, length-set}
 use lib.Seq.{get_or-set_same, get_or-set_other}
-use Rattle.rings.specs.Words.{◌or◌, count}
+use Rattle.rings.specs.Words.{count}
 use Rattle.rings.specs.Table.{Table, size, day_of}
 use Rattle.rings.specs.Inner.Adjacency.{other_of}
 use Rattle.rings.specs.Inner.Peeling.{Droppable, DroppedNeighbour, Setting, Removed, Present, Rows, Degrees}

@@ -1,7 +1,7 @@
 -- The day counts while the rows of the first day leave (src/histogram.rt, drop_rows).
 --     drop_from, drop_start, drop_asks, drop_next, drop_end     the loop
 -- Assumes nothing.
-use Prim.Native.Nat.{ℕ, ◌+◌, ◌-◌, ◌≤◌, ◌<◌}
+use Prim.Native.Nat.{ℕ, ◌+◌, ◌≤◌, ◌<◌}
 use native.Mathlib.Nat.{le_refl, eq-or-lt_of_le}
 use native.Mathlib.Omega.{arith}
 use mathlib.Core.Path.{◌≡◌, sym, ◌∙◌}

@@ -18,7 +18,7 @@ use mathlib.Core.Bool.{Bool, true}
 use mathlib.Core.List.{List}
 use lib.Dec.{leb}
 use borrow.Author.Tests.{leb-true, le-leb}
-use Rattle.rings.specs.Words.{◌and◌, ◌or◌, marked, tabulate}
+use Rattle.rings.specs.Words.{◌and◌, marked, tabulate}
 use Rattle.rings.specs.Table.{Table, size, first_of, second_of, window_rows}
 use Rattle.rings.specs.Ring.{joins, neighbour, names, degree, met, Good, Within, ring}
 use Rattle.rings.specs.CoreTimes.{never, account_time}

@@ -22,7 +22,7 @@ use mathlib.Core.List.Memᴰ.{append_cases}
 use mathlib.Core.List.Memᴰ.{append_left}
 use mathlib.Core.List.Memᴰ.{append_right}
 use mathlib.Core.List.{flatten}
-use Rattle.rings.specs.Words.{◌or◌, tabulate, cons_if, filter_by, any, Pairwise}
+use Rattle.rings.specs.Words.{tabulate, cons_if, filter_by, any, Pairwise}
 use Rattle.rings.specs.Words.Pairwise.{none, more}
 use Rattle.rings.proofs.WordLaws.{true_or_false, clash, or_l, or_r, or_e}
 

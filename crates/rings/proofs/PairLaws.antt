@@ -15,7 +15,7 @@ use mathlib.Core.Logic.{◌⊎◌, ⊎_elim}
 use mathlib.Core.Bool.{Bool, true, false}
 use lib.Dec.{eqb}
 use borrow.Author.Tests.{eq-eqb, ne_eqb}
-use Rattle.rings.specs.Words.{◌and◌, ◌or◌, no, count}
+use Rattle.rings.specs.Words.{◌and◌, no, count}
 use Rattle.rings.specs.Table.{Table, first_of, second_of}
 use Rattle.rings.specs.Ring.{joins, touches}
 use Rattle.rings.specs.Inner.Adjacency.{pick_other, other_of, pair_before}

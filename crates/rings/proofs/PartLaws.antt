@@ -3,7 +3,7 @@
 --     copy_met, copy_degree, copy_good     so accounts met stay met, degrees do not fall, and a good set stays good
 --     zeros_at, put_before, put_inside, put_after     a list with a part of it replaced
 -- Assumes nothing.
-use Prim.Native.Nat.{ℕ, zero, suc, ◌+◌, ◌-◌, ◌≤◌, ◌<◌}
+use Prim.Native.Nat.{ℕ, zero, suc, ◌+◌, ◌≤◌, ◌<◌}
 use native.Mathlib.Nat.{le_trans}
 use native.Mathlib.Omega.{arith}
 use mathlib.Core.Path.{◌≡◌, refl, sym, ◌∙◌, ap}

@@ -21,7 +21,7 @@ use lib.Seq.{length-take-le, get_or-take, get_or-drop, ext_get_or}
 use lib.Dec.{leb, ltb}
 use borrow.Author.Tests.{leb-true, leb-false, le-leb, ltb-true, ltb-false}
 use borrow.Rule.Slice.PartMut.{put_mid, same_len_mid}
-use Rattle.rings.specs.Words.{◌and◌, ◌or◌, at, marked, tabulate}
+use Rattle.rings.specs.Words.{◌and◌, at, marked, tabulate}
 use Rattle.rings.specs.Table.{Table, table_of, day_of, first_of, second_of, window_rows, Split}
 use Rattle.rings.specs.Ring.{Good, Within, ring, members}
 use Rattle.rings.specs.Buffers.{mark, marks}

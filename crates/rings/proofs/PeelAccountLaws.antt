@@ -4,7 +4,7 @@
 --     remove_account_dropped, remove_account_skip, remove_account_end     the walk over the rows of an account that
 --         was removed
 -- Assumes nothing.
-use Prim.Native.Nat.{ℕ, ◌+◌, ◌-◌, ◌≤◌, ◌<◌}
+use Prim.Native.Nat.{ℕ, ◌+◌, ◌≤◌, ◌<◌}
 use native.Mathlib.Nat.{le_refl, eq-or-lt_of_le, not-suc-le-zero}
 use native.Mathlib.Omega.{arith}
 use mathlib.Core.Path.{◌≡◌, refl, sym, ◌∙◌, ap, subst}
@@ -14,7 +14,7 @@ use mathlib.Core.List.{List}
 use lib.ListN.{get_or}
 use lib.Dec.{leb, ltb, eqb}
 use borrow.Author.Tests.{leb-true, leb-false, ltb-true, lt-ltb, eqb-true, eq-eqb}
-use Rattle.rings.specs.Words.{◌and◌, ◌or◌}
+use Rattle.rings.specs.Words.{◌or◌}
 use Rattle.rings.specs.Table.{Table, size, day_of}
 use Rattle.rings.specs.Ring.{joins, touches}
 use Rattle.rings.specs.Inner.Adjacency.{other_of, leads}

@@ -3,7 +3,7 @@
 --     all_removed, peel_times             all rows have left: the times are the core times
 --     stays_met, removed_not              none has left: who has not been removed is met in the ring, and nobody else
 -- Assumes nothing.
-use Prim.Native.Nat.{ℕ, suc, ◌-◌, ◌≤◌, ◌<◌}
+use Prim.Native.Nat.{ℕ, suc, ◌≤◌, ◌<◌}
 use native.Mathlib.Nat.{le_refl, le_trans, le_of_suc-le-suc}
 use native.Mathlib.Omega.{arith}
 use mathlib.Core.Path.{◌≡◌, refl, sym, ◌∙◌, ap, subst}
@@ -13,7 +13,7 @@ use mathlib.Core.List.{List}
 use lib.ListN.{get_or}
 use lib.Dec.{leb, ltb, eqb}
 use borrow.Author.Tests.{leb-true, leb-false, ltb-true, lt-ltb, eqb-true, eq-eqb}
-use Rattle.rings.specs.Words.{◌and◌, ◌or◌, count}
+use Rattle.rings.specs.Words.{◌and◌, count}
 use Rattle.rings.specs.Table.{Table, size, day_of}
 use Rattle.rings.specs.Ring.{joins, names, met, ring}
 use Rattle.rings.specs.CoreTimes.{never, account_time}

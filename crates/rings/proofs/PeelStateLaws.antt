@@ -11,7 +11,7 @@
 --     moved, renamed, grown, same_front     the same state under other names; the head of the queue stays
 --     other_joins     the accounts of a row
 -- Assumes nothing.
-use Prim.Native.Nat.{ℕ, zero, suc, ◌+◌, ◌-◌, ◌≤◌, ◌<◌}
+use Prim.Native.Nat.{ℕ, zero, suc, ◌+◌, ◌≤◌, ◌<◌}
 use native.Mathlib.Nat.{le_refl, le_trans, eq-or-lt_of_le, not-suc-le-zero, le_of_suc-le-suc}
 use native.Mathlib.Omega.{arith}
 use mathlib.Core.Path.{◌≡◌, refl, sym, ◌∙◌, ap, subst}
@@ -22,7 +22,7 @@ use lib.ListN.{length, get_or, set, get_or-eq_default}
 use lib.Seq.{get_or-set_same, get_or-set_other}
 use lib.Dec.{leb, eqb}
 use borrow.Author.Tests.{leb-true, leb-false, eqb-true, eqb-false, eq-eqb, ne_eqb}
-use Rattle.rings.specs.Words.{◌and◌, ◌or◌, no, count}
+use Rattle.rings.specs.Words.{◌and◌, no, count}
 use Rattle.rings.specs.Table.{Table, size, day_of}
 use Rattle.rings.specs.Ring.{joins, neighbour, names, degree, touches, met, ring}
 use Rattle.rings.specs.CoreTimes.{never}

@@ -30,7 +30,6 @@ use Rattle.rings.proofs.RingLaws.{joins_touch, joins_cases}
 use Rattle.rings.proofs.PairLaws.{joins_other, joins_same, joins_swap}
 use Rattle.rings.proofs.LeadLaws.{open_lead}
 use Rattle.rings.proofs.FixpointLaws.{supports_e, supports_i, Lower, enough}
-use Rattle.rings.proofs.CoreTimeLaws as core_time
 use Rattle.rings.proofs.PeelStateLaws.{estimate_at}
 use Rattle.rings.proofs.SupporterLaws.{at_place, in_list}
 

@@ -24,7 +24,6 @@ use Rattle.rings.specs.Inner.Settling.{DayFound, DroppedListed, Queued, Rising}
 use Rattle.rings.specs.Inner.Counting.{time_by, Histogram, Moving, CountsBeforeRise, MoveAsks}
 use Rattle.rings.specs.declared.Query.{Query}
 use Rattle.rings.proofs.WordLaws.{same_or}
-use Rattle.rings.proofs.CoreTimeLaws as core_time
 use Rattle.rings.proofs.PeelStateLaws.{estimate_at}
 use Rattle.rings.proofs.FindDayLaws.{few_start, find_day_next, find_day_found, find_day_near, short_start}
 use Rattle.rings.proofs.FindDayLaws.{short_next}

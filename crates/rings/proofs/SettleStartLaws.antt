@@ -6,7 +6,7 @@
 --                                                       and any time may be another
 --     Filled, filled_start, filled_next                a list that is written from the front
 -- Assumes nothing.
-use Prim.Native.Nat.{ℕ, ◌+◌, ◌-◌, ◌≤◌, ◌<◌}
+use Prim.Native.Nat.{ℕ, ◌+◌, ◌≤◌, ◌<◌}
 use native.Mathlib.Nat.{le_refl, le_trans, eq-or-lt_of_le, not-suc-le-zero}
 use native.Mathlib.Omega.{arith}
 use mathlib.Core.Path.{◌≡◌, refl, sym, ◌∙◌, ap, subst}
@@ -27,7 +27,7 @@ use Rattle.rings.specs.declared.Query.{Query}
 use Rattle.rings.proofs.WordLaws.{true_or_false, count_mono}
 use Rattle.rings.proofs.RingLaws.{joins_touch, met_e}
 use Rattle.rings.proofs.LeadLaws.{counts_here, lead_on}
-use Rattle.rings.proofs.FixpointLaws.{supports_e, supports_i, Closed, enough, fixpoint, times_closed, lower_next}
+use Rattle.rings.proofs.FixpointLaws.{supports_e, supports_i, Closed, fixpoint, times_closed, lower_next}
 use Rattle.rings.proofs.CoreTimeLaws.{account_time_lem}
 use Rattle.rings.proofs.CoreTimeLaws as core_time
 use Rattle.rings.proofs.PeelStateLaws.{estimate_at, estimate_far, touch_small}

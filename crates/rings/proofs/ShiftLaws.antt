@@ -7,7 +7,7 @@
 --     Shift, rise_start, rise_asks, rise_row, rise_all          the same in the state of the loop
 --     shift_moves, rise_moves                                   all of them at once, where none comes in between
 -- Assumes nothing.
-use Prim.Native.Nat.{ℕ, max, ◌+◌, ◌-◌, ◌≤◌, ◌<◌}
+use Prim.Native.Nat.{ℕ, max, ◌+◌, ◌≤◌, ◌<◌}
 use native.Mathlib.Nat.{eq-or-lt_of_le}
 use native.Mathlib.Omega.{arith}
 use mathlib.Core.Path.{◌≡◌, sym, ◌∙◌, ap, subst}

@@ -20,7 +20,7 @@ use lib.ListN.{length, get_or, get_or-eq_default}
 use lib.Seq.{ext_get_or}
 use borrow.Author.Tests.{leb-true, leb-false, eqb-true, eqb-false}
 use lib.Dec.{leb, eqb}
-use Rattle.rings.specs.Words.{◌and◌, ◌or◌, no, at, marked, some, every, suc_if, count, tabulate}
+use Rattle.rings.specs.Words.{◌and◌, ◌or◌, no, marked, some, every, suc_if, count, tabulate}
 
 -- ---- truth values
 

@@ -25,10 +25,10 @@ label_rows-requires c =
           (ring_bytes _ _ _ _ _ _ _ c.in-Count.is c.window_ring-found.ensures.marks_after);
       labels_len = places_of (ring_call c.window_ring-found.ensures.result_value c.in-Count.is) (c.requires);
       parents_len = sym
-            (
-            prefix_long c.window_ring-found.new.scratch _ c.scratch-1.given
-            (ring_call c.window_ring-found.ensures.result_value c.in-Count.is).scratch
-            );
+          (
+          prefix_long c.window_ring-found.new.scratch _ c.scratch-1.given
+          (ring_call c.window_ring-found.ensures.result_value c.in-Count.is).scratch
+          );
     }
 
 pub returns-in-Refused : goal.returns-in-Refused

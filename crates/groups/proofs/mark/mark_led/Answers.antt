@@ -64,11 +64,10 @@ pub loop-j-smaller : goal.loop-j-smaller
 loop-j-smaller c = omega (arith, c.loop-j-test.true)
 
 pub loop-j-preserved : goal.loop-j-preserved
-loop-j-preserved c =
-    (
-      omega (arith, c.loop-j-test.true),
-      mark_next c.requires.marking _ c.loop-j.invariant.1 c.loop-j-test.true c.is_led.ensures c.one-led.ensures,
-    )
+loop-j-preserved c = (
+  omega (arith, c.loop-j-test.true),
+  mark_next c.requires.marking _ c.loop-j.invariant.1 c.loop-j-test.true c.is_led.ensures c.one-led.ensures,
+)
 
 pub shape_of-marks : goal.shape_of-marks
 shape_of-marks c = c.loop-j.invariant.1.written.long

@@ -49,13 +49,12 @@ loop-i-smaller c = omega (arith, c.loop-i-test.true)
 
 pub loop-i-preserved : goal.loop-i-preserved
 unfolding span entry_at
-loop-i-preserved c =
-    (
-      omega (arith, c.loop-i-test.true),
-      print_next (text_columns c.args.starts.now c.args.ends.now c.args.rows.now) c.loop-i.invariant.1 c.loop-i-test.true
-          c.requires.room
-          c.put_line.ensures.answers c.put_line.ensures.holds,
-    )
+loop-i-preserved c = (
+  omega (arith, c.loop-i-test.true),
+  print_next (text_columns c.args.starts.now c.args.ends.now c.args.rows.now) c.loop-i.invariant.1 c.loop-i-test.true
+      c.requires.room
+      c.put_line.ensures.answers c.put_line.ensures.holds,
+)
 
 pub shape_of-output : goal.shape_of-output
 shape_of-output c = c.loop-i.invariant.1.long

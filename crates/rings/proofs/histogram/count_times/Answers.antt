@@ -6,13 +6,12 @@ use Rattle.rings.proofs.TimeLaws.{row_late}
 use Rattle.rings.proofs.histogram.count_times.Goals as goal
 
 pub loop-j-init : goal.loop-j-init
-loop-j-init c =
-    (
-      omega arith,
-      c.requires.count_asks.known.span.ordered,
-      hist_start _ _ _ c.requires.counts_len c.clear.ensures
-          (λ j h. row_before _ _ _ _ j (c.requires.count_asks.known.framed.setting.before_lo j h)),
-    )
+loop-j-init c = (
+  omega arith,
+  c.requires.count_asks.known.span.ordered,
+  hist_start _ _ _ c.requires.counts_len c.clear.ensures
+      (λ j h. row_before _ _ _ _ j (c.requires.count_asks.known.framed.setting.before_lo j h)),
+)
 
 pub row_time-time-requires : goal.row_time-time-requires
 row_time-time-requires c =
@@ -35,12 +34,11 @@ pub loop-j-smaller : goal.loop-j-smaller
 loop-j-smaller c = omega (arith, c.loop-j-test.true)
 
 pub loop-j-preserved : goal.loop-j-preserved
-loop-j-preserved c =
-    (
-      omega (arith, c.loop-j.invariant.0),
-      omega (arith, c.loop-j-test.true),
-      hist_next _ c.loop-j.invariant.2 c.row_time-time.ensures c.add_count.ensures,
-    )
+loop-j-preserved c = (
+  omega (arith, c.loop-j.invariant.0),
+  omega (arith, c.loop-j-test.true),
+  hist_next _ c.loop-j.invariant.2 c.row_time-time.ensures c.add_count.ensures,
+)
 
 pub shape_of-counts : goal.shape_of-counts
 shape_of-counts c = c.loop-j.invariant.2.long ∙ sym c.requires.counts_len

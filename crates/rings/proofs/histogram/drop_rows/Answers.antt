@@ -4,18 +4,17 @@ use Rattle.rings.proofs.DropRowLaws.{drop_from, drop_start, drop_asks, drop_next
 use Rattle.rings.proofs.histogram.drop_rows.Goals as goal
 
 pub loop-j-init : goal.loop-j-init
-loop-j-init c =
-    (
-      omega arith,
-      drop_from _ _ _ _ _ _ _ c.requires.count_asks.known.framed.setting c.requires.count_asks.known.times_are c.requires.drop_asks.follows
-          (omega (arith, c.requires.count_asks.known.span.ordered, c.requires.count_asks.known.span.within)),
-      drop_start _ _ _ _ _ _ _ c.requires.count_asks.known.framed.setting c.requires.count_asks.known.times_are c.requires.drop_asks.follows
-          (
-          drop_from _ _ _ _ _ _ _ c.requires.count_asks.known.framed.setting c.requires.count_asks.known.times_are
-          c.requires.drop_asks.follows
-          (omega (arith, c.requires.count_asks.known.span.ordered, c.requires.count_asks.known.span.within))
-          ) c.requires.drop_asks.timed,
-    )
+loop-j-init c = (
+  omega arith,
+  drop_from _ _ _ _ _ _ _ c.requires.count_asks.known.framed.setting c.requires.count_asks.known.times_are c.requires.drop_asks.follows
+      (omega (arith, c.requires.count_asks.known.span.ordered, c.requires.count_asks.known.span.within)),
+  drop_start _ _ _ _ _ _ _ c.requires.count_asks.known.framed.setting c.requires.count_asks.known.times_are c.requires.drop_asks.follows
+      (
+      drop_from _ _ _ _ _ _ _ c.requires.count_asks.known.framed.setting c.requires.count_asks.known.times_are
+      c.requires.drop_asks.follows
+      (omega (arith, c.requires.count_asks.known.span.ordered, c.requires.count_asks.known.span.within))
+      ) c.requires.drop_asks.timed,
+)
 
 pub row_time-time-requires : goal.row_time-time-requires
 row_time-time-requires c =
@@ -38,14 +37,13 @@ pub loop-j-smaller : goal.loop-j-smaller
 loop-j-smaller c = omega (arith, c.loop-j-test.true)
 
 pub loop-j-preserved : goal.loop-j-preserved
-loop-j-preserved c =
-    (
-      omega (arith, c.loop-j.invariant.0),
-      omega (arith, c.loop-j-test.true),
-      drop_next _ _ _ _ _ _ _ c.requires.count_asks.known.framed.setting c.requires.count_asks.known.times_are c.requires.drop_asks.follows
-          c.loop-j-test.true c.requires.count_asks.in_days
-          c.row_time-time.ensures c.loop-j.invariant.2 c.drop_count.ensures,
-    )
+loop-j-preserved c = (
+  omega (arith, c.loop-j.invariant.0),
+  omega (arith, c.loop-j-test.true),
+  drop_next _ _ _ _ _ _ _ c.requires.count_asks.known.framed.setting c.requires.count_asks.known.times_are c.requires.drop_asks.follows
+      c.loop-j-test.true c.requires.count_asks.in_days
+      c.row_time-time.ensures c.loop-j.invariant.2 c.drop_count.ensures,
+)
 
 pub shape_of-counts : goal.shape_of-counts
 shape_of-counts c = c.loop-j.invariant.2.long ∙ sym c.requires.drop_asks.timed.long

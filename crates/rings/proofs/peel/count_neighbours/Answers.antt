@@ -1,6 +1,4 @@
 use native.Mathlib.Omega.{arith}
-use Prim.Native.Nat.{◌≤◌, ◌<◌}
-use lib.ListN.{length}
 use mathlib.Core.Path.{refl}
 use Rattle.rings.proofs.PeelLoopLaws.{count_end}
 use Rattle.rings.proofs.CountNeighbourLaws.{count_start, count_below, count_place, count_first, count_second}
@@ -26,15 +24,15 @@ entry-x-requires c =
 pub overflow_add-x : goal.overflow_add-x
 overflow_add-x c =
     let first =
-        count_first _ _ _ _ _ c.requires.ready c.loop-j.invariant c.loop-j-test.true c.requires.span c.entry-a.ensures
-        c.entry-x.ensures in
+    count_first _ _ _ _ _ c.requires.ready c.loop-j.invariant c.loop-j-test.true c.requires.span c.entry-a.ensures
+    c.entry-x.ensures in
     omega arith
 
 pub put-requires : goal.put-requires
 put-requires c =
     let first =
-        count_first _ _ _ _ _ c.requires.ready c.loop-j.invariant c.loop-j-test.true c.requires.span c.entry-a.ensures
-        c.entry-x.ensures in
+    count_first _ _ _ _ _ c.requires.ready c.loop-j.invariant c.loop-j-test.true c.requires.span c.entry-a.ensures
+    c.entry-x.ensures in
     record { place = first.0; number = omega arith }
 
 pub entry-y-requires : goal.entry-y-requires
@@ -45,15 +43,15 @@ entry-y-requires c =
 pub overflow_add-y : goal.overflow_add-y
 overflow_add-y c =
     let second =
-        count_second _ _ _ _ _ c.requires.ready c.loop-j.invariant c.loop-j-test.true c.requires.span c.entry-a.ensures
-        c.entry-b.ensures c.entry-x.ensures c.put.ensures c.entry-y.ensures in
+    count_second _ _ _ _ _ c.requires.ready c.loop-j.invariant c.loop-j-test.true c.requires.span c.entry-a.ensures
+    c.entry-b.ensures c.entry-x.ensures c.put.ensures c.entry-y.ensures in
     omega arith
 
 pub put-requires-then-leads : goal.put-requires-then-leads
 put-requires-then-leads c =
     let second =
-        count_second _ _ _ _ _ c.requires.ready c.loop-j.invariant c.loop-j-test.true c.requires.span c.entry-a.ensures
-        c.entry-b.ensures c.entry-x.ensures c.put.ensures c.entry-y.ensures in
+    count_second _ _ _ _ _ c.requires.ready c.loop-j.invariant c.loop-j-test.true c.requires.span c.entry-a.ensures
+    c.entry-b.ensures c.entry-x.ensures c.put.ensures c.entry-y.ensures in
     record { place = second.0; number = omega arith }
 
 pub overflow_add-j : goal.overflow_add-j

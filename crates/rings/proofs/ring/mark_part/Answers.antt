@@ -23,11 +23,11 @@ mark_rows-requires c =
     record {
       whole_window = c.requires.whole_window;
       remaining = remaining_of _ _ _ _ _
-            (
-            ready_of c.requires.whole_window.sound (adjacency_later c.prepare_adjacency.ensures (omega (arith, c.requires.whole_window.from)))
-            c.requires.whole_window.asked.some_k
-            c.requires.whole_window.asked.last_day_lem c.requires.whole_window.from
-            ) c.requires.whole_window.asked.ordered (span_of c.requires.whole_window.asked.ordered c.requires.whole_window.from c.requires.whole_window.to) c.core.ensures;
+          (
+          ready_of c.requires.whole_window.sound (adjacency_later c.prepare_adjacency.ensures (omega (arith, c.requires.whole_window.from)))
+          c.requires.whole_window.asked.some_k
+          c.requires.whole_window.asked.last_day_lem c.requires.whole_window.from
+          ) c.requires.whole_window.asked.ordered (span_of c.requires.whole_window.asked.ordered c.requires.whole_window.from c.requires.whole_window.to) c.core.ensures;
       marks_len = c.requires.ring_buffers.marks;
     }
 

@@ -25,12 +25,11 @@ pub loop-j-smaller-then-stays : goal.loop-j-smaller-then-stays
 loop-j-smaller-then-stays c = omega (arith, c.loop-j-test.true)
 
 pub loop-j-preserved-then-stays : goal.loop-j-preserved-then-stays
-loop-j-preserved-then-stays c =
-    (
-      omega (arith, c.loop-j-test.true),
-      mark_yes c.loop-j.invariant.1 (omega (arith, c.loop-j-test.true, c.requires.marks_len, c.loop-j.invariant.1.long))
-          (sym c.stays.ensures ∙ c.if-stays.true),
-    )
+loop-j-preserved-then-stays c = (
+  omega (arith, c.loop-j-test.true),
+  mark_yes c.loop-j.invariant.1 (omega (arith, c.loop-j-test.true, c.requires.marks_len, c.loop-j.invariant.1.long))
+      (sym c.stays.ensures ∙ c.if-stays.true),
+)
 
 pub bounds-marks-j-in-loop-j : goal.bounds-marks-j-in-loop-j
 bounds-marks-j-in-loop-j c = omega (arith, c.loop-j-test.true, c.requires.marks_len, c.loop-j.invariant.1.long)
@@ -42,12 +41,11 @@ pub loop-j-smaller : goal.loop-j-smaller
 loop-j-smaller c = omega (arith, c.loop-j-test.true)
 
 pub loop-j-preserved : goal.loop-j-preserved
-loop-j-preserved c =
-    (
-      omega (arith, c.loop-j-test.true),
-      mark_no c.loop-j.invariant.1 (omega (arith, c.loop-j-test.true, c.requires.marks_len, c.loop-j.invariant.1.long))
-          (sym c.stays.ensures ∙ c.if-stays.false),
-    )
+loop-j-preserved c = (
+  omega (arith, c.loop-j-test.true),
+  mark_no c.loop-j.invariant.1 (omega (arith, c.loop-j-test.true, c.requires.marks_len, c.loop-j.invariant.1.long))
+      (sym c.stays.ensures ∙ c.if-stays.false),
+)
 
 pub shape_of-marks : goal.shape_of-marks
 shape_of-marks c = c.loop-j.invariant.1.long

@@ -12,9 +12,9 @@ mark_ring-n-requires c =
       sound = call_sound _ _ _ _ _ _ _ accepted;
       asked = record { some_k = (call_k _ _ _ _ _ _ _ accepted).0; ordered = window.1; last_day_lem = window.2 };
       ring_buffers = record {
-          marks = eqb-true _ _ (call_lengths _ _ _ _ _ _ _ accepted);
-          scratch = call_scratch _ _ _ _ _ _ _ accepted;
-        };
+        marks = eqb-true _ _ (call_lengths _ _ _ _ _ _ _ accepted);
+        scratch = call_scratch _ _ _ _ _ _ _ accepted;
+      };
     }
 
 pub returns-in-Refused : goal.returns-in-Refused

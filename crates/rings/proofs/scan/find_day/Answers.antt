@@ -81,11 +81,10 @@ loop-c-smaller c =
     )
 
 pub loop-c-preserved : goal.loop-c-preserved
-loop-c-preserved c =
-    (
-      short_next _ _ _ _ _ c.requires.lent.opened.setting _ c.loop-c.invariant.0 c.scan_on_day-outcome.ensures.scanned c.if-frame-outcome.false,
-      omega (arith, c.scan_on_day-outcome.ensures.short_walk, c.if-scan-walked.false),
-    )
+loop-c-preserved c = (
+  short_next _ _ _ _ _ c.requires.lent.opened.setting _ c.loop-c.invariant.0 c.scan_on_day-outcome.ensures.scanned c.if-frame-outcome.false,
+  omega (arith, c.scan_on_day-outcome.ensures.short_walk, c.if-scan-walked.false),
+)
 
 pub returns : goal.returns
 returns c =

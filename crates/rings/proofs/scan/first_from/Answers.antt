@@ -36,11 +36,10 @@ pub loop-p-smaller : goal.loop-p-smaller
 loop-p-smaller c = omega (arith, c.loop-p-test.true)
 
 pub loop-p-preserved : goal.loop-p-preserved
-loop-p-preserved c =
-    (
-      c.loop-p.invariant.0,
-      seeking_next c.loop-p.invariant.1 (omega (arith, c.loop-p.invariant.0, c.loop-p-test.true)) c.entry-j.ensures c.if-lo-j.false,
-    )
+loop-p-preserved c = (
+  c.loop-p.invariant.0,
+  seeking_next c.loop-p.invariant.1 (omega (arith, c.loop-p.invariant.0, c.loop-p-test.true)) c.entry-j.ensures c.if-lo-j.false,
+)
 
 pub returns : goal.returns
 returns c = seeking_out c.loop-p.invariant.1 (omega (arith, c.loop-p.invariant.0, c.loop-p-test.false))

@@ -7,8 +7,6 @@ use Rattle.rings.proofs.SettleNearLaws.{account_counts_before_rise}
 use mathlib.Core.Path.{refl, sym, ◌∙◌}
 use native.Mathlib.Omega.{arith}
 use borrow.Author.Rules.{rules}
-use Rattle.rings.specs.Table.{table_of}
-use Rattle.rings.specs.Inner.Settling.{DayFoundBy}
 use Rattle.rings.proofs.settle.settle_far.Goals as goal
 
 pub offset_bounds-times-u : goal.offset_bounds-times-u

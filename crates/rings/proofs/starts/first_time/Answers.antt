@@ -27,12 +27,11 @@ pub loop-j-smaller : goal.loop-j-smaller
 loop-j-smaller c = omega (arith, c.loop-j-test.true)
 
 pub loop-j-preserved : goal.loop-j-preserved
-loop-j-preserved c =
-    (
-      omega (arith, c.loop-j.invariant.0),
-      omega (arith, c.loop-j-test.true),
-      least_next c.loop-j.invariant.0 c.loop-j.invariant.2 c.row_time-time.ensures c.lesser-least.ensures,
-    )
+loop-j-preserved c = (
+  omega (arith, c.loop-j.invariant.0),
+  omega (arith, c.loop-j-test.true),
+  least_next c.loop-j.invariant.0 c.loop-j.invariant.2 c.row_time-time.ensures c.lesser-least.ensures,
+)
 
 pub returns : goal.returns
 returns c =

@@ -34,19 +34,18 @@ pub loop-p-smaller : goal.loop-p-smaller
 loop-p-smaller c = omega (arith, c.loop-p-test.true)
 
 pub loop-p-preserved : goal.loop-p-preserved
-loop-p-preserved c =
-    (
-      omega (arith, c.loop-p.invariant.0),
-      omega (arith, c.loop-p-test.true),
-      dropping_listed_next c.loop-p.invariant.2 (omega (arith, c.loop-p-test.true, c.requires.within)) c.entry-v.ensures
-          (omega (
-            arith,
-            c.entry-v.ensures,
-            c.loop-p.invariant.2.rest _ (le_refl _),
-            c.requires.small _ c.loop-p.invariant.0 c.loop-p-test.true,
-          ))
-          c.drop_supporter-end.ensures,
-    )
+loop-p-preserved c = (
+  omega (arith, c.loop-p.invariant.0),
+  omega (arith, c.loop-p-test.true),
+  dropping_listed_next c.loop-p.invariant.2 (omega (arith, c.loop-p-test.true, c.requires.within)) c.entry-v.ensures
+      (omega (
+        arith,
+        c.entry-v.ensures,
+        c.loop-p.invariant.2.rest _ (le_refl _),
+        c.requires.small _ c.loop-p.invariant.0 c.loop-p-test.true,
+      ))
+      c.drop_supporter-end.ensures,
+)
 
 pub shape_of-slack : goal.shape_of-slack
 shape_of-slack c = c.loop-p.invariant.2.fewer.long ∙ sym c.requires.slack_long

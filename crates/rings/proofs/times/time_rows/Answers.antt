@@ -1,5 +1,4 @@
 use native.Mathlib.Omega.{arith}
-use Rattle.rings.specs.CoreTimes.{row_time}
 use Rattle.rings.proofs.TimeLaws.{fill_start, fill_next, fill_end}
 use Rattle.rings.proofs.times.time_rows.Goals as goal
 
@@ -26,12 +25,11 @@ pub loop-j-smaller : goal.loop-j-smaller
 loop-j-smaller c = omega (arith, c.loop-j-test.true)
 
 pub loop-j-preserved : goal.loop-j-preserved
-loop-j-preserved c =
-    (
-      omega (arith, c.loop-j-test.true),
-      fill_next c.loop-j.invariant.1 (omega (arith, c.loop-j-test.true, c.requires.rows_len, c.loop-j.invariant.1.long))
-          c.row_time.ensures,
-    )
+loop-j-preserved c = (
+  omega (arith, c.loop-j-test.true),
+  fill_next c.loop-j.invariant.1 (omega (arith, c.loop-j-test.true, c.requires.rows_len, c.loop-j.invariant.1.long))
+      c.row_time.ensures,
+)
 
 pub shape_of-rows : goal.shape_of-rows
 shape_of-rows c = c.loop-j.invariant.1.long

@@ -17,27 +17,27 @@ returns-then-not-is_whole c =
     sym (step_short c.args.layout c.args.s.now (omega arith) (negated_true c.is_whole.ensures (not_from_false _ c.if-not-is_whole.true)))
 
 pub field_at-requires : goal.field_at-requires
-field_at-requires c = 
+field_at-requires c =
     omega (
       arith,
       whole_fits c.args.s.now (bytes_of c.args.layout)
-      (negated_false c.is_whole.ensures (not_from_true _ c.if-not-is_whole.false)),
+          (negated_false c.is_whole.ensures (not_from_true _ c.if-not-is_whole.false)),
     )
 
 pub field_at-requires-2 : goal.field_at-requires-2
-field_at-requires-2 c = 
+field_at-requires-2 c =
     omega (
       arith,
       whole_fits c.args.s.now (bytes_of c.args.layout)
-      (negated_false c.is_whole.ensures (not_from_true _ c.if-not-is_whole.false)),
+          (negated_false c.is_whole.ensures (not_from_true _ c.if-not-is_whole.false)),
     )
 
 pub field_at-requires-3 : goal.field_at-requires-3
-field_at-requires-3 c = 
+field_at-requires-3 c =
     omega (
       arith,
       whole_fits c.args.s.now (bytes_of c.args.layout)
-      (negated_false c.is_whole.ensures (not_from_true _ c.if-not-is_whole.false)),
+          (negated_false c.is_whole.ensures (not_from_true _ c.if-not-is_whole.false)),
     )
 
 pub returns : goal.returns
