@@ -101,7 +101,7 @@ fn mark_rows(
     requires account_bound { account < 4096 }
     requires marks_len { length marks.old ≡ length days.now }
     requires parents_len { length parents.old ≡ 4096 }
-    ensures fact { let t = table_of days.now first.now second.now in
+    ensures group_marked { let t = table_of days.now first.now second.now in
         GroupMarked t (rows_of ring.now) account result marks.new }
     ensures parents_after { parents.new ≡ replicate (length parents.old) 0 }
 {

@@ -43,9 +43,9 @@ fn print(input: &[u8], output: &mut [u8]) -> usize
 // byte more than an input may have: a longer one is seen to be too long, and of any other all is there.
 fn answer(buffer: &[u8], read: usize, output: &mut [u8]) -> usize
     requires prefix_len { IsPrefixLen read buffer.now }
-    requires most_input_in_bounds { (most_input < length buffer.now) × (length output.old ≡ most_output) }
-    ensures prefix_len_2 { IsPrefixLen result output.new }
-    ensures by_index { (input : List ℕ) → Brought input buffer.now read → take result output.new ≡ program_text input }
+    requires room { (most_input < length buffer.now) × (length output.old ≡ most_output) }
+    ensures result_len { IsPrefixLen result output.new }
+    ensures prints { (input : List ℕ) → Brought input buffer.now read → take result output.new ≡ program_text input }
 {
     print(&buffer[..read], output)
 }

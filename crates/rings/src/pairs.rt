@@ -79,7 +79,7 @@ fn chain_rows(days: &[u16], first: &[u16], second: &[u16], scratch: &mut [u16])
 // From the last row on, so that the chains of the rows before it are still there.
 fn find_pairs(days: &[u16], first: &[u16], second: &[u16], scratch: &mut [u16])
     requires sound { Sound days.now first.now second.now }
-    requires fact { let t = table_of days.now first.now second.now in Pairing t (size t) scratch.old }
+    requires pairing { let t = table_of days.now first.now second.now in Pairing t (size t) scratch.old }
     ensures { let t = table_of days.now first.now second.now in
         Pairing t 0 scratch.new }
 {

@@ -72,7 +72,7 @@ pub fn next_start(
     queue: &mut [u16],
     counts: &mut [u16],
 )
-    requires fact { let t = table_of days.now first.now second.now in
+    requires at_start { let t = table_of days.now first.now second.now in
         AtStart t frame.query frame.stop frame.start frame.lo scratch.old times.old slack.old counts.old }
     requires start_asks { StartAsks days.now frame next end }
     requires queue_len { length queue.old ≡ 4352 }
@@ -106,7 +106,7 @@ pub fn first_time(
     end: usize,
     times: &[u16],
 ) -> u16
-    requires fact { let t = table_of days.now first.now second.now in
+    requires times_at { let t = table_of days.now first.now second.now in
         TimesAt t frame.query frame.stop frame.start frame.lo times.now }
     requires start_asks { StartAsks days.now frame next end }
     ensures { let t = table_of days.now first.now second.now in

@@ -1,6 +1,5 @@
-// The line reader: a thin struct that keeps the text and the line reached, and steps line by line. The borrow checker
-// covers no function over such a struct, so these are proved by hand. They leave the work to `step_from`, and
-// `read_line`, whose parameters are plain, serves every loop.
+// The line reader: a thin struct that keeps the text and the line reached, and steps line by line. It leaves the work to
+// `step_from`, and `read_line`, whose parameters are plain, serves every loop.
 ghost use Rattle.std.specs.Prelude.{◌≡◌};
 ghost use Rattle.text.specs.Line.{step_from};
 ghost use Rattle.text.specs.Reader.{ReaderAt, Stepped};
@@ -31,7 +30,7 @@ pub fn step<'s, 'a>(r: &'s mut LineReader<'a>) -> Line
 }
 
 // A step from a line of a text, by a reader that is made here: what stands there, and the line reached then, from which
-// the next step goes on. Its parameters are plain, so its callers need no proof by hand.
+// the next step goes on.
 pub fn read_line(text: &[u8], line: usize) -> Step
     ensures { result ≡ step_from text.now line }
 {

@@ -7,6 +7,6 @@ use Rattle.ringlist.proofs.answer.Goals as goal
 pub returns : goal.returns
 returns c =
     record {
-      prefix_len_2 = c.print.ensures.prefix_len;
-      by_index = λ input b. c.print.ensures.output_after ∙ brought_text input c.args.buffer.now c.args.read c.requires.most_input_in_bounds.0 b;
+      result_len = c.print.ensures.prefix_len;
+      prints = λ input b. c.print.ensures.output_after ∙ brought_text input c.args.buffer.now c.args.read c.requires.room.0 b;
     }

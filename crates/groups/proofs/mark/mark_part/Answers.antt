@@ -69,7 +69,7 @@ returns-in-Refused c =
 pub returns-else-not-is_met : goal.returns-else-not-is_met
 returns-else-not-is_met c =
     let all = group_done _ _ _ _ _ _ _ _ _ (c.requires) c.window_ring-found.ensures.result_value c.window_ring-found.ensures.scratch_after _ c.in-Count.is
-    c.window_ring-found.ensures.marks_after c.is_met.ensures c.if-not-is_met.false c.mark_rows-n.ensures.fact
+    c.window_ring-found.ensures.marks_after c.is_met.ensures c.if-not-is_met.false c.mark_rows-n.ensures.group_marked
     c.mark_rows-n.ensures.parents_after in record {
       result_value = all.0;
       marks_after = all.1.0;

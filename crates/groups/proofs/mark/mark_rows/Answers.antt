@@ -28,6 +28,6 @@ mark_led-n-requires c =
 pub returns : goal.returns
 returns c =
     record {
-      fact = group_is c.requires.lent c.find_leaders.ensures _ c.requires.account_bound c.mark_led-n.ensures;
+      group_marked = group_is c.requires.lent c.find_leaders.ensures _ c.requires.account_bound c.mark_led-n.ensures;
       parents_after = c.clear.ensures ∙ ap (λ (n : ℕ). replicate {A = ℕ} n 0) (c.find_leaders.ensures.long ∙ sym c.requires.parents_len);
     }

@@ -10,7 +10,7 @@ rows-init c =
     record {
       within = le_refl _;
       long = refl;
-      pairing = c.requires.fact;
+      pairing = c.requires.pairing;
     }
 
 pub overflow_sub-j : goal.overflow_sub-j

@@ -13,7 +13,7 @@ pub find_pairs-requires : goal.find_pairs-requires
 find_pairs-requires c =
     record {
       sound = c.requires.sound;
-      fact = pairing_start _ _ _ c.requires.sound c.chain_rows.ensures;
+      pairing = pairing_start _ _ _ c.requires.sound c.chain_rows.ensures;
     }
 
 pub returns : goal.returns

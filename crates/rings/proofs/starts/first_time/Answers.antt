@@ -12,16 +12,16 @@ pub row_time-time-requires : goal.row_time-time-requires
 row_time-time-requires c =
     record {
       times_known = record {
-        framed = c.requires.fact.inside.0;
+        framed = c.requires.times_at.inside.0;
         span = span_of c.requires.start_asks.ordered c.requires.start_asks.starts c.requires.start_asks.ends;
-        times_are = c.requires.fact.inside.1;
+        times_are = c.requires.times_at.inside.1;
       };
       j_in_bounds = omega (arith, c.loop-j-test.true, c.requires.start_asks.follows.within);
     }
 
 pub overflow_add-j : goal.overflow_add-j
 overflow_add-j c =
-    omega (arith, c.loop-j-test.true, c.requires.start_asks.follows.within, c.requires.fact.inside.0.sound.most)
+    omega (arith, c.loop-j-test.true, c.requires.start_asks.follows.within, c.requires.times_at.inside.0.sound.most)
 
 pub loop-j-smaller : goal.loop-j-smaller
 loop-j-smaller c = omega (arith, c.loop-j-test.true)
@@ -35,4 +35,4 @@ loop-j-preserved c = (
 
 pub returns : goal.returns
 returns c =
-    least_end c.requires.fact.inside.0 c.requires.start_asks.follows c.loop-j.invariant.1 c.loop-j-test.false c.loop-j.invariant.2
+    least_end c.requires.times_at.inside.0 c.requires.start_asks.follows c.loop-j.invariant.1 c.loop-j-test.false c.loop-j.invariant.2

@@ -11,20 +11,20 @@ drop_rows-requires c =
     record {
       count_asks = record {
         known = record {
-          framed = ready_pruned_framed c.requires.fact.inside.opened;
+          framed = ready_pruned_framed c.requires.at_start.inside.opened;
           span = span_of c.requires.start_asks.ordered c.requires.start_asks.starts c.requires.start_asks.ends;
-          times_are = c.requires.fact.inside.times_are;
+          times_are = c.requires.at_start.inside.times_are;
         };
         in_days = c.requires.start_asks.in_days;
       };
-      drop_asks = record { follows = c.requires.start_asks.follows; timed = c.requires.fact.inside.timed };
+      drop_asks = record { follows = c.requires.start_asks.follows; timed = c.requires.at_start.inside.timed };
     }
 
 pub pass_heads-requires : goal.pass_heads-requires
 pass_heads-requires c =
     record {
-      sound = c.requires.fact.inside.opened.sound;
-      pruned = c.requires.fact.inside.opened.pruned;
+      sound = c.requires.at_start.inside.opened.sound;
+      pruned = c.requires.at_start.inside.opened.pruned;
       ordered = split_rises c.requires.start_asks.starts c.requires.start_asks.follows;
       within = c.requires.start_asks.follows.within;
     }
@@ -33,17 +33,17 @@ pub step-found-requires : goal.step-found-requires
 step-found-requires c =
     record {
       opened =
-          ready_pruned_of c.requires.fact.inside.opened.sound c.pass_heads.ensures.pruned c.requires.fact.inside.opened.setting.some_k
+          ready_pruned_of c.requires.at_start.inside.opened.sound c.pass_heads.ensures.pruned c.requires.at_start.inside.opened.setting.some_k
           c.requires.start_asks.in_days c.requires.start_asks.follows;
       ordered = c.requires.start_asks.ordered;
       in_days = c.requires.start_asks.in_days;
       starts = c.requires.start_asks.starts;
       follows = c.requires.start_asks.follows;
       ends = c.requires.start_asks.ends;
-      times_are = c.requires.fact.inside.times_are;
-      slacks = c.requires.fact.inside.slacks;
+      times_are = c.requires.at_start.inside.times_are;
+      slacks = c.requires.at_start.inside.slacks;
       queue_long = c.requires.queue_len;
-      covered = c.pass_heads.ensures.covered _ c.requires.fact.inside.covered;
+      covered = c.pass_heads.ensures.covered _ c.requires.at_start.inside.covered;
       counted = λ y. c.drop_rows.ensures;
     }
 
@@ -53,22 +53,22 @@ next_frame-after-requires c = omega (arith, c.requires.start_asks.ordered, c.req
 pub first_start-requires : goal.first_start-requires
 first_start-requires c =
     rw c.next_frame-after.ensures (record {
-      sound = c.requires.fact.inside.opened.sound;
+      sound = c.requires.at_start.inside.opened.sound;
       prepared = record { inside = pruned_paired c.pass_heads.ensures.pruned };
       first_asks = record {
-        some_k = c.requires.fact.inside.opened.setting.some_k;
+        some_k = c.requires.at_start.inside.opened.setting.some_k;
         ordered = omega (arith, c.requires.start_asks.ordered);
         in_days = c.requires.start_asks.in_days;
         starts = c.requires.start_asks.follows;
         ends = c.requires.start_asks.ends;
       };
       array_lengths = record {
-        times_long = c.step-found.auto.times ∙ c.requires.fact.inside.times_are.long;
-        slack_long = c.step-found.auto.slack ∙ c.requires.fact.inside.slacks.long;
+        times_long = c.step-found.auto.times ∙ c.requires.at_start.inside.times_are.long;
+        slack_long = c.step-found.auto.slack ∙ c.requires.at_start.inside.slacks.long;
         queue_long = c.step-found.auto.queue ∙ c.requires.queue_len;
         counts_long =
             c.step-found.auto.counts
-            ∙ (c.drop_rows.auto.counts ∙ c.requires.fact.inside.timed.long);
+            ∙ (c.drop_rows.auto.counts ∙ c.requires.at_start.inside.timed.long);
       };
     })
 
@@ -78,11 +78,11 @@ returns-in-Raised c =
     record {
       inside = record {
         opened =
-            ready_pruned_of c.requires.fact.inside.opened.sound c.pass_heads.ensures.pruned c.requires.fact.inside.opened.setting.some_k
+            ready_pruned_of c.requires.at_start.inside.opened.sound c.pass_heads.ensures.pruned c.requires.at_start.inside.opened.setting.some_k
             c.requires.start_asks.in_days c.requires.start_asks.follows;
         covered =
-            covered_rise (core_never c.requires.fact.inside.opened.setting.fits c.requires.fact.inside.times_are done.times_are) (le_refl _)
-            (c.pass_heads.ensures.covered _ c.requires.fact.inside.covered);
+            covered_rise (core_never c.requires.at_start.inside.opened.setting.fits c.requires.at_start.inside.times_are done.times_are) (le_refl _)
+            (c.pass_heads.ensures.covered _ c.requires.at_start.inside.covered);
         times_are = done.times_are;
         slacks = done.slacks;
         timed = done.counted.counted refl;
