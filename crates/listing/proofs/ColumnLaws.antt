@@ -9,6 +9,7 @@
 -- Assumes nothing.
 use Prim.Native.Nat.{ℕ, zero, suc, ◌+◌, ◌-◌, ◌≤◌, ◌<◌}
 use native.Mathlib.Nat.{le_refl}
+use native.Mathlib.Numerals.{add-one}
 use native.Mathlib.Omega.{arith}
 use mathlib.Core.Path.{◌≡◌, refl, sym, ◌∙◌, ap}
 use mathlib.Core.Bool.{Bool, true, false}
@@ -75,22 +76,19 @@ cells part ls old =
 
 -- ---- the start column, filled when the entries of a start are known
 
-pub filled_none : (b : Bool) (v n : ℕ) (xs : List ℕ) → filled_if b v n (n - n) xs ≡ xs
+pub filled_none : (b : Bool) (v n : ℕ) (xs : List ℕ) → filled_if b v n 0 xs ≡ xs
 unfolding filled_if filled
-filled_none true v n xs = let none : n - n ≡ 0 = omega arith in ap (λ (k : ℕ). filled v n k xs) none
+filled_none true v n xs = refl
 filled_none false v n xs = refl
 
-filled_more : (v n m : ℕ) (xs : List ℕ) → n ≤ m → set (filled v n (m - n) xs) m v ≡ filled v n (m + 1 - n) xs
+filled_more : (v n m : ℕ) (xs : List ℕ) → set (filled v n m xs) (n + m) v ≡ filled v n (m + 1) xs
 unfolding filled
-filled_more v n m xs o =
-    let here : m ≡ n + (m - n) = omega arith in
-    let more : suc (m - n) ≡ m + 1 - n = omega arith in
-    ap (λ (k : ℕ). set (filled v n (m - n) xs) k v) here ∙ ap (λ (k : ℕ). filled v n k xs) more
+filled_more v n m xs = sym (ap (λ (k : ℕ). filled v n k xs) (add-one m))
 
-fills : (b : Bool) → b ≡ true → (v n m : ℕ) (xs : List ℕ) → n ≤ m → filled_if b v n (m + 1 - n) xs ≡ set (filled_if b v n (m - n) xs) m v
+fills : (b : Bool) → b ≡ true → (v n m : ℕ) (xs : List ℕ) → filled_if b v n (m + 1) xs ≡ set (filled_if b v n m xs) (n + m) v
 unfolding filled_if
-fills true h v n m xs o = sym (filled_more v n m xs o)
-fills false h v n m xs o = clash h refl
+fills true h v n m xs = sym (filled_more v n m xs)
+fills false h v n m xs = clash h refl
 
 stays : (b : Bool) → b ≡ false → (v n m k : ℕ) (xs : List ℕ) → filled_if b v n m xs ≡ filled_if b v n k xs
 unfolding filled_if
@@ -109,16 +107,23 @@ unfolding filled_if
 fill_none h v n m xs = sym (ap (λ (d : Bool). filled_if d v n m xs) h)
 
 pub fill_start : {v n m : ℕ} {xs : List ℕ} → n ≤ m → FillsTo v n m n xs xs
-unfolding filled_if
-fill_start {v} {n} {m} {xs} o = record { from = le_refl n; to = o; filled_so = sym (filled_none true v n xs); long = refl }
+unfolding filled
+fill_start {v} {n} {m} {xs} o =
+    let none : n - n ≡ 0 = omega arith in
+    record { from = le_refl n; to = o; filled_so = sym (ap (λ (k : ℕ). filled v n k xs) none); long = refl }
 
 module _ {v n m i : ℕ} {old now : List ℕ} (F : FillsTo v n m i old now) where
   pub fill_next : i < m → FillsTo v n m (i + 1) old (set now i v)
   fill_next l =
+      let here : n + (i - n) ≡ i = omega (arith, F.from) in
+      let more : i - n + 1 ≡ i + 1 - n = omega (arith, F.from) in
       record {
         from = omega (arith, F.from);
         to = omega arith;
-        filled_so = ap (λ (xs : List ℕ). set xs i v) F.filled_so ∙ filled_more v n i old F.from;
+        filled_so =
+            ap (λ (xs : List ℕ). set xs i v) F.filled_so
+            ∙ (ap (λ (k : ℕ). set (filled v n (i - n) old) k v) (sym here)
+            ∙ (filled_more v n (i - n) old ∙ ap (λ (k : ℕ). filled v n k old) more));
         long = length-set now i v ∙ F.long;
       }
 
@@ -160,14 +165,12 @@ pub data Putting (writes : Bool) (n : ℕ) (x : ListedRing) (w : ℕ) (old new :
   one : writes ≡ true → new ≡ put n x w old → Putting writes n x w old new
 
 -- with the start column that is to come
-pub entering_put : (s n m : ℕ) (starts : List ℕ) → n ≤ m → {writes : Bool} {e total shown : ℕ} {ends rows windows ends' rows' windows' : List ℕ}
-    → Entering writes m e total shown ends rows windows ends' rows' windows'
-    → Putting writes m (record { start = s; end = e; rows = total }) shown (columns_of (filled_if writes s n (m - n) starts) ends rows windows)
-    (columns_of (filled_if writes s n (m + 1 - n) starts) ends' rows' windows')
-entering_put s n m starts o {writes} (Entering.pass h x y z) =
-    Putting.pass h (λ i. columns_of (stays writes h s n (m + 1 - n) (m - n) starts i) (x i) (y i) (z i))
-entering_put s n m starts o {writes} (Entering.one h x y z) =
-    Putting.one h (λ i. columns_of (fills writes h s n m starts o i) (x i) (y i) (z i))
+pub entering_put : (s n k : ℕ) (starts : List ℕ) {writes : Bool} {e total shown : ℕ} {ends rows windows ends' rows' windows' : List ℕ}
+    → Entering writes (n + k) e total shown ends rows windows ends' rows' windows'
+    → Putting writes (n + k) (record { start = s; end = e; rows = total }) shown (columns_of (filled_if writes s n k starts) ends rows windows)
+    (columns_of (filled_if writes s n (k + 1) starts) ends' rows' windows')
+entering_put s n k starts {writes} (Entering.pass h x y z) = Putting.pass h (λ i. columns_of (stays writes h s n (k + 1) k starts i) (x i) (y i) (z i))
+entering_put s n k starts {writes} (Entering.one h x y z) = Putting.one h (λ i. columns_of (fills writes h s n k starts i) (x i) (y i) (z i))
 
 pub putting_places : {writes : Bool} {n : ℕ} {x : ListedRing} {w : ℕ} {old new : Columns (List ℕ)} → Putting writes n x w old new → SameLengths old new
 putting_places (Putting.pass h e) =

@@ -31,7 +31,7 @@ use Rattle.listing.specs.Inner.{day_places, most_rows, most_windows, Places, Sta
 use Rattle.listing.specs.declared.list.Passed.{Passed}
 use Rattle.listing.proofs.StartLaws.{listed_no, listed_by, entries_are}
 use Rattle.listing.proofs.ColumnLaws.{SameLengths, same_places, lengths_on, alike_kept, Putting, putting_places, filled_none}
-use Rattle.listing.proofs.ProgressLaws.{progress_next, progress_as}
+use Rattle.listing.proofs.ProgressLaws.{progress_next, progress_as, progress_so}
 
 -- ---- days without a count
 
@@ -150,24 +150,23 @@ module _ (xs g : List ℕ) (least s low hi : ℕ) (writes : Bool) (p : Passed) (
   abbrev all : List ListedRing
   all = count_entries xs least s s 0 (hi + 1 - s)
 
-  -- it stands at e, the first core time that is not walked yet: so many entries are counted, summed up and written, with those of the ends
-  -- before e; the runs of these ends are gathered or taken; total rows have earlier core times
-  pub record EndsAt (e total count sum : ℕ) (new : Columns (List ℕ)) (g' : List ℕ) : Type 0 where
+  -- it stands at e, the first core time that is not walked yet: the ends before gave so many entries, summed up and written, their runs are
+  -- gathered or taken, and total rows have earlier core times
+  pub record EndsAt (e total entries summed : ℕ) (new : Columns (List ℕ)) (g' : List ℕ) : Type 0 where
     pub from : low ≤ e
     pub to : e ≤ hi + 1
     pub counted : e ≤ hi → get_or xs e 0 ≡ 0 → ⊥
-    pub more : p.count ≤ count
-    pub few : count ≤ p.count + (e - low)
-    pub small : sum ≤ p.sum + (e - low) * most_rows
+    pub few : entries ≤ e - low
+    pub small : summed ≤ (e - low) * most_rows
     pub in_table : total + sum_of xs e (hi + 1 - e) ≤ most_rows
-    pub left : count + length (count_entries xs least s e total (hi + 1 - e)) ≡ p.count + length all
+    pub left : entries + length (count_entries xs least s e total (hi + 1 - e)) ≡ length all
     pub lengths : SameLengths old new
     pub long : length g' ≡ day_places
     pub ahead : (i : ℕ) → e ≤ i → get_or g' i 0 ≡ get_or g i 0
     pub behind : Regathered xs least alike low hi e g g'
     pub moves : (number : ListedRing → ℕ) → Numbered xs g least alike s low hi number → (goal rest : List ListedRing) (lent : Columns (List ℕ))
         → Progress number writes goal (all ++ rest) p.count p.sum lent old
-        → Progress number writes goal (count_entries xs least s e total (hi + 1 - e) ++ rest) count sum lent new
+        → Progress number writes goal (count_entries xs least s e total (hi + 1 - e) ++ rest) (p.count + entries) (p.sum + summed) lent new
 
 module _ {xs g : List ℕ} {f : Frame} {low least : ℕ} {writes : Bool} {p : Passed} {old : Columns (List ℕ)}
     (A : EndsAhead xs g f low least writes p old) where
@@ -186,18 +185,15 @@ module _ {xs g : List ℕ} {f : Frame} {low least : ℕ} {writes : Bool} {p : Pa
       }
 
   -- the start column is filled behind the loop: the columns are said as they will be then
-  pub ends_start : EndsAt xs g least f.start low f.stop writes p old low 0 p.count p.sum
-      (columns_of (filled_if writes f.start p.count (p.count - p.count) old.starts) old.ends old.rows old.windows) g
+  pub ends_start : EndsAt xs g least f.start low f.stop writes p old low 0 0 0
+      (columns_of (filled_if writes f.start p.count 0 old.starts) old.ends old.rows old.windows) g
   ends_start =
-      subst
-      (λ (xs' : List ℕ).
-      EndsAt xs g least f.start low f.stop writes p old low 0 p.count p.sum (columns_of xs' old.ends old.rows old.windows) g)
+      subst (λ (xs' : List ℕ). EndsAt xs g least f.start low f.stop writes p old low 0 0 0 (columns_of xs' old.ends old.rows old.windows) g)
       (sym (filled_none writes f.start p.count old.starts))
       (record {
         from = le_refl low;
         to = omega (arith, A.within);
         counted = λ o. A.counted;
-        more = le_refl p.count;
         few = omega arith;
         small = omega arith;
         in_table = omega (arith, A.in_table);
@@ -206,7 +202,7 @@ module _ {xs g : List ℕ} {f : Frame} {low least : ℕ} {writes : Bool} {p : Pa
         long = A.long;
         ahead = λ i o. refl;
         behind = record { kept = λ i z. refl; adds = λ i next o l h R. absurd (omega arith); takes = λ i next o l h R. absurd (omega arith) };
-        moves = λ number N goal rest lent P. progress_as (ap (λ (ls : List ListedRing). ls ++ rest) same) P;
+        moves = λ number N goal rest lent P. progress_so (omega arith) (omega arith) (progress_as (ap (λ (ls : List ListedRing). ls ++ rest) same) P);
       })
     where
       same : count_entries xs least f.start f.start 0 (f.stop + 1 - f.start) ≡ count_entries xs least f.start low 0 (f.stop + 1 - low)
@@ -214,8 +210,8 @@ module _ {xs g : List ℕ} {f : Frame} {low least : ℕ} {writes : Bool} {p : Pa
           none_counted xs least f.start f.stop low 0 (low - f.start) f.start (omega (arith, A.within))
           (omega (arith, A.uncounted.order)) A.uncounted
 
-  module _ {e total count sum : ℕ} {new : Columns (List ℕ)} {g' : List ℕ}
-      (E : EndsAt xs g least f.start low f.stop writes p old e total count sum new g') where
+  module _ {e total entries summed : ℕ} {new : Columns (List ℕ)} {g' : List ℕ}
+      (E : EndsAt xs g least f.start low f.stop writes p old e total entries summed new g') where
     -- what `first_counted` is asked: where the run that begins on e ends
     pub ends_run : e ≤ f.stop → Counting xs (e + 1) f.stop
     ends_run o = record { long = A.counts.long; order = omega arith; last = A.counts.last }
@@ -295,7 +291,7 @@ module _ {xs g : List ℕ} {f : Frame} {low least : ℕ} {writes : Bool} {p : Pa
 
         -- the run's end is not listed: its windows are gathered
         pub ends_skip : e < least
-            → EndsAt xs g least f.start low f.stop writes p old next (total + get_or xs e 0) count sum new
+            → EndsAt xs g least f.start low f.stop writes p old next (total + get_or xs e 0) entries summed new
             (set g' e (get_or g' e 0 + (f.start + 1 - p.from) * (next - e)))
         unfolding cons_if
         ends_skip h =
@@ -303,11 +299,10 @@ module _ {xs g : List ℕ} {f : Frame} {low least : ℕ} {writes : Bool} {p : Pa
               from = omega (arith, E.from, C.before.order);
               to = C.to;
               counted = C.counted;
-              more = E.more;
               few = omega (arith, E.from, E.few, C.before.order);
               small = omega (arith, E.from, E.small, C.before.order);
               in_table = later_sum;
-              left = ap (λ (ls : List ListedRing). count + length ls) (sym skipped) ∙ E.left;
+              left = ap (λ (ls : List ListedRing). entries + length ls) (sym skipped) ∙ E.left;
               lengths = E.lengths;
               long = length-set g' e _ ∙ E.long;
               ahead = λ i l. get_or-set_other g' e i _ 0 (λ y. omega (arith, C.before.order)) ∙ E.ahead i (omega (arith, C.before.order));
@@ -325,10 +320,10 @@ module _ {xs g : List ℕ} {f : Frame} {low least : ℕ} {writes : Bool} {p : Pa
           listed = entries_run ∙ ap (λ (b : Bool). cons_if b row behind_run) (le-leb least e h)
 
           -- there is a place for it
-          ends_place : writes ≡ true → count < length old.starts
+          ends_place : writes ≡ true → p.count + entries < length old.starts
           ends_place w = omega (arith, A.room w, E.left, ap length listed)
 
-          pub ends_entered : Places writes count new.ends new.rows new.windows
+          pub ends_entered : Places writes (p.count + entries) new.ends new.rows new.windows
           ends_entered =
               record {
                 in_ends = λ w. omega (arith, ends_place w, A.alike.ends, E.lengths.ends);
@@ -337,15 +332,14 @@ module _ {xs g : List ℕ} {f : Frame} {low least : ℕ} {writes : Bool} {p : Pa
               }
 
           pub ends_one : {new' : Columns (List ℕ)}
-              → Putting writes count row (get_or g' e 0 + (f.start + 1 - p.from) * (next - e)) new new'
-              → EndsAt xs g least f.start low f.stop writes p old next (total + get_or xs e 0) (count + 1) (sum + (total + get_or xs e 0)) new'
+              → Putting writes (p.count + entries) row (get_or g' e 0 + (f.start + 1 - p.from) * (next - e)) new new'
+              → EndsAt xs g least f.start low f.stop writes p old next (total + get_or xs e 0) (entries + 1) (summed + (total + get_or xs e 0)) new'
               (set g' e 0)
           ends_one N =
               record {
                 from = omega (arith, E.from, C.before.order);
                 to = C.to;
                 counted = C.counted;
-                more = omega (arith, E.more);
                 few = omega (arith, E.from, E.few, C.before.order);
                 small = omega (arith, E.from, E.small, C.before.order, ends_total);
                 in_table = later_sum;
@@ -356,35 +350,39 @@ module _ {xs g : List ℕ} {f : Frame} {low least : ℕ} {writes : Bool} {p : Pa
                 behind = regathered 0 (λ l. absurd (omega arith)) (λ l. refl);
                 moves =
                     λ number M goal rest lent P.
-                    progress_next row
+                    progress_so (omega arith) (omega arith)
+                    (progress_next row
                     (M e next (total + get_or xs e 0) E.from o h run
                     ∙ ap (λ (n : ℕ). n + (f.start + 1 - p.from) * (next - e)) (sym (E.ahead e (le_refl e))))
                     (alike_kept A.alike E.lengths) (λ w. omega (arith, ends_place w, E.lengths.starts))
                     (progress_as (ap (λ (ls : List ListedRing). ls ++ rest) listed) (E.moves number M goal rest lent P))
-                    N;
+                    N);
               }
 
-  module _ (starts : List ℕ) {e total count sum : ℕ} {ends rows windows g' : List ℕ}
-      (E : EndsAt xs g least f.start low f.stop writes p old e total count sum
-      (columns_of (filled_if writes f.start p.count (count - p.count) starts) ends rows windows) g') where
+  module _ (starts : List ℕ) {e total entries summed : ℕ} {ends rows windows g' : List ℕ}
+      (E : EndsAt xs g least f.start low f.stop writes p old e total entries summed
+      (columns_of (filled_if writes f.start p.count entries starts) ends rows windows) g') where
     -- there are places for the start column
-    pub ends_places : length starts ≡ length old.starts → StartPlaces writes p.count count starts
-    ends_places same = record { order = E.more; in_starts = λ w. omega (arith, A.room w, E.left) }
+    pub ends_places : length starts ≡ length old.starts → StartPlaces writes p.count (p.count + entries) starts
+    ends_places same = record { order = omega arith; in_starts = λ w. omega (arith, A.room w, E.left) }
 
     pub ends_end : {empty : ℕ} {starts' : List ℕ} → least ≤ f.stop → f.stop < e → empty ≡ p.empty + (low - f.start)
-        → starts' ≡ filled_if writes f.start p.count (count - p.count) starts
-        → EndsListed xs f low least writes p (record { count = count; sum = sum; empty = empty; from = f.start + 1 }) old
+        → starts' ≡ filled_if writes f.start p.count (p.count + entries - p.count) starts
+        → EndsListed xs f low least writes p (record { count = p.count + entries; sum = p.sum + summed; empty = empty; from = f.start + 1 }) old
         (columns_of starts' ends rows windows) g g'
     unfolding count_entries
     ends_end {starts' = starts'} l past ee es =
         let none : f.stop + 1 - e ≡ 0 = omega arith in
         let last : e ≡ f.stop + 1 = omega (arith, E.to) in
+        let many : entries ≡ p.count + entries - p.count = omega arith in
+        let filled_so : filled_if writes f.start p.count entries starts ≡ starts' =
+        ap (λ (n : ℕ). filled_if writes f.start p.count n starts) many ∙ sym es in
         record {
           few = omega (arith, E.to, E.few, A.counts.last);
           small = omega (arith, E.to, E.small, A.counts.last);
           empty_so = ee;
           gathers = Gathering.walked l refl (subst (λ (d : ℕ). Regathered xs least (f.start + 1 - p.from) low f.stop d g g') last E.behind);
           moves = λ number N goal rest lent P.
-              subst (λ (xs' : List ℕ). Progress number writes goal rest count sum lent (columns_of xs' ends rows windows))
-              (sym es) (progress_as (ap (λ (d : ℕ). count_entries xs least f.start e total d ++ rest) none) (E.moves number N goal rest lent P));
+              subst (λ (xs' : List ℕ). Progress number writes goal rest (p.count + entries) (p.sum + summed) lent (columns_of xs' ends rows windows))
+              filled_so (progress_as (ap (λ (d : ℕ). count_entries xs least f.start e total d ++ rest) none) (E.moves number N goal rest lent P));
         }

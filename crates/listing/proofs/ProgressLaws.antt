@@ -1,6 +1,6 @@
 -- Entries that are counted, summed up and written, one after the other (specs/Inner.antt, Progress).
 --     progress_start, progress_next                  no entry yet; one more
---     progress_as                                    the rest, said in another way
+--     progress_as, progress_so                       the rest, or the numbers, said in another way
 --     Whole, progress_end                            none is left
 -- Assumes nothing.
 use Prim.Native.Nat.{ℕ, ◌+◌, ◌<◌}
@@ -56,6 +56,9 @@ module _ {f : ListedRing → ℕ} {writes : Bool} {goal rest : List ListedRing} 
 
   pub progress_as : {rest' : List ListedRing} → rest ≡ rest' → Progress f writes goal rest n sum lent now → Progress f writes goal rest' n sum lent now
   progress_as e P = subst (λ (r : List ListedRing). Progress f writes goal r n sum lent now) e P
+
+  pub progress_so : {n' sum' : ℕ} → n' ≡ n → sum' ≡ sum → Progress f writes goal rest n sum lent now → Progress f writes goal rest n' sum' lent now
+  progress_so a b P = record { done = P.done; split = P.split; counted = a ∙ P.counted; summed_up = b ∙ P.summed_up; columns = P.columns }
 
 -- ---- none is left
 

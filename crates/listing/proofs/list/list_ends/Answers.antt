@@ -89,6 +89,9 @@ offset_bounds-gathered-e-in-loop-e c = omega (arith, c.loop-e-test.true, c.requi
 pub bounds-gathered-e-in-loop-e : goal.bounds-gathered-e-in-loop-e
 bounds-gathered-e-in-loop-e c = omega (arith, c.loop-e-test.true, c.requires.counts.last, c.loop-e.invariant.long)
 
+pub overflow_add-passed : goal.overflow_add-passed
+overflow_add-passed c = omega (arith, c.loop-e.invariant.few, c.requires.few, c.loop-e-test.true, c.requires.counts.last)
+
 pub overflow_cast-e : goal.overflow_cast-e
 overflow_cast-e c = omega (arith, c.loop-e-test.true, c.requires.counts.last)
 
@@ -99,13 +102,13 @@ pub enter-requires : goal.enter-requires
 enter-requires c =
     ends_entered c.requires c.loop-e.invariant c.loop-e-test.true c.first_counted-next.ensures c.if-e-least.false
 
-pub overflow_add-count : goal.overflow_add-count
-overflow_add-count c = omega (arith, c.loop-e.invariant.few, c.requires.few, c.loop-e-test.true, c.requires.counts.last)
+pub overflow_add-entries : goal.overflow_add-entries
+overflow_add-entries c = omega (arith, c.loop-e.invariant.few, c.loop-e-test.true, c.requires.counts.last)
 
-pub overflow_add-sum : goal.overflow_add-sum
-overflow_add-sum c =
-    let total = ends_total c.requires c.loop-e.invariant c.loop-e-test.true in
-    omega (arith, c.loop-e.invariant.small, c.requires.small, total, c.loop-e-test.true, c.requires.counts.last)
+pub overflow_add-summed : goal.overflow_add-summed
+overflow_add-summed c =
+    omega
+    (arith, c.loop-e.invariant.small, ends_total c.requires c.loop-e.invariant c.loop-e-test.true, c.loop-e-test.true, c.requires.counts.last)
 
 pub loop-e-smaller : goal.loop-e-smaller
 loop-e-smaller c = omega (arith, c.loop-e-test.true, c.first_counted-next.ensures.before.order)
@@ -113,13 +116,21 @@ loop-e-smaller c = omega (arith, c.loop-e-test.true, c.first_counted-next.ensure
 pub loop-e-preserved : goal.loop-e-preserved
 loop-e-preserved c =
     ends_one c.requires c.loop-e.invariant c.loop-e-test.true c.first_counted-next.ensures c.if-e-least.false
-    (entering_put _ _ _ _ c.loop-e.invariant.more c.enter.ensures)
+    (entering_put _ _ _ _ c.enter.ensures)
+
+pub overflow_add-count : goal.overflow_add-count
+overflow_add-count c =
+    omega (arith, c.loop-e.invariant.few, c.loop-e.invariant.to, c.requires.few, c.requires.counts.last)
 
 pub fill_starts-requires : goal.fill_starts-requires
 fill_starts-requires c = ends_places c.requires _ c.loop-e.invariant refl
 
 pub overflow_add-result : goal.overflow_add-result
-overflow_add-result c = omega (arith, c.requires.uncounted.order, c.requires.within, c.requires.counts.last)
+overflow_add-result c =
+    omega (arith, c.loop-e.invariant.small, c.loop-e.invariant.to, c.requires.small, c.requires.counts.last)
+
+pub overflow_add-result-2 : goal.overflow_add-result-2
+overflow_add-result-2 c = omega (arith, c.requires.uncounted.order, c.requires.within, c.requires.counts.last)
 
 pub shape_of-gathered : goal.shape_of-gathered
 shape_of-gathered c = c.loop-e.invariant.long ∙ sym c.requires.long

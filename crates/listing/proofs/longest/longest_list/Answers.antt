@@ -14,6 +14,11 @@ overflow_sub-days c = omega (arith, (window_e _ _ c.is_window.ensures c.if-is_wi
 pub overflow_add-days : goal.overflow_add-days
 overflow_add-days c = omega (arith, (window_e _ _ c.is_window.ensures c.if-is_window.true).2)
 
+pub most-requires : goal.most-requires
+most-requires c =
+    let window = window_e _ _ c.is_window.ensures c.if-is_window.true in
+    omega arith
+
 pub returns-then-is_window : goal.returns-then-is_window
 unfolding longest_answer counted range_check ◌when◌ no days_of
 returns-then-is_window c =
