@@ -7,7 +7,8 @@
 rt tries each edit crates/CRATE/must-fail/LABEL.edit by itself, over the crate as it was proved, and says in a line what the prover
 refused first: a goal of a function, with its place in the code, or an error in a law, a worked row or an answer.
 
-What counts is a goal that is not proved, or an error in a proof: a fact does not hold. What fails:
+What counts is a goal that is not proved, or an error in a proof: a fact does not hold. Where rt names neither, no file has an
+error, and a goal stays open of a function that has no answer to it: `rt check` of the crate with the edit names it. What fails:
   - a BAD EDIT: its text stands nowhere or twice, it names what is not there, or it cannot be read; so no contract was tried;
   - NOT REFUSED: the crate is proved with it; NOT TRIED: its check came to no end;
   - refused only because a proof file names what the edit took away, because a name is missing, or by a limit of the prover;
@@ -21,7 +22,7 @@ import sys
 
 ROOT = os.path.dirname(os.path.dirname(os.path.abspath(__file__)))
 SAID = re.compile(r"^rt: must-fail (\w+)/(\S+)\.edit: (.*said:\n.*|.*)$", re.M)
-REFUSED = "refused, as it must be: "
+REFUSED = "refused, as it must be"
 # a place of the crate, and the goal or the declaration that fails there
 GOAL = re.compile(r"(?:note: )?(?:\./)?((?:src|specs|proofs)/\S+?:\d+):\d+: (?:error: `([^`]*)`|.*?\(`([^`]*)`\))?")
 NO_FACT = re.compile(r"is not in scope|has no field|has no `|is no name|was not admitted|operand is missing|expected the end|cannot continue")
@@ -41,9 +42,11 @@ def files():
 
 def judge(said):
     """Whether an edit is refused for a fact, and what to say of it."""
-    if not said.startswith(REFUSED):
+    if said == REFUSED:
+        return True, "a goal that nothing answers stays open"
+    if not said.startswith(REFUSED + ": "):
         return False, said
-    what = said[len(REFUSED) :]
+    what = said[len(REFUSED + ": ") :]
     found = GOAL.match(what)
     if not found:
         return False, "NO PLACE: " + what
