@@ -1,10 +1,10 @@
 # make list             prove what is needed, build the listing program, list examples/season.txt
 # make list IN=FILE     the same for another file
-# make test             everything: the kit, the layout, every proof and must-fail edit, the hosts
+# make test             everything: the kit, what each crate shows, every proof and must-fail edit, the layout, the hosts
 # make bench            the benchmark; writes docs/BENCHMARK.md
 # make compare OLD=FILE what a change costs: the archive against an earlier one in one run, table by table; NEW=FILE
 #                       for another than the one of these sources (tools/trial.py builds one without proofs)
-# make refusals         every must-fail edit: the fact that the prover finds to fail
+# make refusals         every must-fail edit: the fact that the prover finds to fail (at once where nothing changed)
 # make mutants          faults planted in the C engine of host/peer, each found by the tests of host/
 # make mutants-rattle   the same in the Rattle sources, built without proofs
 # make clean            remove what was built
@@ -12,29 +12,26 @@
 SHELL := bash
 .SHELLFLAGS := -eu -o pipefail -c
 .NOTPARALLEL:
-.PHONY: list test kit layout surface proofs refusals hosts verdict engine bench compare mutants mutants-rattle clean
+.PHONY: list test kit surface proofs refusals refused hosts verdict engine bench compare mutants mutants-rattle clean
 
 RT ?= rt
 IN ?= examples/season.txt
-RT_JOBS ?= 2
-export RT_JOBS
 
-# rt ci removes target/, so the logs lie beside it.
-LOG := host/target/rt-ci.log
-LIST_LOG := host/target/rt-check.log
-# rt prints nothing of a crate until its level is done: this says what is being proved meanwhile.
-PROGRESS := python3 tools/progress.py
+LOGS := $(CURDIR)/host/target
+LOG := $(LOGS)/rt-ci.log
+# rt ci prints nothing of a crate until it is done: this says what is being proved meanwhile.
+PROGRESS := python3 $(CURDIR)/tools/progress.py
 HOST := $(MAKE) --no-print-directory -C host
 
 list: kit
 	@[ -r "$(IN)" ] || { echo "list: cannot read $(IN)"; exit 1; }
 	@echo "list: proving ringlist and what it rests on (minutes the first time, then nothing)"
-	@mkdir -p $(dir $(LIST_LOG))
-	@$(PROGRESS) --log $(LIST_LOG) list $(RT) check ringlist
+	@mkdir -p $(LOGS)
+	@cd crates/ringlist && $(PROGRESS) --log $(LOGS)/rt-run.log list $(RT) run <"$(abspath $(IN))"
 	@echo "list: the rings of $(IN)"
-	@target/bin/ringlist <"$(IN)"
+	@crates/ringlist/out/ringlist <"$(IN)"
 
-test: kit layout surface proofs refusals hosts verdict
+test: kit surface proofs refused hosts verdict
 
 # The kits of the file KIT have proved this repository. Another may too, but nobody has looked.
 kit:
@@ -48,31 +45,33 @@ kit:
 	fi; \
 	echo "kit: $$found"
 
-layout:
-	@echo "layout: rt fmt --check"
-	@$(RT) fmt --check || { echo "layout: rt fmt puts it right"; exit 1; }
-
 surface:
 	@echo "surface: what each crate shows, against docs/SURFACE.md"
 	@python3 tools/surface.py
 
-# rt ci takes every .rt and .antt file outside target/ for a lost one: so copies of `make mutants` go first.
+# Of the layout and of files that no check reads rt ci looks too. A bad edit fails nothing there, and so fails here.
 proofs:
-	@echo "proofs: rt ci, from nothing: every crate, must-fail edits, every program (minutes)"
-	@rm -rf host/target/mutants/copy
-	@mkdir -p $(dir $(LOG))
-	@rm -f $(LOG)
+	@echo "proofs: rt ci: every crate, its layout, must-fail edits, every program (minutes, or what changed since it passed here)"
+	@mkdir -p $(LOGS)
 	@$(PROGRESS) proofs $(RT) ci 2>&1 | tee $(LOG)
 	@tail -n 1 $(LOG) | grep -qE '^[0-9]+ passed, 0 failed$$' || { echo "proofs: rt ci did not end with its verdict"; exit 1; }
+	@grep -qE '^rt: ok; ' $(LOG) || { echo "proofs: rt ci did not say rt: ok"; exit 1; }
+	@! grep -E '^rt: ok; .*, [1-9][0-9]* bad' $(LOG) || { echo "proofs: bad must-fail edits, as told above"; exit 1; }
 
-# Starts from what rt ci proved.
 refusals:
-	@echo "refusals: every must-fail edit, and the fact that fails (minutes)"
+	@echo "refusals: every must-fail edit, and the fact that fails"
 	@python3 tools/refusals.py
 
+# What rt ci has just said of each: nothing is tried again.
+refused:
+	@echo "refusals: every must-fail edit, and the fact that fails"
+	@python3 tools/refusals.py --log $(LOG)
+
+# rt ci builds no static library.
 engine:
-	@echo "hosts: rt staticlib engine"
-	@$(RT) staticlib engine
+	@echo "hosts: rt lib in crates/engine"
+	@mkdir -p $(LOGS)
+	@cd crates/engine && $(PROGRESS) --log $(LOGS)/rt-lib.log hosts $(RT) lib
 
 hosts: engine
 	@echo "hosts: Rust tests against the archive"
@@ -101,4 +100,4 @@ mutants-rattle:
 	@$(HOST) mutants-rattle
 
 clean:
-	rm -rf target host/target
+	rm -rf crates/*/out host/target

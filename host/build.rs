@@ -1,4 +1,4 @@
-//! Links the archive named by LIB (default ../target/staticlib/libengine.a).
+//! Links the archive named by LIB (default ../crates/engine/out/libengine.a).
 
 use std::env;
 use std::path::{Path, PathBuf};
@@ -28,11 +28,11 @@ fn main() {
     let here = PathBuf::from(env::var_os("CARGO_MANIFEST_DIR").unwrap_or_default());
     let lib = env::var_os("LIB")
         .map(PathBuf::from)
-        .unwrap_or_else(|| PathBuf::from("../target/staticlib/libengine.a"));
+        .unwrap_or_else(|| PathBuf::from("../crates/engine/out/libengine.a"));
     let archive = here.join(lib);
     if !archive.is_file() {
         fail(format!(
-            "{} is missing: run `rt staticlib engine` at the repository's root, or set LIB",
+            "{} is missing: run `rt lib` in crates/engine, or set LIB",
             archive.display()
         ));
     }

@@ -5,6 +5,8 @@
 # A fault is NAME | FILE | SED EXPRESSION, on a copy of the sources; the copy is
 # built into an archive and `cargo test` must fail against it. An edit that
 # changes nothing, or that does not build or link, is an error of this script.
+# Copies lie outside the repository: in it, rt ci would take a Rattle source of a
+# copy for a lost file.
 #
 # As it stands it plants faults in the C engine (peer/engine.c). `make
 # mutants-rattle` aims it at the Rattle sources, by these three:
@@ -20,23 +22,25 @@ sources=${MUTANT_SOURCES:-peer/engine.c}
 faults=${MUTANT_FAULTS:-faults.txt}
 build=${MUTANT_BUILD:-"${CC:-cc} -std=c99 -O2 -I$here/../include -c engine.c -o engine.o && ar crs libengine.a engine.o"}
 work=$here/target/mutants
+copies=$(mktemp -d) || exit 2
+copy=$copies/copy
 found=0
 missed=0
 broken=0
 mkdir -p "$work"
-# A copy of the Rattle sources left behind would count as lost files for rt.
-trap 'rm -rf "$work/copy"' EXIT
+trap 'rm -rf "$copies"' EXIT
 
 # The tests alone must pass first: else every fault would seem found.
 one() {
     name=$1
     file=$2
     edit=$3
-    copy=$work/copy
     rm -rf "$copy"
     mkdir -p "$copy"
-    # shellcheck disable=SC2086 # a list of paths
-    cp -r $sources "$copy"
+    # Of a crate its sources: not what rt keeps in its out/, nor proofs.
+    for source in $sources; do
+        tar -cf - --exclude=out --exclude=proofs -C "$(dirname "$source")" "$(basename "$source")" | tar -xf - -C "$copy" || return 2
+    done
     if [ -n "$edit" ]; then
         cp "$copy/$file" "$work/before"
         if ! sed -E "$edit" "$work/before" > "$copy/$file"; then
@@ -52,7 +56,7 @@ one() {
         echo "mutants: $name: does not build; see target/mutants/$name.log"
         return 2
     fi
-    export LIB=target/mutants/copy/libengine.a CARGO_TARGET_DIR="$work/cargo"
+    export LIB="$copy/libengine.a" CARGO_TARGET_DIR="$work/cargo"
     if ! cargo test --release --offline --tests --no-run >> "$work/$name.log" 2>&1; then
         echo "mutants: $name: does not link; see target/mutants/$name.log"
         return 2

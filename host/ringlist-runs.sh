@@ -1,13 +1,13 @@
 #!/bin/sh
 # Runs the listing program on inputs made here and compares the bytes that it
-# prints. use: host/ringlist-runs.sh [PROGRAM]   (default: target/bin/ringlist)
+# prints. use: host/ringlist-runs.sh [PROGRAM]   (default: that of crates/ringlist)
 # The expected texts are worked out from document 01, never by a program that
 # is tested. Every refusal that an input can meet is among them, with no rings,
 # 18,448 and 18,449 bytes, 2,048 and 2,049 rings. It ends with 1 where a run
 # differs or fails.
 set -u
-program=${1:-$(dirname "$0")/../target/bin/ringlist}
-[ -x "$program" ] || { echo "ringlist-runs: no program $program"; exit 2; }
+program=${1:-$(dirname "$0")/../crates/ringlist/out/ringlist}
+[ -x "$program" ] || { echo "ringlist-runs: no program $program: rt ci and make list leave it there"; exit 2; }
 work=$(mktemp -d) || exit 2
 trap 'rm -rf "$work"' EXIT
 

@@ -3,79 +3,84 @@
 
     tools/progress.py [--log FILE] WORD rt ARGUMENT ..
 
-rt prints nothing of a crate until all crates of its level are done, and the first level takes minutes. Here a line comes when the
-proof of a crate begins and one when it ends, each with WORD before it. They are read from the files that rt writes as it goes:
-target/log/NAME.say when a proof begins, and NAME.out, which ends with rt's own sentence on the crate, with the seconds.
-What rt itself prints comes out as it comes, each line after what it tells of; so its last line is the last. With --log it goes to
-that file, and comes out only where rt fails. The status is rt's. Nothing is judged here: the verdict is rt's.
+rt ci prints nothing of a crate until it is done, which takes minutes. Here a line comes when the proof of a crate begins and one
+when it ends, each with WORD before it. rt ci makes the folder out/ of a crate anew when it begins with it, and says `rt: NAME proved`;
+the other commands of rt say `rt: chose --jobs 2 for NAME` when they begin with a crate and `logic=proved ..` when they end.
+What rt itself prints comes out as it comes; so its last line is the last. With --log it goes to that file, and comes out only where
+rt fails. The status is rt's. Nothing is judged here: the verdict is rt's.
 """
 import os
 import re
 import select
 import subprocess
 import sys
+import time
 
 ROOT = os.path.dirname(os.path.dirname(os.path.abspath(__file__)))
+# What rt says of a crate: rt ci when it is done with it, the other commands when they begin with it and, of the last begun, when it is done.
+DONE = re.compile(r"rt: (\w+) ((?:proved|NOT PROVED|is kept)\b)")
+BEGINS = re.compile(r"rt: chose --jobs \d+ for (\w+)$")
+ENDS = re.compile(r"logic=(proved|not-proved)\b")
 
 
-def path(name, kind):
-    return os.path.join(ROOT, "target", "log", name + kind)
-
-
-def mark(file):
-    """Another one where the file was written anew."""
+def made(name):
+    """Another one where the crate's out/ was made anew."""
     try:
-        seen = os.stat(file)
+        return os.stat(os.path.join(ROOT, "crates", name, "out")).st_ino
     except OSError:
         return None
-    return seen.st_ino, seen.st_mtime_ns, seen.st_size
 
 
 class Progress:
-    def __init__(self, word):
+    def __init__(self, word, is_ci):
         with open(os.path.join(ROOT, "crates.txt")) as f:
-            self.names = re.findall(r"^(\w+):", f.read(), re.M)
-        self.word, self.begun, self.ended = word, set(), set()
-        self.earlier = {file: mark(file) for n in self.names for file in (path(n, ".say"), path(n, ".out"))}
-
-    def written(self, file):
-        return mark(file) not in (None, self.earlier[file])
-
-    def sentence(self, name):
-        """rt's own, once it is there."""
-        try:
-            with open(path(name, ".out"), errors="replace") as f:
-                said = re.findall(r"^rt: (%s (?:proved|NOT PROVED).*)$" % name, f.read(), re.M)
-        except OSError:
-            return None
-        return said[-1] if said else None
+            self.names = re.findall(r"^(\w+)[^:#\n]*:", f.read(), re.M)
+        self.word, self.begun, self.ended, self.last = word, {}, set(), None
+        self.earlier = {name: made(name) for name in self.names} if is_ci else {}
 
     def look(self):
-        for name in self.names:
-            if name not in self.begun and self.written(path(name, ".say")):
-                self.begun.add(name)
-                self.say("proving %s" % name)
-        for name in self.names:
-            if name not in self.ended and self.written(path(name, ".out")) and self.sentence(name):
-                self.ended.add(name)
-                self.say(self.sentence(name))
+        for name, was in self.earlier.items():
+            if made(name) not in (None, was):
+                self.begin(name)
+
+    def read(self, line):
+        done, begins, ends = DONE.match(line), BEGINS.match(line), ENDS.match(line)
+        if done and self.earlier:
+            self.end(*done.groups())
+        elif begins and not self.earlier:
+            self.begin(begins.group(1))
+        elif ends and self.last:
+            self.end(self.last, "proved" if ends.group(1) == "proved" else "NOT PROVED")
+
+    def begin(self, name):
+        if name not in self.begun and name not in self.ended:
+            self.begun[name], self.last = time.time(), None if self.earlier else name
+            self.say("proving %s" % name)
+
+    def end(self, name, how):
+        if name not in self.ended:
+            self.ended.add(name)
+            took = " (%d s)" % (time.time() - self.begun[name]) if name in self.begun else ""
+            self.say("%s %s%s" % (name, how, took))
 
     def say(self, what):
         print("%s: %s" % (self.word, what), flush=True)
 
 
 def run(word, command, log):
-    progress, kept, rest = Progress(word), open(log, "wb") if log else None, b""
-    rt = subprocess.Popen(command, cwd=ROOT, stdout=subprocess.PIPE, stderr=subprocess.STDOUT)
+    progress, kept, rest = Progress(word, "ci" in command), open(log, "wb") if log else None, b""
+    rt = subprocess.Popen(command, stdout=subprocess.PIPE, stderr=subprocess.STDOUT)
     while True:
         ready = select.select([rt.stdout], [], [], 1)[0]
-        progress.look()
         if not ready:
+            progress.look()
             continue
         got = os.read(rt.stdout.fileno(), 65536)
         lines, end, rest = (rest + got).rpartition(b"\n") if got else (rest, b"", b"")
         out = kept or sys.stdout.buffer
-        out.write(lines + end)
+        for line in (lines + end).splitlines(keepends=True):
+            progress.read(line.decode(errors="replace").rstrip("\n"))
+            out.write(line)
         out.flush()
         if not got:
             break

@@ -29,7 +29,7 @@ def read(*parts):
 
 
 def crates():
-    return re.findall(r"^([a-z0-9_]+):", read("crates.txt"), re.M)
+    return re.findall(r"^([a-z0-9_]+)(?: staticlib)?:", read("crates.txt"), re.M)
 
 
 def sources(crate):
@@ -45,7 +45,27 @@ def sources(crate):
 def functions(text):
     """(name, visibility, has a requires) of each function of a module."""
     pattern = re.compile(r'^(pub(?:\(crate\))? )?(?:extern "C" )?fn ([a-z_0-9]+)(.*?)^\{', re.M | re.S)
-    return [(m.group(2), (m.group(1) or "").strip(), "requires {" in m.group(3)) for m in pattern.finditer(text)]
+    return [(m.group(2), (m.group(1) or "").strip(), re.search(r"^    requires\b", m.group(3), re.M) is not None) for m in pattern.finditer(text)]
+
+
+def uses(text, word):
+    """The paths that the items `use` and `pub use` (word) of a module name: a::{b, c::d} is a::b and a::c::d."""
+
+    def paths(tree):
+        head, brace, inner = tree.partition("{")
+        if not brace:
+            return [tree.split(" as ")[0]]
+        parts, depth, one = [], 0, ""
+        for c in inner[: inner.rindex("}")] + ",":
+            depth += (c == "{") - (c == "}")
+            if c == "," and depth == 0:
+                parts, one = parts + [one] if one else parts, ""
+            else:
+                one += c
+        return [head + path for part in parts for path in paths(part)]
+
+    items = re.findall(r"^%s ([^;]+);" % word, text, re.M)
+    return {path for item in items for path in paths(re.sub(r"\s+(?!as )|(?<!as)\s+", "", item))}
 
 
 def shown(crate):
@@ -53,7 +73,7 @@ def shown(crate):
     modules = sources(crate)
     root = modules.get("", "")
     open_modules = set(re.findall(r"^pub mod ([a-z_]+);", root, re.M))
-    exported = set(re.findall(r"^pub use (?:crate::)?([a-z_]+::[a-z_0-9]+);", "\n".join([root] + [modules[m] for m in open_modules]), re.M))
+    exported = {re.sub("^crate::", "", path) for text in [root] + [modules[m] for m in open_modules] for path in uses(text, "pub use")}
     found = {}
     for module, text in modules.items():
         for name, visibility, requires in functions(text):
@@ -69,7 +89,7 @@ def used(crate):
     for other in crates():
         if other != crate:
             for text in sources(other).values():
-                names |= set(re.findall(r"^(?:pub )?use %s::(?:[a-z_]+::)?([a-z_0-9]+);" % crate, text, re.M))
+                names |= {path.split("::")[-1] for path in uses(text, "(?:pub )?use") if path.startswith(crate + "::")}
     return names
 
 
@@ -129,17 +149,18 @@ def check_citations():
     for crate in crates():
         pattern = os.path.join(ROOT, "crates", crate, "**", "*")
         for path in sorted(glob.glob(pattern, recursive=True)):
-            if not path.endswith((".rt", ".antt")):
+            where = os.path.relpath(path, ROOT)
+            if not path.endswith((".rt", ".antt")) or where.split(os.sep)[2] == "out":
                 continue
             with open(path) as f:
                 text = f.read()
-            where = os.path.relpath(path, ROOT)
-            for owner in re.findall(r"Rattle·([a-z]+)\.specs\.Inner\b", text):
+            cited = lambda pattern: {found for found in re.findall(pattern, text) if (found if isinstance(found, str) else found[0]) != crate}
+            for owner in cited(r"\bRattle\.([a-z]+)\.specs\.Inner\b"):
                 faults.append("inner: %s cites specs/Inner of %s" % (where, owner))
-            for owner, page in set(re.findall(r"Rattle·([a-z]+)\.proofs\.([A-Z][A-Za-z0-9]*)", text)):
+            for owner, page in cited(r"\bRattle\.([a-z]+)\.proofs\.([A-Z][A-Za-z0-9]*)"):
                 check_page(where, owner, page)
             for owner in crates():
-                if owner != crate and has_shut(owner) and "Rattle·%s." % owner in text:
+                if owner != crate and has_shut(owner) and "Rattle.%s." % owner in text:
                     if re.search(r"\.inside\b|[{;] *inside =", text):
                         faults.append("inner: %s opens a state of %s that stays shut" % (where, owner))
 

@@ -5,7 +5,8 @@
 //!   unproved REPOSITORY OUT    reads REPOSITORY/crates.txt and crates/, writes
 //!                              OUT/libengine.a for Rust programs of this rustc
 //!
-//! The archive of a release is `rt staticlib engine`'s and never this one.
+//! The archive of a release is what `rt lib` makes in crates/engine, and never
+//! this one.
 
 use std::collections::BTreeMap;
 use std::fs;
@@ -24,50 +25,50 @@ fn run(command: &mut Command) {
     }
 }
 
-/// Rattle to Rust: comments, ghost imports and contracts go; plain data, which
-/// is Copy in Rattle, says so.
+/// Where a contract's text ends, from behind its word on: a name or none, and
+/// braces. None where no contract stands there.
+fn contract(after: &str) -> Option<usize> {
+    let is_name = |c: char| c.is_ascii_alphanumeric() || c == '_';
+    let open = after.trim_start().trim_start_matches(is_name).trim_start();
+    if !open.starts_with('{') || !after.starts_with(char::is_whitespace) {
+        return None;
+    }
+    let mut depth = 0;
+    for (i, c) in open.char_indices() {
+        depth += i32::from(c == '{') - i32::from(c == '}');
+        if depth == 0 {
+            return Some(after.len() - open.len() + i + 1);
+        }
+    }
+    fail("a contract has no end".to_string());
+}
+
+/// Rattle to Rust: comments, ghost imports, contracts and the line that asks for
+/// tactics go.
 fn stripped(text: &str) -> String {
     let mut out = String::new();
     let mut lines = String::new();
     for line in text.lines() {
         let bare = line.trim_start();
-        if bare.starts_with("//") {
-            continue;
+        if !bare.starts_with("//") && !bare.starts_with("#![tactic(") {
+            lines.push_str(line);
+            lines.push('\n');
         }
-        let bare = ["pub ", "pub(crate) "]
-            .iter()
-            .find_map(|shown| bare.strip_prefix(shown))
-            .unwrap_or(bare);
-        if bare.starts_with("struct ") || bare.starts_with("enum ") {
-            lines.push_str("#[derive(Clone, Copy)]\n");
-        }
-        lines.push_str(line);
-        lines.push('\n');
     }
     let mut rest = lines.as_str();
     'all: while !rest.is_empty() {
-        if rest.starts_with("ghost ") {
+        let at_word = !out.ends_with(|c: char| c.is_alphanumeric() || c == '_');
+        if at_word && rest.starts_with("ghost use ") {
             let end = rest.find(";\n").map_or(rest.len(), |at| at + 1);
             rest = &rest[end..];
             continue;
         }
-        let at_word = !out.ends_with(|c: char| c.is_alphanumeric() || c == '_');
         for word in ["requires", "ensures"] {
-            let Some(after) = rest.strip_prefix(word) else {
-                continue;
-            };
-            if !at_word || !after.trim_start().starts_with('{') {
-                continue;
+            let after = rest.strip_prefix(word).filter(|_| at_word);
+            if let Some(end) = after.and_then(contract) {
+                rest = &rest[word.len() + end..];
+                continue 'all;
             }
-            let mut depth = 0;
-            for (i, c) in after.char_indices() {
-                depth += i32::from(c == '{') - i32::from(c == '}');
-                if depth == 0 && c == '}' {
-                    rest = &after[i + 1..];
-                    continue 'all;
-                }
-            }
-            fail(format!("a contract has no end: {word}"));
         }
         let c = rest.chars().next().unwrap_or(' ');
         out.push(c);
@@ -104,9 +105,11 @@ fn main() {
     let mut needs: BTreeMap<String, Vec<String>> = BTreeMap::new();
     for line in listed.lines() {
         let line = line.split('#').next().unwrap_or("");
-        if let Some((name, deps)) = line.split_once(':') {
+        // NAME: DEPS, of a static library NAME staticlib: DEPS
+        if let Some((head, deps)) = line.split_once(':') {
+            let name = head.split_whitespace().next().unwrap_or("");
             let deps = deps.split_whitespace().map(str::to_string).collect();
-            needs.insert(name.trim().to_string(), deps);
+            needs.insert(name.to_string(), deps);
         }
     }
     // Lower crates first.
