@@ -13,6 +13,7 @@ error, and a goal stays open of a function that has no answer to it: `rt check` 
   - NOT REFUSED: the crate is proved with it; NOT TRIED: its check came to no end;
   - refused only because a proof file names what the edit took away, because a name is missing, or by a limit of the prover;
   - an edit of which rt says nothing, and a file below must-fail/ that is no edit.
+What it can't tell: a goal that is false from one that the edit gave another name, so that its answer is not found. Read the goal.
 """
 import glob
 import os
