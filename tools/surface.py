@@ -43,9 +43,16 @@ def sources(crate):
 
 
 def functions(text):
-    """(name, visibility, has a requires) of each function of a module."""
-    pattern = re.compile(r'^(pub(?:\(crate\))? )?(?:extern "C" )?fn ([a-z_0-9]+)(.*?)^\{', re.M | re.S)
-    return [(m.group(2), (m.group(1) or "").strip(), re.search(r"^    requires\b", m.group(3), re.M) is not None) for m in pattern.finditer(text)]
+    """(name, visibility, has a requires, its type or '') of each function of a module and of each method of its types' own."""
+    blocks = [("", "", text)]
+    blocks += [("    ", m.group(1), m.group(2)) for m in re.finditer(r"^impl(?:<[^>]*>)? ([A-Z]\w*)(?:<[^>]*>)? \{\n(.*?)^\}", text, re.M | re.S)]
+    found = []
+    for indent, owner, block in blocks:
+        pattern = re.compile(r'^%s(pub(?:\(crate\))? )?(?:extern "C" )?fn ([a-z_0-9]+)(.*?)^%s\{' % (indent, indent), re.M | re.S)
+        for m in pattern.finditer(block):
+            requires = re.search(r"^    %srequires\b" % indent, m.group(3), re.M) is not None
+            found.append((m.group(2), (m.group(1) or "").strip(), requires, owner))
+    return found
 
 
 def uses(text, word):
@@ -69,27 +76,30 @@ def uses(text, word):
 
 
 def shown(crate):
-    """The functions of a crate that another one can name, as module::name, with whether they have a requires."""
+    """The functions and methods of a crate that another one can name, as module::name, with whether they have a requires."""
     modules = sources(crate)
     root = modules.get("", "")
     open_modules = set(re.findall(r"^pub mod ([a-z_]+);", root, re.M))
     exported = {re.sub("^crate::", "", path) for text in [root] + [modules[m] for m in open_modules] for path in uses(text, "pub use")}
     found = {}
     for module, text in modules.items():
-        for name, visibility, requires in functions(text):
+        for name, visibility, requires, owner in functions(text):
             full = "%s::%s" % (module, name)
-            if visibility == "pub" and (module in open_modules or full in exported):
+            if visibility == "pub" and (module in open_modules or "%s::%s" % (module, owner or name) in exported):
                 found[full] = requires
     return found
 
 
 def used(crate):
-    """The functions of a crate that other crates use, by their last names."""
+    """The functions and methods of a crate that other crates use, by their last names."""
+    methods = {name for text in sources(crate).values() for name, _, _, owner in functions(text) if owner}
     names = set()
     for other in crates():
         if other != crate:
             for text in sources(other).values():
                 names |= {path.split("::")[-1] for path in uses(text, "(?:pub )?use") if path.startswith(crate + "::")}
+                # a method is called by its name
+                names |= set(re.findall(r"(?:\.|\b[A-Z]\w*::)([a-z_0-9]+)\(", text)) & methods
     return names
 
 
@@ -128,7 +138,7 @@ def check_surface():
             elif full.split("::")[1] not in wanted:
                 faults.append("surface: %s %s is shown, no call, and no other crate uses it" % (crate, full))
         for module, text in sources(crate).items():
-            for name, visibility, requires in functions(text):
+            for name, visibility, requires, _ in functions(text):
                 full = "%s::%s" % (module, name)
                 if visibility == "pub" and full not in visible and not is_export(crate, full):
                     faults.append("surface: %s %s says pub, and no other crate can name it" % (crate, full))

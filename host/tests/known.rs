@@ -959,29 +959,26 @@ fn one_vocabulary_in_rattle() {
         Some(word.to_string())
     };
 
-    // As declared. An answer of the reader or the writer that is no refusal has no number.
+    // As declared.
     let of_rings = variants(&refusal, "Refusal");
-    let of_reader = variants(&table, "TableRead");
-    assert_eq!(of_reader[0], (None, "Rows".to_string()));
-    let of_writer = variants(&writer, "TableWritten");
-    assert_eq!(of_writer[0], (None, "Text".to_string()));
-    let of_text = of_reader[1..].iter().chain(&of_writer[1..]);
+    let of_reader = variants(&table, "ReadError");
+    let of_writer = variants(&writer, "WriteError");
+    let of_text = of_reader.iter().chain(&of_writer);
     let mut declared = Vec::new();
     for (number, name) in of_rings.iter().chain(of_text) {
         let number = number.unwrap_or_else(|| panic!("{name} has no number above it"));
         declared.push((number, name.clone()));
     }
 
-    // As told: in rings by `Refusal::NAME .. => Told {`, `number: NUMBER,`; in
-    // text by `const CONSTANT: u32 = NUMBER;` and `TableRead::NAME .. => refused(CONSTANT, ..`.
+    // As told: in rings by `Refusal::NAME .. => NUMBER,`; in text by `const CONSTANT: u32 = NUMBER;`
+    // and `Err(ReadError::NAME ..) => refused(CONSTANT, ..`.
     let mut told = Vec::new();
-    let mut arm = None;
     for line in refusal.lines().map(str::trim) {
-        if line.ends_with("=> Told {") {
-            arm = word(line, "Refusal::");
-        } else if let (Some(name), Some(number)) = (&arm, line.strip_prefix("number: ")) {
-            told.push((number.trim_end_matches(',').parse().unwrap(), name.clone()));
-            arm = None;
+        let Some((arm, number)) = line.split_once(" => ") else {
+            continue;
+        };
+        if let Ok(number) = number.trim_end_matches(',').parse::<u32>() {
+            told.push((number, word(arm, "Refusal::").unwrap()));
         }
     }
     assert_eq!(told.len(), of_rings.len());
@@ -989,7 +986,7 @@ fn one_vocabulary_in_rattle() {
         let Some((arm, rest)) = line.split_once(" => refused(") else {
             continue;
         };
-        let Some(name) = word(arm, "Read::").filter(|name| name != "Query") else {
+        let Some(name) = word(arm, "Error::") else {
             continue;
         };
         let constant = rest.split(',').next().unwrap();

@@ -303,11 +303,13 @@ fn agrees(case: &Case, seed: u64) -> usize {
             }
         }
     }
+    assert!(scratch.iter().all(|&number| number == 0), "{name}");
     if !windows.a.is_empty() {
         let mut short = List::of(windows.a.len() - 1);
         let List { a, b, c } = &mut short;
         let refused = lib::minimal_windows(table, query, case.range(), a, b, c, &mut scratch);
         assert_eq!(refused, Err(Refusal::NoRoom), "{name}");
+        assert!(scratch.iter().all(|&number| number == 0), "{name}");
     }
 
     // Core times at some starts, from the minimal windows: the least end among
@@ -329,6 +331,7 @@ fn agrees(case: &Case, seed: u64) -> usize {
             &mut scratch,
         )
         .unwrap();
+        assert!(scratch.iter().all(|&number| number == 0), "{name}");
         let mut least = vec![NEVER; rows];
         for i in 0..windows.a.len() {
             let row = usize::from(windows.a[i]);

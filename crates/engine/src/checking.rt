@@ -4,7 +4,7 @@ ghost use Rattle.rings.specs.Table.{table_of};
 ghost use Rattle.rings.specs.Refusals.{verdict_report};
 ghost use Rattle.rings.specs.TableCheck.{table_check};
 
-use crate::numbers::of_verdict;
+use crate::numbers::Numbers;
 use rings::check_table;
 
 #[unsafe(no_mangle)]
@@ -20,7 +20,7 @@ pub extern "C" fn rumbleog_check_table(
         × (place.new ≡ (verdict_report a).place) }
 {
     let answer = check_table(days, first, second);
-    let told = of_verdict(answer);
+    let told = Numbers::from(answer);
     *place = told.place;
     told.number
 }

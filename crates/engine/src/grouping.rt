@@ -6,7 +6,7 @@ ghost use Rattle.rings.specs.Buffers.{counted_scratch};
 ghost use Rattle.rings.specs.Ring.{query};
 ghost use Rattle.groups.specs.GroupCalls.{label_answer, label_column, group_answer, group_marks};
 
-use crate::numbers::of_counted;
+use crate::numbers::Numbers;
 use groups::{label_groups, mark_group};
 use rings::Query;
 
@@ -31,8 +31,8 @@ pub extern "C" fn rumbleog_label_groups(
         × (labels.new ≡ label_column a t (query k) s e labels.old)
         × (scratch.new ≡ counted_scratch a scratch.old) }
 {
-    let answer = label_groups(days, first, second, Query { k: k }, s, e, labels, scratch);
-    let told = of_counted(answer);
+    let answer = label_groups(days, first, second, Query { k }, s, e, labels, scratch);
+    let told = Numbers::from(answer);
     *place = told.place;
     *count = told.count;
     told.number
@@ -64,14 +64,14 @@ pub extern "C" fn rumbleog_mark_group(
         days,
         first,
         second,
-        Query { k: k },
+        Query { k },
         s,
         e,
         account,
         marks,
         scratch,
     );
-    let told = of_counted(answer);
+    let told = Numbers::from(answer);
     *place = told.place;
     *count = told.count;
     told.number

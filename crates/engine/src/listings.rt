@@ -4,54 +4,10 @@ ghost use Rattle.rings.specs.Table.{table_of};
 ghost use Rattle.listing.specs.ListingCall.{columns_of, places_of, listing_answer, listing_columns, listing_scratch};
 ghost use Rattle.listing.specs.ListingCall.{listing_report, listing_sum, listing_empty};
 ghost use Rattle.rings.specs.Ring.{query};
-ghost use Rattle.engine.specs.Numbers.{numbers};
 
-use crate::numbers::{Numbers, of_refusal};
+use crate::numbers::Numbers;
 use listing::{Listed, list_rings};
 use rings::Query;
-
-fn of_listed(l: Listed) -> Numbers
-    ensures { result ≡ numbers (listing_report l) }
-{
-    match l {
-        Listed::Rings {
-            count: n,
-            sum: _,
-            empty: _,
-        } => Numbers {
-            number: 0,
-            place: 0,
-            count: n as u64,
-        },
-        Listed::Refused(r) => of_refusal(r),
-    }
-}
-
-fn sum_of(l: Listed) -> u64
-    ensures { result ≡ listing_sum l }
-{
-    match l {
-        Listed::Rings {
-            count: _,
-            sum: n,
-            empty: _,
-        } => n,
-        Listed::Refused(_) => 0,
-    }
-}
-
-fn empty_of(l: Listed) -> u64
-    ensures { result ≡ listing_empty l }
-{
-    match l {
-        Listed::Rings {
-            count: _,
-            sum: _,
-            empty: n,
-        } => n,
-        Listed::Refused(_) => 0,
-    }
-}
 
 #[unsafe(no_mangle)]
 pub extern "C" fn rumbleog_listing(
@@ -87,7 +43,7 @@ pub extern "C" fn rumbleog_listing(
         days,
         first,
         second,
-        Query { k: k },
+        Query { k },
         ts,
         te,
         start,
@@ -96,10 +52,15 @@ pub extern "C" fn rumbleog_listing(
         windows,
         scratch,
     );
-    let told = of_listed(answer);
+    let told = Numbers::from(answer);
+    let listed = answer.unwrap_or(Listed {
+        count: 0,
+        sum: 0,
+        empty: 0,
+    });
     *place = told.place;
     *count = told.count;
-    *sum = sum_of(answer);
-    *empty = empty_of(answer);
+    *sum = listed.sum;
+    *empty = listed.empty;
     told.number
 }

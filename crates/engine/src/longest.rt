@@ -3,7 +3,7 @@ ghost use Rattle.std.specs.Prelude.{◌≡◌};
 ghost use Rattle.rings.specs.Refusals.{counted_report};
 ghost use Rattle.listing.specs.LongestList.{longest_answer};
 
-use crate::numbers::of_counted;
+use crate::numbers::Numbers;
 use listing::longest_list;
 
 #[unsafe(no_mangle)]
@@ -14,7 +14,7 @@ pub extern "C" fn rumbleog_longest_list(ts: u16, te: u16, place: &mut u64, count
         × (count.new ≡ (counted_report a).count) }
 {
     let answer = longest_list(ts, te);
-    let told = of_counted(answer);
+    let told = Numbers::from(answer);
     *place = told.place;
     *count = told.count;
     told.number

@@ -1,12 +1,13 @@
 // An answer as the numbers that a host gets. What they are is defined with the answers, in the parts below.
-ghost use Rattle.std.specs.Prelude.{◌≡◌};
-ghost use Rattle.rings.specs.Refusals.{place_number, refused, verdict_report, counted_report};
-ghost use Rattle.engine.specs.Numbers.{read_report, written_report, numbers};
+ghost use Rattle.std.specs.Prelude.{◌≡◌, ℕ, MatchResult, Err};
+ghost use Rattle.rings.specs.Refusals.{place_number, done, refused};
+ghost use Rattle.engine.specs.Numbers.{refused_report, read_report, written_report, numbers};
 
-use rings::{Counted, Place, Refusal, Verdict, tell};
-use text::{Report, TableRead, TableWritten, report_table, report_written};
+use listing::{Listed, Refused};
+use rings::{Place, Refusal};
+use text::{ReadError, Report, WriteError, report_table, report_written};
 
-// The refusal's number, 0 for none; its place; the count, 0 on a refusal.
+// The refusal's number, 0 for none; its place; the count, 0 on a refusal. include/rumbleog.h says so.
 #[derive(Clone, Copy)]
 pub struct Numbers {
     pub number: u32,
@@ -14,6 +15,57 @@ pub struct Numbers {
     pub count: u64,
 }
 
+// What a call counts that is not refused.
+pub trait Count {
+    ghost counted: { Self → ℕ };
+
+    fn count(self) -> u64
+        ensures { result ≡ counted self };
+}
+
+// Table check, Core times, Recall.
+impl Count for () {
+    ghost counted = { λ _. 0 };
+
+    fn count(self) -> u64 {
+        0
+    }
+}
+
+// Rows, entries, groups, bytes.
+impl Count for usize {
+    ghost counted = { λ n. n };
+
+    fn count(self) -> u64 {
+        self as u64
+    }
+}
+
+// Listing.
+impl Count for Listed {
+    ghost counted = { λ l. l.count };
+
+    fn count(self) -> u64 {
+        self.count as u64
+    }
+}
+
+impl<T: Count, E: Into<Numbers>> From<Result<T, E>> for Numbers {
+    ghost from_gives = { λ a n. MatchResult a (λ x. n ≡ numbers (done (T.counted x))) (λ e. E.converts e n) };
+
+    fn from(answer: Result<T, E>) -> Numbers {
+        match answer {
+            Ok(x) => Numbers {
+                number: 0,
+                place: 0,
+                count: x.count(),
+            },
+            Err(e) => e.into(),
+        }
+    }
+}
+
+// No From: a place is declared in rings, and u64 in no crate of these.
 fn place_number(place: Place) -> u64
     ensures { result ≡ place_number place }
 {
@@ -24,67 +76,58 @@ fn place_number(place: Place) -> u64
     }
 }
 
-pub(crate) fn of_refusal(r: Refusal) -> Numbers
-    ensures { result ≡ numbers (refused r) }
-{
-    let told = tell(r);
-    let place = told.place;
-    Numbers {
-        number: told.number,
-        place: place_number(place),
-        count: 0,
-    }
-}
+impl From<Refusal> for Numbers {
+    ghost from_gives = { λ r n. n ≡ numbers (refused r) };
 
-// Table check, Core times, Recall.
-pub(crate) fn of_verdict(v: Verdict) -> Numbers
-    ensures { result ≡ numbers (verdict_report v) }
-{
-    match v {
-        Verdict::Accepted => Numbers {
-            number: 0,
-            place: 0,
+    fn from(r: Refusal) -> Numbers {
+        Numbers {
+            number: r.number(),
+            place: place_number(r.place()),
             count: 0,
-        },
-        Verdict::Refused(r) => of_refusal(r),
+        }
     }
 }
 
-// Window ring, Minimal windows, Longest list.
-pub(crate) fn of_counted(c: Counted) -> Numbers
-    ensures { result ≡ numbers (counted_report c) }
-{
-    match c {
-        Counted::Count(k) => Numbers {
-            number: 0,
-            place: 0,
-            count: k as u64,
-        },
-        Counted::Refused(r) => of_refusal(r),
+// The listing program.
+impl From<Refused> for Numbers {
+    ghost from_gives = { λ r n. n ≡ numbers (refused_report r) };
+
+    fn from(r: Refused) -> Numbers {
+        Numbers {
+            number: r.number,
+            place: r.line as u64,
+            count: 0,
+        }
     }
 }
 
 // What text tells in numbers.
-fn of_report(told: Report) -> Numbers
-    ensures { result ≡ record { number = told.number; place = told.place; count = told.count } }
-{
-    Numbers {
-        number: told.number,
-        place: told.place as u64,
-        count: told.count as u64,
+impl From<Report> for Numbers {
+    ghost from_gives = { λ t n. n ≡ record { number = t.number; place = t.place; count = t.count } };
+
+    fn from(told: Report) -> Numbers {
+        Numbers {
+            number: told.number,
+            place: told.place as u64,
+            count: told.count as u64,
+        }
     }
 }
 
 // The table reader.
-pub(crate) fn of_read(t: TableRead) -> Numbers
-    ensures { result ≡ numbers (read_report t) }
-{
-    of_report(report_table(t))
+impl From<ReadError> for Numbers {
+    ghost from_gives = { λ e n. n ≡ numbers (read_report (Err e)) };
+
+    fn from(e: ReadError) -> Numbers {
+        Numbers::from(report_table(Err(e)))
+    }
 }
 
-// The table writer: the count is that of its bytes.
-pub(crate) fn of_written(t: TableWritten) -> Numbers
-    ensures { result ≡ numbers (written_report t) }
-{
-    of_report(report_written(t))
+// The table writer.
+impl From<WriteError> for Numbers {
+    ghost from_gives = { λ e n. n ≡ numbers (written_report (Err e)) };
+
+    fn from(e: WriteError) -> Numbers {
+        Numbers::from(report_written(Err(e)))
+    }
 }

@@ -3,7 +3,7 @@ ghost use Rattle.std.specs.Prelude.{◌≡◌, length};
 ghost use Rattle.text.specs.Table.{days_of, firsts_of, seconds_of, table_read_of, filled};
 ghost use Rattle.engine.specs.Numbers.{read_report};
 
-use crate::numbers::of_read;
+use crate::numbers::Numbers;
 use text::read_table;
 
 #[unsafe(no_mangle)]
@@ -24,7 +24,7 @@ pub extern "C" fn rumbleog_read_table(
         × (second.new ≡ filled a (seconds_of text.now) second.old) }
 {
     let answer = read_table(text, days, first, second);
-    let told = of_read(answer);
+    let told = Numbers::from(answer);
     *place = told.place;
     *count = told.count;
     told.number

@@ -4,7 +4,7 @@ ghost use Rattle.rings.specs.Table.{table_of};
 ghost use Rattle.rings.specs.Refusals.{verdict_report};
 ghost use Rattle.rings.specs.RecallCall.{columns_of, recall_answer, recall_marks};
 
-use crate::numbers::of_verdict;
+use crate::numbers::Numbers;
 use rings::recall;
 
 #[unsafe(no_mangle)]
@@ -28,7 +28,7 @@ pub extern "C" fn rumbleog_recall(
         × (marks.new ≡ recall_marks a t l s e marks.old) }
 {
     let answer = recall(days, first, second, row, start, end, s, e, marks);
-    let told = of_verdict(answer);
+    let told = Numbers::from(answer);
     *place = told.place;
     told.number
 }

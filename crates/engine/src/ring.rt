@@ -6,7 +6,7 @@ ghost use Rattle.rings.specs.Buffers.{counted_scratch};
 ghost use Rattle.rings.specs.WindowRingCall.{ring_answer, ring_marks};
 ghost use Rattle.rings.specs.Ring.{query};
 
-use crate::numbers::of_counted;
+use crate::numbers::Numbers;
 use rings::{Query, window_ring};
 
 #[unsafe(no_mangle)]
@@ -30,8 +30,8 @@ pub extern "C" fn rumbleog_window_ring(
         × (marks.new ≡ ring_marks a t (query k) s e marks.old)
         × (scratch.new ≡ counted_scratch a scratch.old) }
 {
-    let answer = window_ring(days, first, second, Query { k: k }, s, e, marks, scratch);
-    let told = of_counted(answer);
+    let answer = window_ring(days, first, second, Query { k }, s, e, marks, scratch);
+    let told = Numbers::from(answer);
     *place = told.place;
     *count = told.count;
     told.number

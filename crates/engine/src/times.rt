@@ -6,7 +6,7 @@ ghost use Rattle.rings.specs.Buffers.{verdict_scratch};
 ghost use Rattle.rings.specs.CoreTimesCall.{times_answer, account_column, row_column};
 ghost use Rattle.rings.specs.Ring.{query};
 
-use crate::numbers::of_verdict;
+use crate::numbers::Numbers;
 use rings::{Query, core_times};
 
 #[unsafe(no_mangle)]
@@ -35,7 +35,7 @@ pub extern "C" fn rumbleog_core_times(
         days,
         first,
         second,
-        Query { k: k },
+        Query { k },
         ts,
         te,
         s,
@@ -43,7 +43,7 @@ pub extern "C" fn rumbleog_core_times(
         rows,
         scratch,
     );
-    let told = of_verdict(answer);
+    let told = Numbers::from(answer);
     *place = told.place;
     told.number
 }

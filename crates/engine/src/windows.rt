@@ -6,7 +6,7 @@ ghost use Rattle.rings.specs.Buffers.{counted_scratch};
 ghost use Rattle.rings.specs.MinimalWindowsCall.{minimal_answer, minimal_rows, minimal_starts, minimal_ends};
 ghost use Rattle.rings.specs.Ring.{query};
 
-use crate::numbers::of_counted;
+use crate::numbers::Numbers;
 use rings::{Query, minimal_windows};
 
 #[unsafe(no_mangle)]
@@ -39,7 +39,7 @@ pub extern "C" fn rumbleog_minimal_windows(
         days,
         first,
         second,
-        Query { k: k },
+        Query { k },
         ts,
         te,
         row,
@@ -47,7 +47,7 @@ pub extern "C" fn rumbleog_minimal_windows(
         end,
         scratch,
     );
-    let told = of_counted(answer);
+    let told = Numbers::from(answer);
     *place = told.place;
     *count = told.count;
     told.number

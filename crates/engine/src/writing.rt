@@ -4,7 +4,7 @@ ghost use Rattle.text.specs.Table.{columns};
 ghost use Rattle.text.specs.Writer.{table_text, table_write_of, text_after};
 ghost use Rattle.engine.specs.Numbers.{written_report};
 
-use crate::numbers::of_written;
+use crate::numbers::Numbers;
 use text::write_table;
 
 #[unsafe(no_mangle)]
@@ -24,7 +24,7 @@ pub extern "C" fn rumbleog_write_table(
         × (text.new ≡ text_after a (table_text c) text.old) }
 {
     let answer = write_table(days, first, second, text);
-    let told = of_written(answer);
+    let told = Numbers::from(answer);
     *place = told.place;
     *length = told.count;
     told.number

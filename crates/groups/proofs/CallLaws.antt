@@ -1,12 +1,11 @@
 -- From what Window ring answers to the answers of the two calls (src/label.rt, src/mark.rt).
---     prefix_long              the front of the scratch
 --     few_most, few_long       the marks that are lent for the ring
 --     places_of, ring_bytes    lengths and marks of an accepted call
 --     label_refused, label_done     Label groups
 --     group_refused, group_absent, group_done     Mark group
 --     account_small            an account that is met is below 4,096
 -- Assumes nothing.
-use Prim.Native.Nat.{ℕ, zero, suc, ◌+◌, ◌*◌, ◌≤◌, ◌<◌}
+use Prim.Native.Nat.{ℕ, zero, suc, ◌≤◌, ◌<◌}
 use native.Mathlib.Nat.{not-suc-le-zero, le_of_suc-le-suc}
 use native.Mathlib.Omega.{arith}
 use mathlib.Core.Path.{◌≡◌, refl, sym, ◌∙◌, ap}
@@ -15,6 +14,8 @@ use mathlib.Core.Bool.{Bool, true, false}
 use mathlib.Core.List.{List, ◌∷◌, ◌++◌}
 use lib.ListN.{length, get_or, take, drop, replicate}
 use lib.Seq.{length-take-le}
+use Rattle.std.specs.Prelude.{Ok, Err}
+use Rattle.rings.specs.Refusals.{Verdict, Counted}
 use Rattle.rings.specs.Words.{no, at}
 use Rattle.rings.specs.Table.{Table, table_of, first_of, second_of}
 use Rattle.rings.specs.Ring.{met, ring, members}
@@ -26,20 +27,14 @@ use Rattle.rings.specs.WindowRingCall.{ring_checks, ring_answer, ring_marks}
 use Rattle.rings.specs.declared.Query.{Query}
 use Rattle.rings.specs.declared.refusal.Refusal.{Refusal}
 use Rattle.rings.specs.declared.refusal.Refusal.TheVariants.{NotInRing}
-use Rattle.rings.specs.declared.refusal.Verdict.{Verdict}
-use Rattle.rings.specs.declared.refusal.Verdict.TheVariants.{Accepted, Refused}
-use Rattle.rings.specs.declared.refusal.Counted.{Counted}
 use Rattle.rings.proofs.RingLaws.{met_e, touch_cases}
 use Rattle.rings.proofs.CheckLaws.{then_refused, then_accepted, passes, counted_yes, counted_no, counted_e}
 use Rattle.groups.specs.Groups.{labels_of, group}
 use Rattle.groups.specs.GroupCalls.{label_answer, label_column, group_checks, group_answer, group_marks}
 use Rattle.groups.specs.Inner.{rows_of, GroupMarked, at_most}
-use Rattle.groups.proofs.RingCallLaws.{rows_back, fresh_long, RingCall, ring_call, checks_places, ring_places}
+use Rattle.groups.proofs.RingCallLaws.{rows_back, RingCall, ring_call, checks_places, ring_places}
 
 -- ---- Label groups
-
-pub prefix_long : (sc : List ℕ) {n : ℕ} (k : ℕ) → length sc ≡ n → 8192 + 4 * k ≤ n → 4096 ≡ length (take 4096 sc)
-prefix_long sc k e h = sym (length-take-le 4096 sc (omega arith))
 
 -- the front of a scratch of zeros, cleared again
 zeros_front : (n m : ℕ) → n ≤ m → replicate n 0 ++ drop n (replicate m 0) ≡ replicate {A = ℕ} m 0
@@ -47,11 +42,10 @@ zeros_front zero m h = refl
 zeros_front (suc n) zero h = absurd (not-suc-le-zero h)
 zeros_front (suc n) (suc m) h = ap (λ (xs : List ℕ). 0 ∷ xs) (zeros_front n m (le_of_suc-le-suc h))
 
-front_cleared : {p sc : List ℕ} {m : ℕ} → sc ≡ replicate m 0 → 4096 ≤ m → p ≡ replicate (length (take 4096 sc)) 0
+front_cleared : {p sc : List ℕ} {m : ℕ} → sc ≡ replicate m 0 → 4096 ≤ m → p ≡ replicate 4096 0
     → p ++ drop 4096 sc ≡ replicate m 0
 front_cleared {p} {sc} {m} e h k =
-    ap (λ (x : List ℕ). x ++ drop 4096 sc) (k ∙ ap (λ (n : ℕ). replicate {A = ℕ} n 0) (length-take-le 4096 sc (let
-    w : length sc ≡ m = fresh_long 0 e in omega arith)))
+    ap (λ (x : List ℕ). x ++ drop 4096 sc) k
     ∙ (ap (λ (x : List ℕ). replicate 4096 0 ++ drop 4096 x) e ∙ zeros_front 4096 m h)
 
 pub places_of : {d f g : List ℕ} {q : Query} {s e p sc n l : ℕ} → RingCall d f g q s e p sc n → p ≡ at_most l → l ≡
@@ -63,7 +57,7 @@ module _ (d f g : List ℕ) (q : Query) (s e : ℕ) where
   abbrev table : Table
   table = table_of d f g
 
-  pub ring_bytes : (old : List ℕ) {n : ℕ} {bytes : List ℕ} {v : Counted} → v ≡ Counted.Count n
+  pub ring_bytes : (old : List ℕ) {n : ℕ} {bytes : List ℕ} {v : Counted} → v ≡ Ok n
       → bytes ≡ ring_marks v table q s e old → bytes ≡ marks (ring table q s e)
   unfolding ring_marks
   ring_bytes old h k = k ∙ ap (λ (v : Counted). ring_marks v table q s e old) h
@@ -80,20 +74,19 @@ module _ (d f g : List ℕ) (q : Query) (s e : ℕ) where
         answer ∙ (ap (λ (n : ℕ). ring_answer table q s e n (length sc)) few ∙ ring_places d f g q s e (length
         labels) (length sc))
 
-    pub label_refused : {r : Refusal} → v ≡ Counted.Refused r
-        → (Counted.Refused r ≡ label_answer table q s e (length labels) (length sc))
-        × ((labels ≡ label_column (Counted.Refused r) table q s e labels) × (sc' ≡ counted_scratch (Counted.Refused
-        r) sc))
+    pub label_refused : {r : Refusal} → v ≡ Err r
+        → (Err r ≡ label_answer table q s e (length labels) (length sc))
+        × ((labels ≡ label_column (Err r) table q s e labels) × (sc' ≡ counted_scratch (Err r) sc))
     unfolding label_column
     label_refused h = (sym h ∙ told, (refl, left_of sc left h))
 
-    pub label_done : (old : List ℕ) {n : ℕ} {bytes labels' parents : List ℕ} → v ≡ Counted.Count n
+    pub label_done : (old : List ℕ) {n : ℕ} {bytes labels' parents : List ℕ} → v ≡ Ok n
         → bytes ≡ ring_marks v table q s e old
         → labels' ≡ labels_of table (rows_of bytes)
-        → parents ≡ replicate (length (take 4096 sc')) 0
-        → (Counted.Count n ≡ label_answer table q s e (length labels) (length sc))
-        × ((labels' ≡ label_column (Counted.Count n) table q s e labels)
-        × (parents ++ drop 4096 sc' ≡ counted_scratch (Counted.Count n) sc))
+        → parents ≡ replicate 4096 0
+        → (Ok n ≡ label_answer table q s e (length labels) (length sc))
+        × ((labels' ≡ label_column (Ok n) table q s e labels)
+        × (parents ++ drop 4096 sc' ≡ counted_scratch (Ok n) sc))
     unfolding label_column counted_scratch cleared
     label_done old h b l k = (
       sym h ∙ told,
@@ -114,12 +107,12 @@ few_long n xs {p} h l = length-take-le p xs (let w = few_most n h in omega arith
 
 -- ---- Mark group
 
-counted_refused : (v : Verdict) (n : ℕ) {r : Refusal} → counted v n ≡ Counted.Refused r → v ≡ Refused r
+counted_refused : (v : Verdict) (n : ℕ) {r : Refusal} → counted v n ≡ Err r → v ≡ Err r
 unfolding counted
-counted_refused Accepted n {r} h = let z : ◌≡◌ {A = ℕ} 0 1 = cc in absurd (omega arith)
-counted_refused (Refused x) n {r} h = let e : x ≡ r = cc in ap Refused e
+counted_refused (Ok _) n h = cc
+counted_refused (Err x) n {r} h = let e : x ≡ r = cc in ap Err e
 
-absent : {b : Bool} → b ≡ false → NotInRing when no b ≡ Refused NotInRing
+absent : {b : Bool} → b ≡ false → NotInRing when no b ≡ Err NotInRing
 unfolding ◌when◌ no
 absent h = rw h
 
@@ -152,9 +145,9 @@ module _ (d f g : List ℕ) (q : Query) (s e a : ℕ) (bs sc : List ℕ) {p : �
       ap (λ (n : ℕ). counted (ring_checks here q s e n (length sc)) (members (ring here q s e))) few
       ∙ ap (λ (w : Verdict). counted w (members (ring here q s e))) (checks_places d f g q s e (length bs) (length sc))
 
-  pub group_refused : {r : Refusal} → v ≡ Counted.Refused r
-      → (Counted.Refused r ≡ group_answer here q s e a (length bs) (length sc))
-      × ((bs ≡ group_marks (Counted.Refused r) here q s e a bs) × (sc' ≡ counted_scratch (Counted.Refused r) sc))
+  pub group_refused : {r : Refusal} → v ≡ Err r
+      → (Err r ≡ group_answer here q s e a (length bs) (length sc))
+      × ((bs ≡ group_marks (Err r) here q s e a bs) × (sc' ≡ counted_scratch (Err r) sc))
   unfolding group_answer group_checks group_marks
   group_refused {r} h = (
     sym (counted_no (members its) (then_refused (NotInRing when no (met here (ring here q s e) a))
@@ -162,21 +155,21 @@ module _ (d f g : List ℕ) (q : Query) (s e a : ℕ) (bs sc : List ℕ) {p : �
     (refl, left_of d f g q s e sc left h),
   )
 
-  module _ {n : ℕ} (old : List ℕ) {bytes : List ℕ} (h : v ≡ Counted.Count n) (b : bytes ≡ ring_marks v here q s e
+  module _ {n : ℕ} (old : List ℕ) {bytes : List ℕ} (h : v ≡ Ok n) (b : bytes ≡ ring_marks v here q s e
       old) where
     is_ring : rows_of bytes ≡ ring here q s e
     is_ring = ap rows_of (ring_bytes d f g q s e old h b) ∙ rows_back (ring here q s e)
 
-    passed_all : asked ≡ Accepted
+    passed_all : asked ≡ Ok tt
     passed_all = (counted_e asked (members (ring here q s e)) n (sym checked ∙ (sym answer ∙ h))).0
 
     is_met : {c : Bool} → c ≡ met here (rows_of bytes) a → met here (ring here q s e) a ≡ c
     is_met k = ap (λ (m : List Bool). met here m a) (sym is_ring) ∙ sym k
 
     pub group_absent : {c : Bool} → c ≡ met here (rows_of bytes) a → c ≡ false
-        → (Counted.Refused NotInRing ≡ group_answer here q s e a (length bs) (length sc))
-        × ((bs ≡ group_marks (Counted.Refused NotInRing) here q s e a bs)
-        × (sc' ≡ counted_scratch (Counted.Refused NotInRing) sc))
+        → (Err NotInRing ≡ group_answer here q s e a (length bs) (length sc))
+        × ((bs ≡ group_marks (Err NotInRing) here q s e a bs)
+        × (sc' ≡ counted_scratch (Err NotInRing) sc))
     unfolding group_answer group_checks group_marks counted_scratch scratch_on cleared_if behind_scratch
     group_absent k no_one = (
       sym (counted_no (members its)
@@ -186,13 +179,13 @@ module _ (d f g : List ℕ) (q : Query) (s e a : ℕ) (bs sc : List ℕ) {p : �
 
     pub group_done : {c : Bool} {k : ℕ} {now parents : List ℕ} → c ≡ met here (rows_of bytes) a → c ≡ true
         → GroupMarked here (rows_of bytes) a k now
-        → parents ≡ replicate (length (take 4096 sc')) 0
-        → (Counted.Count k ≡ group_answer here q s e a (length bs) (length sc))
-        × ((now ≡ group_marks (Counted.Count k) here q s e a bs)
-        × (parents ++ drop 4096 sc' ≡ counted_scratch (Counted.Count k) sc))
+        → parents ≡ replicate 4096 0
+        → (Ok k ≡ group_answer here q s e a (length bs) (length sc))
+        × ((now ≡ group_marks (Ok k) here q s e a bs)
+        × (parents ++ drop 4096 sc' ≡ counted_scratch (Ok k) sc))
     unfolding group_answer group_checks group_marks counted_scratch cleared
     group_done {c} {k} i y M z = (
-      ap Counted.Count (M.number ∙ ap (λ (m : List Bool). members (group here m a)) is_ring)
+      ap Ok (M.number ∙ ap (λ (m : List Bool). members (group here m a)) is_ring)
           ∙ sym (counted_yes (members its)
           (then_accepted (NotInRing when no (met here (ring here q s e) a)) passed_all ∙ passes NotInRing (is_met i
           ∙ y))),

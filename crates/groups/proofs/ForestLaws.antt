@@ -4,8 +4,8 @@
 --     forest_set, stands_set   one account gets another parent, of its own tree
 --     stands_same              forests go by the values of g
 --     planted, Planting, plant_start, plant_next, plant_end     every account is a root
---     Walk, walk_start, walk_forest, walk_step, walk_less, walk_end     the walk to a root
---     points_same, points_set  an account gets its root for a parent
+--     Walk, walk_start, walk_step, walk_end     the walk to a root
+--     points_set               an account gets its root for a parent
 --     join_roots               the greater root goes under the lesser
 --     joins_of                 so the two trees are one
 --     Flat, flat_start, flat_next, flat_end                     every parent becomes its root
@@ -106,17 +106,15 @@ stands_same {p} {g} {g'} e S =
 
 pub record Planting (x : ℕ) (p : List ℕ) : Type 0 where
   pub long : length p ≡ 4096
-  pub most : x ≤ 4096
   pub each : (y : ℕ) → y < x → get_or p y 0 ≡ y
 
 pub plant_start : {p : List ℕ} → length p ≡ 4096 → Planting 0 p
-plant_start l = record { long = l; most = omega arith; each = λ y h. absurd (not-suc-le-zero h) }
+plant_start l = record { long = l; each = λ y h. absurd (not-suc-le-zero h) }
 
 pub plant_next : {x : ℕ} {p : List ℕ} → Planting x p → x < 4096 → Planting (x + 1) (set p x x)
 plant_next {x} {p} P l =
     record {
       long = length-set p x x ∙ P.long;
-      most = omega arith;
       each = λ y h. ⊎_elim
           (λ (e : y ≡ x). subst (λ (z : ℕ). get_or (set p x x) z 0 ≡ z) (sym e)
           (get_or-set_same p x x 0 (let n = P.long in omega arith)))
@@ -164,10 +162,7 @@ walk_order {p₀} {p} {x} {y} {up} {next} W l =
     let h : up ≤ y = (let d = W.forest.down y (omega arith) in omega arith) in
     (h, (let d = W.forest.down up (omega arith) in omega arith))
 
-pub walk_less : {p₀ p : List ℕ} {x y up next : ℕ} → Walk p₀ p x y up next → x < 4096 → (next ≡ up → ⊥) → next < y
-walk_less W l n = let o = walk_order W l in let a = o.0 in let b = o.1 in omega (arith, n)
-
-pub walk_forest : {p₀ p : List ℕ} {x y up next : ℕ} → Walk p₀ p x y up next → x < 4096 → Forest (set p y next)
+walk_forest : {p₀ p : List ℕ} {x y up next : ℕ} → Walk p₀ p x y up next → x < 4096 → Forest (set p y next)
 walk_forest {p₀} {p} {x} {y} {up} {next} W l =
     let o = walk_order W l in
     let a = o.0 in
@@ -222,9 +217,6 @@ walk_end {p₀} {p} {x} {y} {up} {next} W l e =
         (W.stands g S).top up (omega arith) (sym W.is_next ∙ e)
 
 -- ---- an account gets its root for a parent
-
-pub points_same : {p : List ℕ} {x r : ℕ} → Forest p → Points p p x r
-points_same F = record { forest = F; stands = λ g S a b. S }
 
 pub points_set : {p : List ℕ} {x r : ℕ} → Forest p → x < 4096 → r ≤ x → Points p (set p x r) x r
 points_set {p} {x} {r} F l h =
@@ -337,13 +329,12 @@ joins_of {p} {p₁} {p₂} {p₃} {p₄} {a} {b} {x} {y} {r} {h} l k A B er eh C
 
 pub record Flat (x : ℕ) (p₀ p : List ℕ) : Type 0 where
   pub forest : Forest p
-  pub most : x ≤ 4096
   pub stands : (g : ℕ → ℕ) → Stands p₀ g → Stands p g
   pub each : (g : ℕ → ℕ) → Stands p₀ g → (y : ℕ) → y < x → get_or p y 0 ≡ g y
 
 pub flat_start : {p : List ℕ} → Forest p → Flat 0 p p
 flat_start F =
-    record { forest = F; most = omega arith; stands = λ g S. S; each = λ g S y h. absurd (not-suc-le-zero h) }
+    record { forest = F; stands = λ g S. S; each = λ g S y h. absurd (not-suc-le-zero h) }
 
 -- its parent lies below, and has its root already; or it is a root
 pub flat_next : {x up r : ℕ} {p₀ p : List ℕ} → Flat x p₀ p → x < 4096 → up ≡ get_or p x 0 → r ≡ get_or p up 0
@@ -351,7 +342,6 @@ pub flat_next : {x up r : ℕ} {p₀ p : List ℕ} → Flat x p₀ p → x < 409
 flat_next {x} {up} {r} {p₀} {p} A l eu er =
     record {
       forest = forest_set x r A.forest l low;
-      most = omega arith;
       stands = λ g S. stands_set x r A.forest (A.stands g S) l (same g S)
           (λ e. (A.stands g S).top x l (sym eu ∙ up_at e));
       each = λ g S y h. ⊎_elim

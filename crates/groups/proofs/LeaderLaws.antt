@@ -4,7 +4,7 @@
 --     joined_same              two accounts with one leader
 --     rows_marked, rows_in, rows_out     a row set by its mark bytes
 --     RowAt, row_accounts      the accounts of a row are below 4,096
---     Joining, join_start, join_skip, join_row, join_end     the loop
+--     join_start, join_skip, join_row, join_end     the loop: before row j a forest stands for leaders by rows below j
 -- Assumes nothing.
 use Prim.Native.Nat.{ℕ, zero, suc, ◌+◌, ◌≤◌, ◌<◌}
 use native.Mathlib.Nat.{le_refl, eq-or-lt_of_le, le_of_suc-le-suc}
@@ -92,11 +92,6 @@ row_accounts j S l =
     record { first_in = omega arith; second_in = omega arith; first = omega arith; second = omega arith }
 
 -- the rows from lo to before j have joined their accounts
-pub record Joining (t : Table) (m : List Bool) (lo end j : ℕ) (p : List ℕ) : Type 0 where
-  pub from : lo ≤ j
-  pub most : j ≤ end
-  pub grown : Grown p (leader t m j)
-
 module _ {d f g bytes : List ℕ} {r : Rows} (L : Lent d f g bytes r) where
   abbrev t : Table
   t = table_of d f g
@@ -108,37 +103,26 @@ module _ {d f g bytes : List ℕ} {r : Rows} (L : Lent d f g bytes r) where
   out_at j n = ⊎_elim (λ h. absurd (n (L.among j h))) (λ h. h) (true_or_false (marked m j))
 
   abbrev Here : ℕ → List ℕ → Type 0
-  Here = Joining t m r.lo r.end
+  Here j p = Grown p (leader t m j)
 
   pub join_start : {p : List ℕ} → Leaders p (λ u. u) → Here r.lo p
   join_start P =
       record {
-        from = le_refl r.lo;
-        most = L.ordered;
-        grown =
-            record {
-              forest = (planted P).forest;
-              stands = stands_same
-                  (λ u. sym (leader_none t m r.lo u (λ j l. out_at j (λ x. let a = x.0 in omega arith))))
-                  (planted P).stands;
-            };
+        forest = (planted P).forest;
+        stands = stands_same
+            (λ u. sym (leader_none t m r.lo u (λ j l. out_at j (λ x. let a = x.0 in omega arith))))
+            (planted P).stands;
       }
 
-  pub row_at_lem : {j : ℕ} {p : List ℕ} → Here j p → j < r.end → RowAt f g j
-  row_at_lem {j} J l = row_accounts j L.sound (let e = L.last in omega arith)
+  pub row_at_lem : {j : ℕ} → j < r.end → RowAt f g j
+  row_at_lem {j} l = row_accounts j L.sound (let e = L.last in omega arith)
 
   -- the next row changes no leader
-  same_next : {j : ℕ} {p : List ℕ} → Here j p → j < r.end → ((u : ℕ) → leader t m (suc j) u ≡ leader t m j u)
-      → Here (j + 1) p
-  same_next {j} {p} J l e =
+  same_next : (j : ℕ) {p : List ℕ} → Here j p → ((u : ℕ) → leader t m (suc j) u ≡ leader t m j u) → Here (j + 1) p
+  same_next j {p} J e =
       record {
-        from = let a = J.from in omega arith;
-        most = omega arith;
-        grown =
-            record {
-              forest = J.grown.forest;
-              stands = rw add-one (stands_same (λ u. sym (e u)) J.grown.stands);
-            };
+        forest = J.forest;
+        stands = rw add-one (stands_same (λ u. sym (e u)) J.stands);
       }
 
   -- it is not marked, or its accounts have one parent
@@ -147,17 +131,17 @@ module _ {d f g bytes : List ℕ} {r : Rows} (L : Lent d f g bytes r) where
       → Here (j + 1) p
   unfolding first_of second_of at
   join_skip {j} {a} {b} {va} {vb} {q} {p} J l ea eb eva evb P e =
-      same_next J l (λ u. ⊎_elim
+      same_next j J (λ u. ⊎_elim
       (λ h. leader_no t m j u (rows_out bytes j h))
       (λ h. leader_yes t m j u (rows_in bytes j h) ∙ joined_same (leader t m j (first_of t j)) (leader t m j
       (second_of t j)) (leader t m j u) (one h))
       (true_or_false (eqb (get_or bytes j 0) 0)))
     where
       A : RowAt f g j
-      A = row_at_lem J l
+      A = row_at_lem l
 
       S : Stands p (leader t m j)
-      S = J.grown.stands
+      S = J.stands
 
       one : eqb (get_or bytes j 0) 0 ≡ false → leader t m j (get_or f j 0) ≡ leader t m j (get_or g j 0)
       one h =
@@ -165,19 +149,14 @@ module _ {d f g bytes : List ℕ} {r : Rows} (L : Lent d f g bytes r) where
           ap (λ (z : ℕ). get_or p z 0) (sym ea) ∙ (sym eva ∙ (e ∙ (P.no h ∙ (evb ∙ ap (λ (z : ℕ). get_or p z 0) eb)))) in
           sym (S.same (get_or f j 0) A.first) ∙ (ap (leader t m j) x ∙ S.same (get_or g j 0) A.second)
 
-  pub join_row : {j a b va vb q : ℕ} {p p' : List ℕ} → Here j p → j < r.end → a ≡ get_or f j 0 → b ≡ get_or g j 0
+  pub join_row : (j : ℕ) {a b va vb q : ℕ} {p p' : List ℕ} → Here j p → a ≡ get_or f j 0 → b ≡ get_or g j 0
       → Picked (eqb (get_or bytes j 0) 0) va vb q → (va ≡ q → ⊥) → Joins p p' a b
       → Here (j + 1) p'
   unfolding first_of second_of at
-  join_row {j} {a} {b} {va} {vb} {q} {p} {p'} J l ea eb P n K =
+  join_row j {a} {b} {va} {vb} {q} {p} {p'} J ea eb P n K =
       record {
-        from = let x = J.from in omega arith;
-        most = omega arith;
-        grown = record {
-          forest = K.forest;
-          stands = rw add-one (stands_same (λ u. sym (is u)) (K.stands (leader
-              t m j) J.grown.stands));
-        };
+        forest = K.forest;
+        stands = rw add-one (stands_same (λ u. sym (is u)) (K.stands (leader t m j) J.stands));
       }
     where
       yes : marked m j ≡ true
@@ -189,12 +168,12 @@ module _ {d f g bytes : List ℕ} {r : Rows} (L : Lent d f g bytes r) where
           ∙ (ap (λ (z : ℕ). joined (leader t m j z) (leader t m j (get_or g j 0)) (leader t m j u)) (sym ea)
           ∙ ap (λ (z : ℕ). joined (leader t m j a) (leader t m j z) (leader t m j u)) (sym eb))
 
-  pub join_end : {j : ℕ} {p : List ℕ} → Here j p → r.end ≤ j → Grown p (leader t m (size t))
-  join_end {j} {p} J h =
+  pub join_end : {j : ℕ} {p : List ℕ} → Here j p → r.end ≤ j → j ≤ r.end → Grown p (leader t m (size t))
+  join_end {j} {p} J h k =
       record {
-        forest = J.grown.forest;
+        forest = J.forest;
         stands = stands_same
-            (λ u. sym (leader_rest t m j (size t) u (let a = J.most in let b = L.last in omega arith)
+            (λ u. sym (leader_rest t m j (size t) u (let b = L.last in omega arith)
             (λ i l. out_at i (λ x. let a = x.1 in omega arith))))
-            J.grown.stands;
+            J.stands;
       }

@@ -1,10 +1,9 @@
 -- What Window ring's answer and its marks say, and what the loops write by them (src/label.rt, src/mark.rt).
 --     rows_back                mark bytes of a row set give the row set back
---     fresh_long, fresh        a column of equal numbers is as long as it was
 --     RingCall, ring_call      what an accepted call of Window ring says
 --     checks_places, ring_places     8 by a column that may be too long, judged by marks that are at most one too long
---     ringed_of, lent_of       the marks lie in the window, and so in its rows
---     writing_of, labelled_is, group_is     what the loops write is what the definitions say
+--     lent_of                  the marks lie in the window, and so in its rows
+--     labelled_is, group_is    what the loops write is what the definitions say
 -- Assumes nothing.
 use Prim.Native.Nat.{ℕ, min, ◌+◌, ◌*◌, ◌≤◌, ◌<◌}
 use native.Mathlib.Nat.{le_refl, zero-add}
@@ -13,10 +12,12 @@ use mathlib.Core.Path.{◌≡◌, refl, sym, ◌∙◌, ap, subst}
 use mathlib.Core.Logic.{⊎_elim}
 use mathlib.Core.Bool.{Bool, true, false}
 use mathlib.Core.List.{List, [], ◌∷◌}
-use lib.ListN.{length, get_or, replicate, length-map, length-replicate, get_or-map}
+use lib.ListN.{length, get_or, length-map, get_or-map}
 use lib.Seq.{ext_get_or}
 use lib.Dec.{leb, ltb, eqb}
 use borrow.Author.Tests.{ltb-true, ltb-false, eqb-true, eq-eqb}
+use Rattle.std.specs.Prelude.{Ok, Err}
+use Rattle.rings.specs.Refusals.{Verdict, Counted}
 use Rattle.rings.specs.Words.{◌and◌, no, at, marked, count, tabulate}
 use Rattle.rings.specs.Table.{Table, table_of, size, day_of, first_of, window_rows}
 use Rattle.rings.specs.Ring.{Within, ring, members}
@@ -27,9 +28,6 @@ use Rattle.rings.specs.TableCheck.{table_check}
 use Rattle.rings.specs.WindowRingCall.{ring_checks, ring_answer}
 use Rattle.rings.specs.declared.Query.{Query}
 use Rattle.rings.specs.declared.refusal.Refusal.TheVariants.{BadLength}
-use Rattle.rings.specs.declared.refusal.Verdict.{Verdict}
-use Rattle.rings.specs.declared.refusal.Verdict.TheVariants.{Accepted, Refused}
-use Rattle.rings.specs.declared.refusal.Counted.{Counted}
 use Rattle.rings.proofs.WordLaws.{true_or_false, same_truth, marked_tabulate}
 use Rattle.rings.proofs.WordLaws.{count_same, length_tabulate, get_d_tabulate}
 use Rattle.rings.proofs.RingLaws.{window_e, ring_sized, ring_within}
@@ -37,7 +35,7 @@ use Rattle.rings.proofs.CheckLaws.{counted_e}
 use Rattle.rings.proofs.TableLaws.{table_sound}
 use Rattle.rings.proofs.AcceptedLaws.{call_sound, call_window, call_lengths, call_scratch, window_e as window_passed}
 use Rattle.groups.specs.Groups.{choose, none, leader, labels_of, group}
-use Rattle.groups.specs.Inner.{Leaders, rows_of, Between, Lent, Ringed, Writing}
+use Rattle.groups.specs.Inner.{Leaders, rows_of, Between, Lent}
 use Rattle.groups.specs.Inner.{labelled, led, LedMarked, GroupMarked, at_most}
 use Rattle.groups.specs.declared.rows.Rows.{Rows}
 
@@ -52,13 +50,6 @@ rows_back (false ∷ m) = ap (λ (r : List Bool). false ∷ r) (rows_back m)
 marks_long : (m : List Bool) → length (marks m) ≡ length m
 unfolding marks
 marks_long m = length-map m mark
-
--- a column of equal numbers is as long as it was
-pub fresh_long : (c : ℕ) {xs : List ℕ} {n : ℕ} → xs ≡ replicate n c → length xs ≡ n
-fresh_long c {xs} {n} e = ap length e ∙ length-replicate n c
-
-pub fresh : (c : ℕ) {xs : List ℕ} {n : ℕ} → length xs ≡ n → xs ≡ replicate n c → xs ≡ replicate (length xs) c
-fresh c h e = e ∙ ap (λ (k : ℕ). replicate {A = ℕ} k c) (sym h)
 
 -- lists that are made by equal functions are one
 same_list : (F G : ℕ → ℕ) (n : ℕ) → ((i : ℕ) → i < n → F i ≡ G i) → tabulate F 0 n ≡ tabulate G 0 n
@@ -76,10 +67,10 @@ pub record RingCall (d f g : List ℕ) (q : Query) (s e p sc n : ℕ) : Type 0 w
   pub places : p ≡ length d
   pub scratch : 8192 + 4 * length d ≤ sc
   pub number : n ≡ members (ring (table_of d f g) q s e)
-  pub checked : ring_checks (table_of d f g) q s e p sc ≡ Accepted
+  pub checked : ring_checks (table_of d f g) q s e p sc ≡ Ok tt
 
 pub ring_call : {d f g : List ℕ} {q : Query} {s e places sc n : ℕ} {v : Counted}
-    → v ≡ ring_answer (table_of d f g) q s e places sc → v ≡ Counted.Count n → RingCall d f g q s e places sc n
+    → v ≡ ring_answer (table_of d f g) q s e places sc → v ≡ Ok n → RingCall d f g q s e places sc n
 unfolding ring_answer ring_checks range_check
 ring_call {d} {f} {g} {q} {s} {e} {places} {sc} {n} a b =
     let t = table_of d f g in
@@ -99,10 +90,10 @@ ring_call {d} {f} {g} {q} {s} {e} {places} {sc} {n} a b =
 
 -- ---- 8 by a column that may be too long
 
-then_same : (v : Verdict) {w w' : Verdict} → (v ≡ Accepted → w ≡ w') → v then w ≡ v then w'
+then_same : (v : Verdict) {w w' : Verdict} → (v ≡ Ok tt → w ≡ w') → v then w ≡ v then w'
 unfolding ◌then◌
-then_same Accepted h = h refl
-then_same (Refused r) h = refl
+then_same (Ok _) h = h refl
+then_same (Err r) h = refl
 
 least_same : (l n : ℕ) → n ≤ 16384 → eqb (at_most l) n ≡ eqb l n
 unfolding at_most
@@ -127,7 +118,15 @@ ring_places d f g q s e l sc =
 
 -- ---- where the marks lie
 
-pub ringed_of : {d f g : List ℕ} {q : Query} {s e places sc n : ℕ} {bytes : List ℕ} → RingCall d f g q s e places sc n
+-- a sound table, a mark byte for each row, and none outside the window [s, e]
+record Ringed (d f g bytes : List ℕ) (s e : ℕ) : Type 0 where
+  sound : Sound d f g
+  marks : length bytes ≡ length d
+  ordered : s ≤ e
+  last_day_lem : e ≤ 1024
+  among : Within (rows_of bytes) (window_rows (table_of d f g) s e)
+
+ringed_of : {d f g : List ℕ} {q : Query} {s e places sc n : ℕ} {bytes : List ℕ} → RingCall d f g q s e places sc n
     → bytes ≡ marks (ring (table_of d f g) q s e) → Ringed d f g bytes s e
 ringed_of {d} {f} {g} {q} {s} {e} {bytes = bytes} C h =
     record {
@@ -142,10 +141,10 @@ ringed_of {d} {f} {g} {q} {s} {e} {bytes = bytes} C h =
     t : Table
     t = table_of d f g
 
-pub lent_of : {d f g bytes : List ℕ} {s e : ℕ} {r : Rows} → Ringed d f g bytes s e → Between d s e r → Lent d f g
+in_rows : {d f g bytes : List ℕ} {s e : ℕ} {r : Rows} → Ringed d f g bytes s e → Between d s e r → Lent d f g
     bytes r
 unfolding day_of at
-lent_of {d} {f} {g} {bytes} {s} {e} {r} R B =
+in_rows {d} {f} {g} {bytes} {s} {e} {r} R B =
     record {
       sound = R.sound;
       marks = R.marks;
@@ -169,26 +168,12 @@ lent_of {d} {f} {g} {bytes} {s} {e} {r} R B =
       );
     }
 
--- ---- what the loops write
+pub lent_of : {d f g : List ℕ} {q : Query} {s e places sc n : ℕ} {bytes : List ℕ} {r : Rows}
+    → RingCall d f g q s e places sc n → bytes ≡ marks (ring (table_of d f g) q s e) → Between d s e r
+    → Lent d f g bytes r
+lent_of C h B = in_rows (ringed_of C h) B
 
-pub writing_of : {d f g bytes x : List ℕ} {r : Rows} {h : ℕ → ℕ} {n : ℕ} → Lent d f g bytes r → Leaders x h → n ≡
-    length d
-    → Writing f bytes r x n
-writing_of L P e =
-    record {
-      firsts = L.sound.firsts ∙ sym e;
-      marks = L.marks ∙ sym e;
-      most = let k = L.sound.most in omega arith;
-      ordered = L.ordered;
-      last = let k = L.last in omega arith;
-      among = L.among;
-      accounts = λ j l.
-          let w = L.sound.rows j (omega arith) in
-          let a = w.accounts in
-          let b = w.account_to in
-          omega arith;
-      leaders = P.long;
-    }
+-- ---- what the loops write
 
 module _ {d f g bytes x : List ℕ} {r : Rows} (L : Lent d f g bytes r)
     (P : Leaders x (leader (table_of d f g) (rows_of bytes) (length d))) where

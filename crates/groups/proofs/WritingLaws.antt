@@ -1,12 +1,11 @@
 -- The loops that write a column for the rows of the window (src/label.rt, src/mark.rt).
 --     repeated_at              an entry of a list of equal numbers
---     Filling, fill_start, fill_next, fill_end     every entry becomes the same number
 --     Written, write_start, write_next, write_end  the entries of the window's rows are written, the others keep theirs
 --     label_start, label_next, label_end           labels
 --     led_is, led-out          a row that is held under the leader of an account
 --     Marked, mark_start, mark_next, mark_few, mark_end     marks, with their number
 -- Assumes nothing.
-use Prim.Native.Nat.{ℕ, zero, suc, ◌+◌, ◌≤◌, ◌<◌, zero-le}
+use Prim.Native.Nat.{ℕ, zero, suc, ◌+◌, ◌≤◌, ◌<◌}
 use native.Mathlib.Nat.{not-suc-le-zero, eq-or-lt_of_le, le_of_suc-le-suc}
 use native.Mathlib.Numerals.{add-one}
 use native.Mathlib.Omega.{arith}
@@ -25,7 +24,7 @@ use Rattle.rings.proofs.WordLaws.{true_or_false, same_or, and_l, suc_if_yes, suc
 use Rattle.rings.proofs.WordLaws.{length_tabulate, get_d_tabulate}
 use native.Mathlib.Nat.{zero-add}
 use Rattle.groups.specs.Groups.{choose, none}
-use Rattle.groups.specs.Inner.{Labelling, Marking, LedMarked, labelled, led, rows_of}
+use Rattle.groups.specs.Inner.{Lent, LedMarked, labelled, led, rows_of}
 use Rattle.groups.specs.declared.rows.Rows.{Rows}
 use Rattle.groups.proofs.ForestLaws.{choose_yes, choose_no}
 use Rattle.groups.proofs.LeaderLaws.{rows_marked, rows_in, rows_out}
@@ -34,32 +33,6 @@ pub repeated_at : (n c i : ℕ) → i < n → get_or (replicate n c) i 0 ≡ c
 repeated_at zero c i h = absurd (not-suc-le-zero h)
 repeated_at (suc n) c zero h = refl
 repeated_at (suc n) c (suc i) h = repeated_at n c i (le_of_suc-le-suc h)
-
--- ---- every entry becomes the same number
-
-pub record Filling (c n j : ℕ) (xs : List ℕ) : Type 0 where
-  pub long : length xs ≡ n
-  pub most : j ≤ n
-  pub done : (i : ℕ) → i < j → get_or xs i 0 ≡ c
-
-pub fill_start : {c : ℕ} {xs : List ℕ} → Filling c (length xs) 0 xs
-fill_start = record { long = refl; most = zero-le; done = λ i h. absurd (not-suc-le-zero h) }
-
-pub fill_next : {c n j : ℕ} {xs : List ℕ} → Filling c n j xs → j < length xs → Filling c n (j + 1) (set xs j c)
-fill_next {c} {n} {j} {xs} A l =
-    record {
-      long = length-set xs j c ∙ A.long;
-      most = let e = A.long in omega arith;
-      done = λ i h. ⊎_elim
-          (λ (e : i ≡ j). ap (λ (k : ℕ). get_or (set xs j c) k 0) e ∙ get_or-set_same xs j c 0 l)
-          (λ k. get_or-set_other xs j i c 0 k ∙ A.done i (omega (arith, k)))
-          (same_or i j);
-    }
-
-pub fill_end : {c n j : ℕ} {xs : List ℕ} → Filling c n j xs → length xs ≤ j → xs ≡ replicate n c
-fill_end {c} {n} {j} {xs} A h =
-    ext_get_or 0 xs (replicate n c) (A.long ∙ sym (length-replicate n c))
-    (λ i l. A.done i (omega arith) ∙ sym (repeated_at n c i (let e = A.long in omega arith)))
 
 -- ---- the entries of the window's rows are written
 
@@ -101,32 +74,32 @@ write_end {F} {c} {n} {j} {xs} A h =
 
 -- ---- labels
 
-module _ {f bytes x labels : List ℕ} {r : Rows} (L : Labelling f bytes r x labels) where
+module _ {d f g bytes : List ℕ} {r : Rows} (L : Lent d f g bytes r) (x : List ℕ) where
   abbrev label_at : ℕ → ℕ
   label_at j = choose (marked (rows_of bytes) j) (get_or x (get_or f j 0) 0) none
 
   no_label : (j : ℕ) → ((r.lo ≤ j) × (j < r.end) → ⊥) → label_at j ≡ none
   no_label j n =
       choose_no (get_or x (get_or f j 0) 0) none
-      (⊎_elim (λ h. absurd (n (L.lent.among j h))) (λ h. h) (true_or_false (marked (rows_of bytes) j)))
+      (⊎_elim (λ h. absurd (n (L.among j h))) (λ h. h) (true_or_false (marked (rows_of bytes) j)))
 
-  pub label_start : Written label_at none (length labels) r.lo labels
-  label_start = write_start L.cleared (λ i l. no_label i (λ w. let a = w.0 in omega arith))
+  pub label_start : {labels : List ℕ} → labels ≡ replicate (length d) none → Written label_at none (length d) r.lo labels
+  label_start cleared = write_start cleared (λ i l. no_label i (λ w. let a = w.0 in omega arith))
 
-  pub label_next : {j v : ℕ} {xs : List ℕ} → Written label_at none (length labels) j xs → j < r.end
+  pub label_next : {j v : ℕ} {xs : List ℕ} → Written label_at none (length d) j xs → j < r.end
       → Picked (eqb (get_or bytes j 0) 0) none (get_or x (get_or f j 0) 0) v
-      → Written label_at none (length labels) (j + 1) (set xs j v)
+      → Written label_at none (length d) (j + 1) (set xs j v)
   label_next {j} {v} {xs} A l P =
-      write_next A (let e = L.lent.last in omega arith)
+      write_next A (let e = L.last in omega arith)
       (⊎_elim (λ h. P.yes h ∙ sym (choose_no (get_or x (get_or f j 0) 0) none (rows_out bytes j h)))
       (λ h. P.no h ∙ sym (choose_yes (get_or x (get_or f j 0) 0) none (rows_in bytes j h)))
       (true_or_false (eqb (get_or bytes j 0) 0)))
 
-  pub label_end : {j : ℕ} {xs : List ℕ} → Written label_at none (length labels) j xs → r.end ≤ j
+  pub label_end : {j : ℕ} {xs : List ℕ} → Written label_at none (length d) j xs → r.end ≤ j
       → xs ≡ labelled f bytes x
   label_end {j} {xs} A h =
       write_end A (λ i l. no_label i (λ w. let a = w.1 in omega arith))
-      ∙ ap (λ (n : ℕ). tabulate label_at 0 n) (sym L.lent.firsts)
+      ∙ ap (λ (n : ℕ). tabulate label_at 0 n) (sym L.sound.firsts)
 
 -- ---- marks
 
@@ -164,44 +137,44 @@ pub record Marked (p : ℕ → Bool) (places j n : ℕ) (xs : List ℕ) : Type 0
   pub written : Written (λ i. mark (p i)) 0 places j xs
   pub number : n ≡ count p j
 
-module _ {f bytes x bs : List ℕ} {r : Rows} (L : Marking f bytes r x bs) (a : ℕ) where
+module _ {d f g bytes : List ℕ} {r : Rows} (L : Lent d f g bytes r) (x : List ℕ) (a : ℕ) where
   abbrev held : ℕ → Bool
   held = led f bytes x a
 
   not_held : (j : ℕ) → ((r.lo ≤ j) × (j < r.end) → ⊥) → held j ≡ false
-  not_held j n = ⊎_elim (λ h. absurd (n (L.lent.among j (led_in f bytes x a j h)))) (λ h. h) (true_or_false (held j))
+  not_held j n = ⊎_elim (λ h. absurd (n (L.among j (led_in f bytes x a j h)))) (λ h. h) (true_or_false (held j))
 
-  pub mark_start : Marked held (length bs) r.lo 0 bs
+  pub mark_start : {bs : List ℕ} → bs ≡ replicate (length d) 0 → Marked held (length d) r.lo 0 bs
   unfolding mark
-  mark_start =
+  mark_start cleared =
       record {
-        written = write_start L.cleared (λ i l. ap mark (not_held i (λ w. let b = w.0 in omega arith)));
+        written = write_start cleared (λ i l. ap mark (not_held i (λ w. let b = w.0 in omega arith)));
         number = sym (count_none held r.lo (λ i l. not_held i (λ w. let b = w.0 in omega arith)));
       }
 
-  pub mark_next : {j n v : ℕ} {b : Bool} {xs : List ℕ} → Marked held (length bs) j n xs → j < r.end
+  pub mark_next : {j n v : ℕ} {b : Bool} {xs : List ℕ} → Marked held (length d) j n xs → j < r.end
       → b ≡ (no (eqb (get_or bytes j 0) 0) and eqb (get_or x (get_or f j 0) 0) (get_or x a 0)) → Picked b 1 0 v
-      → Marked held (length bs) (j + 1) (n + v) (set xs j v)
+      → Marked held (length d) (j + 1) (n + v) (set xs j v)
   mark_next {j} {n} {v} {b} {xs} A l e P =
       let P' : Picked (held j) 1 0 v = subst (λ (c : Bool). Picked c 1 0 v) (e ∙ sym (led_is f bytes x a j)) P in
       record {
-        written = write_next A.written (let w = L.lent.last in omega arith) (mark_picked (held j) P');
+        written = write_next A.written (let w = L.last in omega arith) (mark_picked (held j) P');
         number =
             ap (λ (k : ℕ). k + v) A.number
             ∙ (count_picked held P' ∙ ap (count held) (sym (add-one j)));
       }
 
-  pub mark_few : {j n : ℕ} {xs : List ℕ} → Marked held (length bs) j n xs → n ≤ j
+  pub mark_few : {j n : ℕ} {xs : List ℕ} → Marked held (length d) j n xs → n ≤ j
   mark_few {j} A = let e = A.number in let l = count_le held j in omega arith
 
-  pub mark_end : {j n : ℕ} {xs : List ℕ} → Marked held (length bs) j n xs → r.end ≤ j → j ≤ r.end
+  pub mark_end : {j n : ℕ} {xs : List ℕ} → Marked held (length d) j n xs → r.end ≤ j → j ≤ r.end
       → LedMarked f bytes x a n xs
   unfolding mark
   mark_end {j} {n} {xs} A h k =
       record {
         number = A.number
-            ∙ sym (count_rest held j (length f) (let e = L.lent.last in let w = L.lent.firsts in omega arith)
+            ∙ sym (count_rest held j (length f) (let e = L.last in let w = L.sound.firsts in omega arith)
             (λ i l. not_held i (λ w. let b = w.1 in omega arith)));
         marks = write_end A.written (λ i l. ap mark (not_held i (λ w. let b = w.1 in omega arith)))
-            ∙ ap (λ (c : ℕ). tabulate (λ i. mark (held i)) 0 c) (sym L.lent.firsts);
+            ∙ ap (λ (c : ℕ). tabulate (λ i. mark (held i)) 0 c) (sym L.sound.firsts);
       }

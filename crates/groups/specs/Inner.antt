@@ -10,17 +10,15 @@
 --     rows_of bytes       the row set of mark bytes: those that are not 0
 --     Between d s e r    the rows r are those of the window [s, e]
 --     Lent d f g bytes r    a sound table, a mark byte for each row, and none outside the rows r
---     Ringed d f g bytes s e    the same, and none outside the window [s, e]
---     Writing f bytes r x n    what a loop that writes a column is lent; Labelling, Marking: and the column, cleared
 --     labelled           the labels that are written, by the leaders that are held
 --     led                row j is marked, and held under the leader of a
 --     LedMarked          those rows as marks, with their number
 --     GroupMarked        the group of an account as marks, with its number of rows
 --     most_marks, at_most n    one place more than a table has rows; n, or that where it is more
-use Rattle.std.specs.Prelude.{ℕ, min, ◌+◌, ◌≤◌, ◌<◌, ◌≡◌, Bool, true, List, map, length, get_or, replicate, eqb}
+use Rattle.std.specs.Prelude.{ℕ, min, ◌+◌, ◌≤◌, ◌<◌, ◌≡◌, Bool, true, List, map, length, get_or, eqb}
 use Rattle.rings.specs.Words.{◌and◌, no, marked, count, tabulate}
-use Rattle.rings.specs.Table.{Table, table_of, window_rows, Split}
-use Rattle.rings.specs.Ring.{Within, members}
+use Rattle.rings.specs.Table.{Table, Split}
+use Rattle.rings.specs.Ring.{members}
 use Rattle.rings.specs.Buffers.{mark, marks}
 use Rattle.rings.specs.Sound.{Sound}
 use Rattle.groups.specs.Groups.{joined, choose, none, group}
@@ -73,32 +71,6 @@ pub record Lent (d f g bytes : List ℕ) (r : Rows) : Type 0 where
   pub ordered : r.lo ≤ r.end
   pub last : r.end ≤ length d
   pub among : (j : ℕ) → marked (rows_of bytes) j ≡ true → (r.lo ≤ j) × (j < r.end)
-
-pub record Ringed (d f g bytes : List ℕ) (s e : ℕ) : Type 0 where
-  pub sound : Sound d f g
-  pub marks : length bytes ≡ length d
-  pub ordered : s ≤ e
-  pub last_day_lem : e ≤ 1024
-  pub among : Within (rows_of bytes) (window_rows (table_of d f g) s e)
-
--- what a loop that writes a column of n places for the rows r is lent, with the leaders x
-pub record Writing (f bytes : List ℕ) (r : Rows) (x : List ℕ) (n : ℕ) : Type 0 where
-  pub firsts : length f ≡ n
-  pub marks : length bytes ≡ n
-  pub most : n ≤ 16384
-  pub ordered : r.lo ≤ r.end
-  pub last : r.end ≤ n
-  pub among : (j : ℕ) → marked (rows_of bytes) j ≡ true → (r.lo ≤ j) × (j < r.end)
-  pub accounts : (j : ℕ) → j < n → get_or f j 0 < 4096
-  pub leaders : length x ≡ 4096
-
-pub record Labelling (f bytes : List ℕ) (r : Rows) (x labels : List ℕ) : Type 0 where
-  pub lent : Writing f bytes r x (length labels)
-  pub cleared : labels ≡ replicate (length labels) none
-
-pub record Marking (f bytes : List ℕ) (r : Rows) (x marks : List ℕ) : Type 0 where
-  pub lent : Writing f bytes r x (length marks)
-  pub cleared : marks ≡ replicate (length marks) 0
 
 abbrev pub labelled : List ℕ → List ℕ → List ℕ → List ℕ
 labelled f bytes leaders =

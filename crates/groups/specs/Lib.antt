@@ -1,4 +1,5 @@
 pub mod Groups
 pub mod GroupCalls
 pub mod Inner
+pub mod RingRows
 pub mod GroupRows

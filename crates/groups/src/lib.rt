@@ -8,7 +8,7 @@ mod rows;
 
 pub use label::label_groups;
 pub use mark::mark_group;
-pub use rings::{Counted, Query, Refusal};
+pub use rings::{Query, Refusal};
 
 // The ring that is asked for.
 #[derive(Clone, Copy)]

@@ -1,7 +1,7 @@
 // The rows of a window, and marks for them.
 ghost use Rattle.std.specs.Prelude.{◌≡◌, ◌<◌};
 ghost use Rattle.rings.specs.Sound.{NeverFall};
-ghost use Rattle.groups.specs.Inner.{Between, at_most};
+ghost use Rattle.groups.specs.Inner.{Between, Lent, at_most};
 
 use rings::rows_before;
 
@@ -9,10 +9,23 @@ use rings::rows_before;
 pub(crate) const MARKS: usize = 16385;
 
 // The rows from lo to before end: days never fall, so those of a window stand side by side.
+// No Range: a ring goes by value from call to call, and a Range isn't Copy.
+// No slices of the columns: a row's number is the table's, in the code as in the definitions.
 #[derive(Clone, Copy)]
 pub(crate) struct Rows {
     pub lo: usize,
     pub end: usize,
+}
+
+// A ring of an accepted table: a mark for each row, and the rows of its window, outside which no row is marked.
+#[derive(Clone, Copy)]
+pub(crate) struct Ring<'a> {
+    pub days: &'a [u16],
+    pub first: &'a [u16],
+    pub second: &'a [u16],
+    pub marks: &'a [u8],
+    pub rows: Rows,
+    ghost lent: { Lent days.now first.now second.now marks.now rows },
 }
 
 // The rows of the window [s, e].
@@ -32,8 +45,5 @@ pub(crate) fn window_rows(days: &[u16], s: u16, e: u16) -> Rows
 pub(crate) fn places_for(n: usize) -> usize
     ensures { result ≡ at_most n }
 {
-    if n < MARKS {
-        return n;
-    }
-    MARKS
+    n.min(MARKS)
 }

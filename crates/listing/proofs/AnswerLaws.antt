@@ -1,69 +1,69 @@
 -- Listing's answer, as the program meets it.
 --     refused_place      a refusal's place lies in the table
+--     cut_long           a column, cut at so many entries
 --     listed_rings, listed_none    the outcome by the answer
---     rings_count, rings_most, rings_are, rings_rise    what stands in the columns after an answer
+--     rings_count, rings_most, rings_are, rings_rise, rings_all_rise    what stands in the columns after an answer
 --     refused_told, answer_none, answer_refused, answer_as   the program's answer and output, by the outcome
 -- Assumes nothing.
 use Prim.Native.Nat.{ℕ, zero, suc, ◌+◌, ◌*◌, ◌≤◌, ◌<◌}
 use mathlib.Core.Path.{◌≡◌, refl, sym, ap, subst, ◌∙◌}
 use mathlib.Core.Bool.{Bool, true, false}
-use mathlib.Core.List.{List, map}
+use mathlib.Core.List.{List}
 use native.Mathlib.Omega.{arith}
-use lib.ListN.{length, drop, length-append, length-map}
+use lib.ListN.{length, take, length-map}
+use lib.Seq.{length-take-le}
 use lib.Dec.{leb, ltb, eqb}
 use borrow.Author.Tests.{ltb-false}
 use Rattle.rings.specs.Words.{◌and◌, ◌or◌, no, tabulate}
 use Rattle.rings.specs.Table.{Table, size, day_of, first_of, second_of}
-use Rattle.rings.specs.Refusals.{place_of, told_of}
+use Rattle.rings.specs.Refusals.{Verdict, rule_of, number_of, place_of}
 use Rattle.rings.specs.Checks.{◌when◌, ◌then◌, in_order, query_check, range_check, scratch_check}
 use Rattle.rings.specs.TableCheck.{day_before, row_faults, row_check, table_check}
-use Rattle.rings.specs.Buffers.{over}
 use Rattle.rings.specs.declared.Query.{Query}
 use Rattle.rings.specs.declared.refusal.Refusal.{Refusal}
 use Rattle.rings.specs.declared.refusal.Refusal.TheVariants.{ColumnsDiffer, TooLarge, BadDay, BadAccounts, DayFalls}
 use Rattle.rings.specs.declared.refusal.Refusal.TheVariants.{BadK, BadRange, BadLength, Scratch, NoRoom}
-use Rattle.rings.specs.declared.refusal.Told.{Told}
-use Rattle.rings.specs.declared.refusal.Verdict.{Verdict}
-use Rattle.rings.specs.declared.refusal.Verdict.TheVariants.{Accepted, Refused}
+use Rattle.rings.specs.declared.refusal.Place.{Place}
 use Rattle.rings.proofs.CheckLaws.{accepted_left, accepted_right, when_accepted}
 use Rattle.rings.proofs.AcceptedLaws.{range_e}
 use Rattle.listing.specs.Listing.{ListedRing, listing}
 use Rattle.listing.specs.WindowCounts.{empty_windows, windows_behind}
 use Rattle.listing.specs.EachRing.{EntryOf}
-use Rattle.listing.specs.ListingCall.{Columns, each, with_entries, listing_checks, summed, listing_answer, listing_columns}
+use Rattle.listing.specs.ListingCall.{Columns, each, listing_checks, summed, listing_answer, listing_columns}
 use Rattle.listing.specs.Program.{Outcome, found, stopped, place_line, input_line, stopped_by, from_list, most_listed, program_scratch, listed}
-use Rattle.listing.specs.ProgramText.{refused_of, list_answer, list_output}
-use Rattle.listing.specs.ProgramSteps.{entry_at, entries_at, Rising, Prints}
+use Rattle.listing.specs.ProgramText.{refused_as, refused_of, list_answer, list_output}
+use Rattle.listing.specs.ProgramSteps.{TextColumns, entry_at, entries_of, Rising, Prints}
 use Rattle.listing.specs.declared.Listed.{Listed}
-use Rattle.listing.specs.declared.Printed.{Printed}
+use Rattle.std.specs.Prelude.{Result, Ok, Err}
+use Rattle.listing.specs.declared.Refused.{Refused as RefusedLine}
 use Rattle.listing.proofs.CountLaws.{listing_is}
-use Rattle.listing.proofs.PrintingLaws.{text_of, entries_are, place_holds}
+use Rattle.listing.proofs.PrintingLaws.{columns_for, entries_are, place_holds, cut_at, cut_columns}
 
 -- ---- the checks behind an answer
 
 record Summed (v : Verdict) (ls : List ListedRing) (n : ℕ) : Type 0 where
-  accepted : v ≡ Accepted
+  accepted : v ≡ Ok tt
   counts : n ≡ length ls
 
-summed_rings : (v : Verdict) (ls : List ListedRing) (none : ℕ) {n sum empty : ℕ}
-    → summed v ls none ≡ Listed.Rings n sum empty
-    → Summed v ls n
+summed_rings : (v : Verdict) (ls : List ListedRing) (none : ℕ) {l : Listed}
+    → summed v ls none ≡ Ok l
+    → Summed v ls l.count
 unfolding summed
-summed_rings Accepted ls none e = record { accepted = refl; counts = cc }
-summed_rings (Refused r) ls none e = let z : ◌≡◌ {A = ℕ} 0 1 = cc in absurd (omega arith)
+summed_rings (Ok _) ls none e = record { accepted = refl; counts = cc }
+summed_rings (Err r) ls none e = let z : ◌≡◌ {A = ℕ} 0 1 = cc in absurd (omega arith)
 
-summed_refused : (v : Verdict) (ls : List ListedRing) (none : ℕ) {r : Refusal} → summed v ls none ≡ Listed.Refused r → v ≡ Refused r
+summed_refused : (v : Verdict) (ls : List ListedRing) (none : ℕ) {r : Refusal} → summed v ls none ≡ Err r → v ≡ Err r
 unfolding summed
-summed_refused Accepted ls none e = let z : ◌≡◌ {A = ℕ} 0 1 = cc in absurd (omega arith)
-summed_refused (Refused f) ls none {r} e = let g : f ≡ r = cc in ap Refused g
+summed_refused (Ok _) ls none e = let z : ◌≡◌ {A = ℕ} 0 1 = cc in absurd (omega arith)
+summed_refused (Err f) ls none {r} e = let g : f ≡ r = cc in ap Err g
 
 -- ---- the place of a refusal
 
 -- a refusal of v has a place of at most n
 record Low (n : ℕ) (v : Verdict) : Type 0 where
-  low : (r : Refusal) → v ≡ Refused r → place_of r ≤ n
+  low : (r : Refusal) → v ≡ Err r → place_of r ≤ n
 
-low_accepted : (n : ℕ) → Low n Accepted
+low_accepted : (n : ℕ) → Low n (Ok tt)
 low_accepted n = record { low = λ r e. let z : ◌≡◌ {A = ℕ} 0 1 = cc in omega arith }
 
 low_when : (n : ℕ) (r : Refusal) (b : Bool) → place_of r ≤ n → Low n (r when b)
@@ -73,8 +73,8 @@ low_when n r false h = low_accepted n
 
 low_then : (n : ℕ) (v w : Verdict) → Low n v → Low n w → Low n (v then w)
 unfolding ◌then◌
-low_then n Accepted w f g = g
-low_then n (Refused r) w f g = f
+low_then n (Ok _) w f g = g
+low_then n (Err r) w f g = f
 
 low_order : (m : ℕ) (f : ℕ → Verdict) (i n : ℕ) → i + n ≤ m → ((j : ℕ) → j < m → Low m (f j)) → Low m (in_order (tabulate f i n))
 unfolding in_order tabulate
@@ -135,7 +135,7 @@ low_checks t q lo hi places scratch =
     (low_then n _ _ (low_scratch n n scratch) (low_room n (ltb places.starts (length (listing t q lo hi))))))))
 
 pub refused_place : (t : Table) (q : Query) (lo hi : ℕ) (places : Columns ℕ) (scratch : ℕ) {r : Refusal}
-    → listing_answer t q lo hi places scratch ≡ Listed.Refused r
+    → listing_answer t q lo hi places scratch ≡ Err r
     → place_of r ≤ size t
 unfolding listing_answer
 refused_place t q lo hi places scratch {r} e =
@@ -149,7 +149,7 @@ record Answered (t : Table) (q : Query) (lo hi : ℕ) (places : Columns ℕ) : T
   room : length (listing t q lo hi) ≤ places.starts
 
 answered_by : (t : Table) (q : Query) (lo hi : ℕ) (places : Columns ℕ) (scratch : ℕ)
-    → listing_checks t q lo hi places scratch ≡ Accepted
+    → listing_checks t q lo hi places scratch ≡ Ok tt
     → Answered t q lo hi places
 unfolding listing_checks
 answered_by t q lo hi places scratch e =
@@ -163,74 +163,80 @@ answered_by t q lo hi places scratch e =
       room = ltb-false places.starts (length (listing t q lo hi)) (when_accepted NoRoom (ltb places.starts (length (listing t q lo hi))) e₅);
     }
 
--- a column has a place for each entry that was written
-column_long : (part : ListedRing → ℕ) (ls : List ListedRing) (old : List ℕ) {n : ℕ} → n ≡ length ls → n ≤ length (over (map part ls) old)
-unfolding over
-column_long part ls old c =
-    omega (arith, length-append (map part ls) (drop (length (map part ls)) old), length-map ls part)
+-- a column of the program's holds so many entries
+pub cut_long : {n : ℕ} (column : List ℕ) → length column ≡ most_listed → n ≤ most_listed → n ≡ length (take n column)
+cut_long {n} column l h = sym (length-take-le n column (omega arith))
 
-module _ (t : Table) (q : Query) (lo hi : ℕ) {r : Listed} (is : r ≡ listing_answer t q lo hi (each most_listed) program_scratch) where
-  pub listed_rings : {n sum empty : ℕ} → r ≡ Listed.Rings n sum empty → listed t q lo hi ≡ found (listing t q lo hi)
+module _ (t : Table) (q : Query) (lo hi : ℕ) {r : Result Listed Refusal} (is : r ≡ listing_answer t q lo hi (each most_listed) program_scratch) where
+  pub listed_rings : {l : Listed} → r ≡ Ok l → listed t q lo hi ≡ found (listing t q lo hi)
   unfolding listed from_list
-  listed_rings e = ap (λ (x : Listed). from_list x (listing t q lo hi)) (sym is ∙ e)
+  listed_rings e = ap (λ (x : Result Listed Refusal). from_list x (listing t q lo hi)) (sym is ∙ e)
 
-  pub listed_none : {f : Refusal} → r ≡ Listed.Refused f → listed t q lo hi ≡ stopped_by f
+  pub listed_none : {f : Refusal} → r ≡ Err f → listed t q lo hi ≡ stopped_by f
   unfolding listed from_list
-  listed_none e = ap (λ (x : Listed). from_list x (listing t q lo hi)) (sym is ∙ e)
+  listed_none e = ap (λ (x : Result Listed Refusal). from_list x (listing t q lo hi)) (sym is ∙ e)
 
-  behind : {n sum empty : ℕ} → r ≡ Listed.Rings n sum empty → Summed (listing_checks t q lo hi (each most_listed) program_scratch) (listing t q lo hi) n
+  behind : {l : Listed} → r ≡ Ok l → Summed (listing_checks t q lo hi (each most_listed) program_scratch) (listing t q lo hi) l.count
   unfolding listing_answer
   behind e = summed_rings (listing_checks t q lo hi (each most_listed) program_scratch) (listing t q lo hi) (empty_windows t q lo hi) (sym is ∙ e)
 
-  pub rings_count : {n sum empty : ℕ} → r ≡ Listed.Rings n sum empty → n ≡ length (listing t q lo hi)
+  pub rings_count : {l : Listed} → r ≡ Ok l → l.count ≡ length (listing t q lo hi)
   rings_count e = (behind e).counts
 
-  answered : {n sum empty : ℕ} → r ≡ Listed.Rings n sum empty → Answered t q lo hi (each most_listed)
+  answered : {l : Listed} → r ≡ Ok l → Answered t q lo hi (each most_listed)
   answered e = answered_by t q lo hi (each most_listed) program_scratch (behind e).accepted
 
-  pub rings_most : {n sum empty : ℕ} → r ≡ Listed.Rings n sum empty → n ≤ most_listed
+  pub rings_most : {l : Listed} → r ≡ Ok l → l.count ≤ most_listed
   rings_most e = omega (arith, (behind e).counts, (answered e).room)
 
-  module _ (old : Columns (List ℕ)) {c : Columns (List ℕ)} (w : c ≡ listing_columns r t q lo hi old) {n sum empty : ℕ} (e : r ≡ Listed.Rings n sum empty) where
-    columns : c ≡ with_entries (windows_behind t q lo hi) (listing t q lo hi) old
+  module _ (old : Columns (List ℕ)) {c : Columns (List ℕ)} (w : c ≡ listing_columns r t q lo hi old) {l : Listed} (e : r ≡ Ok l) where
+    columns : cut_at l.count c ≡ columns_for (listing t q lo hi)
     unfolding listing_columns
-    columns = w ∙ ap (λ (x : Listed). listing_columns x t q lo hi old) e
+    columns =
+        cut_columns (windows_behind t q lo hi) (listing t q lo hi) old
+        (w ∙ ap (λ (x : Result Listed Refusal). listing_columns x t q lo hi old) e) (rings_count e)
 
-    pub rings_are : entries_at (text_of c) n ≡ listing t q lo hi
-    rings_are = entries_are (windows_behind t q lo hi) (listing t q lo hi) old columns (rings_count e)
+    pub rings_are : entries_of (cut_at l.count c) ≡ listing t q lo hi
+    rings_are = ap entries_of columns ∙ entries_are (listing t q lo hi)
 
-    rings_entry : (i : ℕ) → i < n → EntryOf t q lo hi (entry_at (text_of c) i)
-    rings_entry i h =
-        place_holds (windows_behind t q lo hi) (listing t q lo hi) old columns (EntryOf t q lo hi) (listing_is t q lo hi).each i
-        (omega (arith, rings_count e))
-
-    pub rings_rise : Rising (text_of c) n
+    pub rings_rise : Rising (cut_at l.count c) l.count
     unfolding entry_at
     rings_rise =
         let list = listing t q lo hi in
-        let long : (part : ListedRing → ℕ) (x : List ℕ) → n ≤ length (over (map part list) x) = λ part x. column_long part list x (rings_count e) in
-        record {
+        let long = length-map list (λ x. x.start) in
+        let entry : (i : ℕ) → i < l.count → EntryOf t q lo hi (entry_at (columns_for list) i) =
+        λ i h. place_holds list (EntryOf t q lo hi) (listing_is t q lo hi).each i (omega (arith, rings_count e)) in
+        subst (λ x. Rising x l.count) (sym columns)
+        (record {
           most = rings_most e;
-          in_starts = omega (arith, long (λ x. x.start) old.starts, ap (λ (x : Columns (List ℕ)). length x.starts) columns);
-          in_ends = omega (arith, long (λ x. x.end) old.ends, ap (λ (x : Columns (List ℕ)). length x.ends) columns);
-          in_rows = omega (arith, long (λ x. x.rows) old.rows, ap (λ (x : Columns (List ℕ)). length x.rows) columns);
-          from = λ i h. omega (arith, (answered e).from, (rings_entry i h).from);
-          order = λ i h. (rings_entry i h).order;
-        }
+          in_starts = omega (arith, long, rings_count e);
+          in_ends = omega (arith, length-map list (λ x. x.end), rings_count e);
+          in_rows = omega (arith, length-map list (λ x. x.rows), rings_count e);
+          from = λ i h. omega (arith, (answered e).from, (entry i h).from);
+          order = λ i h. (entry i h).order;
+        })
+
+    -- the same of as many entries as the columns have then
+    pub rings_all_rise : Rising (cut_at l.count c) (length (cut_at l.count c).starts)
+    rings_all_rise =
+        let long : length (cut_at l.count c).starts ≡ l.count =
+        ap (λ (x : TextColumns). length x.starts) columns
+        ∙ (length-map (listing t q lo hi) (λ x. x.start) ∙ sym (rings_count e)) in
+        subst (Rising (cut_at l.count c)) (sym long) rings_rise
 
 -- ---- the text
 
-pub answer_none : (o : Outcome) (output : List ℕ) {n line : ℕ} → o ≡ stopped n line → Prints o (Printed.Refused n line) output output
+pub answer_none : (o : Outcome) (output : List ℕ) {r : RefusedLine} → o ≡ stopped r.number r.line → Prints o (Err r) output output
 unfolding list_answer list_output
 answer_none o output e = record { answer = rw e; output = refl }
 
-pub refused_told : (r : Refusal) {told : Told} {line : ℕ} → told ≡ told_of r → line ≡ place_line told.place → Printed.Refused told.number line ≡ refused_of r
-unfolding told_of refused_of input_line
-refused_told r {told} e l = ap (Printed.Refused told.number) l ∙ ap (λ (t : Told). Printed.Refused t.number (place_line t.place)) e
+pub refused_told : (r : Refusal) {n line : ℕ} {p : Place} → n ≡ number_of r → p ≡ (rule_of r).place → line ≡ place_line p → refused_as n line ≡ refused_of r
+unfolding refused_of input_line
+refused_told r n p l = λ i. refused_as (n i) ((l ∙ ap place_line p) i)
 
-pub answer_refused : (o : Outcome) (output : List ℕ) (f : Refusal) {a : Printed} → o ≡ stopped_by f → a ≡ refused_of f → Prints o a output output
+pub answer_refused : (o : Outcome) (output : List ℕ) (f : Refusal) {r : RefusedLine} → o ≡ stopped_by f → r ≡ refused_of f → Prints o (Err r) output output
 unfolding stopped_by refused_of list_answer list_output
 answer_refused o output f e h = rw (h, e) (record { answer = refl; output = refl })
 
-pub answer_as : {o o' : Outcome} {a : Printed} {old now : List ℕ} → o ≡ o' → Prints o' a old now → Prints o a old now
+pub answer_as : {o o' : Outcome} {a : Result ℕ RefusedLine} {old now : List ℕ} → o ≡ o' → Prints o' a old now → Prints o a old now
 answer_as {a = a} {old} {now} e P = subst (λ (x : Outcome). Prints x a old now) (sym e) P

@@ -1,21 +1,23 @@
 -- The columns of a listing (specs/ListingCall.antt, specs/Inner.antt).
 --     map_append              a function on each of two lists, one behind the other
---     cell, cells             what entries leave at a place of a column, and at all of theirs
+--     map_at, cell, cells     what entries leave at a place of a column, and at all of theirs
 --     filled_none             the start column is as it was where no place is filled
---     FillsTo, fill_start, fill_next, fill_end, fill_none    the loop of `fill_starts`
+--     fill_part, fill_none    what `fill_starts` leaves in the whole column
 --     SameLengths, same_places, lengths_on, alike_kept    columns as long as they were
 --     Putting, entering_put, putting_places    an entry goes to place n of all columns, where entries are written
 --     written_none, written_next    no entry yet; one more
 -- Assumes nothing.
 use Prim.Native.Nat.{ℕ, zero, suc, ◌+◌, ◌-◌, ◌≤◌, ◌<◌}
-use native.Mathlib.Nat.{le_refl}
 use native.Mathlib.Numerals.{add-one}
 use native.Mathlib.Omega.{arith}
 use mathlib.Core.Path.{◌≡◌, refl, sym, ◌∙◌, ap}
 use mathlib.Core.Bool.{Bool, true, false}
-use mathlib.Core.List.{List, [], ◌∷◌, ◌++◌, map}
-use lib.ListN.{length, get_or, set, take, drop, length-append, length-map, length-drop, length-set, get_or-append}
-use lib.Seq.{take-append_seam}
+use mathlib.Core.List.{List, [], ◌∷◌, ◌++◌, map, append_assoc, append-nil}
+use lib.ListN.{length, get_or, set, take, drop, replicate, length-append, length-map, length-drop, length-set, get_or-append, take-append-drop}
+use lib.Seq.{take-append_seam, length-take-le, drop-drop}
+use borrow.Rule.Slice.PartMut.{post_of}
+use Rattle.std.proofs.lemmas.List.{length-replicate, replicate-append-replicate}
+use native.Mathlib.Numerals.{suc-eq-add-one}
 use Rattle.rings.specs.Buffers.{over}
 use Rattle.rings.proofs.WordLaws.{clash}
 use Rattle.listing.specs.Listing.{ListedRing}
@@ -56,7 +58,7 @@ column_next part done old x h =
     fits = omega (arith, over_length (map part done) old, many)
 
 -- what stands at a place, and in all of them
-map_at : (part : ListedRing → ℕ) (ls : List ListedRing) (d : ListedRing) (j : ℕ) → j < length ls → get_or (map part ls) j 0 ≡ part (get_or ls j d)
+pub map_at : (part : ListedRing → ℕ) (ls : List ListedRing) (d : ListedRing) (j : ℕ) → j < length ls → get_or (map part ls) j 0 ≡ part (get_or ls j d)
 map_at part [] d j h = absurd (omega arith)
 map_at part (x ∷ ls) d zero h = refl
 map_at part (x ∷ ls) d (suc j) h = map_at part ls d j (omega arith)
@@ -95,43 +97,43 @@ unfolding filled_if
 stays true h v n m k xs = clash refl h
 stays false h v n m k xs = refl
 
--- the loop of `fill_starts` stands at i
-pub record FillsTo (v n m i : ℕ) (old now : List ℕ) : Type 0 where
-  pub from : n ≤ i
-  pub to : i ≤ m
-  pub filled_so : now ≡ filled v n (i - n) old
-  pub long : length now ≡ length old
+-- the part of `fill_starts` in the whole column
+filled_over : (v n m : ℕ) (xs : List ℕ) → n + m ≤ length xs → filled v n m xs ≡ over (take n xs ++ replicate m v) xs
+unfolding filled over
+filled_over v n zero xs h =
+    let l : length (take n xs ++ []) ≡ n = omega (arith, length-append (take n xs) [], length-take-le n xs (omega arith)) in
+    sym (ap (λ (k : ℕ). take n xs ++ [] ++ drop k xs) l ∙ ap (λ (ys : List ℕ). ys ++ drop n xs) (append-nil (take n xs)) ∙ take-append-drop n xs)
+filled_over v n (suc m) xs h =
+    ap (λ (ys : List ℕ). set ys (n + m) v) (filled_over v n m xs (omega arith))
+    ∙ (ap (λ (k : ℕ). set (over (take n xs ++ replicate m v) xs) k v) (sym long)
+    ∙ (over_next (take n xs ++ replicate m v) xs v (omega (arith, long)) ∙ ap (λ (ys : List ℕ). over ys xs) more))
+  where
+    long : length (take n xs ++ replicate m v) ≡ n + m
+    long = omega (arith, length-append (take n xs) (replicate m v), length-take-le n xs (omega arith), length-replicate m v)
+
+    more : take n xs ++ replicate m v ++ v ∷ [] ≡ take n xs ++ replicate (suc m) v
+    more =
+        append_assoc (take n xs) (replicate m v) (v ∷ [])
+        ∙ ap (λ (ys : List ℕ). take n xs ++ ys) (replicate-append-replicate m 1 v ∙ ap (λ (k : ℕ). replicate k v) (sym (suc-eq-add-one m)))
+
+pub fill_part : {b : Bool} → b ≡ true → (v n m : ℕ) (xs : List ℕ) {ys : List ℕ} → n ≤ m → m ≤ length xs
+    → ys ≡ replicate (length (take (m - n) (drop n xs))) v
+    → take n xs ++ (ys ++ post_of n (m - n) xs) ≡ filled_if b v n (m - n) xs
+unfolding filled_if over
+fill_part b v n m xs {ys} o h e =
+    let k : length (take (m - n) (drop n xs)) ≡ m - n = length-take-le (m - n) (drop n xs) (omega (arith, length-drop n xs)) in
+    let part : List ℕ = replicate (m - n) v in
+    let long : length (take n xs ++ part) ≡ n + (m - n) =
+    omega (arith, length-append (take n xs) part, length-take-le n xs (omega arith), length-replicate (m - n) v) in
+    ap (λ (zs : List ℕ). take n xs ++ (zs ++ drop (m - n) (drop n xs))) (e ∙ ap (λ (i : ℕ). replicate i v) k)
+    ∙ (ap (λ (zs : List ℕ). take n xs ++ (part ++ zs)) (drop-drop (m - n) n xs)
+    ∙ (sym (append_assoc (take n xs) part (drop (n + (m - n)) xs))
+    ∙ (ap (λ (i : ℕ). take n xs ++ part ++ drop i xs) (sym long)
+    ∙ (sym (filled_over v n (m - n) xs (omega arith)) ∙ sym (ap (λ (d : Bool). filled_if d v n (m - n) xs) b)))))
 
 pub fill_none : {b : Bool} → b ≡ false → (v n m : ℕ) (xs : List ℕ) → xs ≡ filled_if b v n m xs
 unfolding filled_if
 fill_none h v n m xs = sym (ap (λ (d : Bool). filled_if d v n m xs) h)
-
-pub fill_start : {v n m : ℕ} {xs : List ℕ} → n ≤ m → FillsTo v n m n xs xs
-unfolding filled
-fill_start {v} {n} {m} {xs} o =
-    let none : n - n ≡ 0 = omega arith in
-    record { from = le_refl n; to = o; filled_so = sym (ap (λ (k : ℕ). filled v n k xs) none); long = refl }
-
-module _ {v n m i : ℕ} {old now : List ℕ} (F : FillsTo v n m i old now) where
-  pub fill_next : i < m → FillsTo v n m (i + 1) old (set now i v)
-  fill_next l =
-      let here : n + (i - n) ≡ i = omega (arith, F.from) in
-      let more : i - n + 1 ≡ i + 1 - n = omega (arith, F.from) in
-      record {
-        from = omega (arith, F.from);
-        to = omega arith;
-        filled_so =
-            ap (λ (xs : List ℕ). set xs i v) F.filled_so
-            ∙ (ap (λ (k : ℕ). set (filled v n (i - n) old) k v) (sym here)
-            ∙ (filled_more v n (i - n) old ∙ ap (λ (k : ℕ). filled v n k old) more));
-        long = length-set now i v ∙ F.long;
-      }
-
-  pub fill_end : {b : Bool} → b ≡ true → m ≤ i → now ≡ filled_if b v n (m - n) old
-  unfolding filled_if
-  fill_end {b} h l =
-      let last : i - n ≡ m - n = omega (arith, F.to) in
-      F.filled_so ∙ (ap (λ (k : ℕ). filled v n k old) last ∙ sym (ap (λ (d : Bool). filled_if d v n (m - n) old) h))
 
 -- ---- all of them
 

@@ -26,9 +26,7 @@ use Rattle.rings.specs.MinimalWindowsCall.{minimal_answer, minimal_rows, minimal
 use Rattle.rings.specs.RecallCall.{columns_of, recall_answer, recall_marks}
 use Rattle.rings.specs.declared.Query.{Query}
 use Rattle.rings.specs.declared.refusal.Refusal.TheVariants.{BadLength, NoRoom}
-use Rattle.rings.specs.declared.refusal.Verdict.{Verdict}
-use Rattle.rings.specs.declared.refusal.Verdict.TheVariants.{Accepted}
-use Rattle.rings.specs.declared.refusal.Counted.{Counted}
+use Rattle.rings.specs.Refusals.{Verdict}
 use Rattle.rings.proofs.WordLaws.{true_or_false, and_i}
 use Rattle.rings.proofs.CheckLaws.{then_accepted, passes}
 use Rattle.rings.proofs.AcceptedLaws.{range_e}
@@ -39,17 +37,19 @@ use Rattle.listing.specs.Distinct.{distinct_rings}
 use Rattle.listing.specs.WindowCounts.{showing, empty_windows, windows_behind, sum}
 use Rattle.listing.specs.LongestList.{longest, days_of}
 use Rattle.listing.specs.EachRing.{IsListing, ListedOnce, AreRings, ring_sum}
-use Rattle.listing.specs.ListingCall.{Columns, OneLength, each, places_of, with_entries, listing_checks, summed, listing_answer, listing_columns}
+use Rattle.listing.specs.ListingCall.{Columns, OneLength, each, places_of, with_entries, listing_checks, in_all, summed, listing_answer, listing_columns}
 use Rattle.listing.specs.ListingCall.{listing_empty}
 use Rattle.listing.specs.declared.Listed.{Listed}
+use Rattle.rings.specs.declared.refusal.Refusal.{Refusal}
+use Rattle.std.specs.Prelude.{Result, Ok, Err}
 use Rattle.listing.proofs.CountLaws.{distinct_listed, distinct_sum, distinct_are, rings_counted, listing_is, ring_listed}
 use Rattle.listing.proofs.ColumnLaws.{cell, cells}
 use Rattle.listing.proofs.WindowCountLaws.{adds_up as windows_add_up, behind_fits, empty_fits}
 
 -- of a call of Listing with places enough: the answer, and the columns, which held what is in old
-pub record ListingLeft (t : Table) (q : Query) (lo hi : ℕ) (rings : List (List Bool)) (answer : Listed) (old new : Columns (List ℕ)) : Type 0 where
+pub record ListingLeft (t : Table) (q : Query) (lo hi : ℕ) (rings : List (List Bool)) (answer : Result Listed Refusal) (old new : Columns (List ℕ)) : Type 0 where
   -- the count is that of the distinct rings, the sum that of their rows, the third number that of the windows with no ring
-  pub answer_so : answer ≡ Listed.Rings (length rings) (ring_sum rings) (empty_windows t q lo hi)
+  pub answer_so : answer ≡ Ok (in_all (length rings) (ring_sum rings) (empty_windows t q lo hi))
   -- the columns hold the listing, each entry beside the number of windows behind it, and then what they held
   pub columns_so : new ≡ with_entries (windows_behind t q lo hi) (listing t q lo hi) old
   -- which has the tightest window of each of its own rings with the number of its rows, by start, then end, and nothing else
@@ -71,32 +71,32 @@ pub record Demand3 (t : Table) (q : Query) (lo hi : ℕ) : Type 0 where
   pub as_long : (ms : List (List Bool)) → AreRings t q lo hi ms → length ms ≡ length rings
   -- Listing with places in each column: 10 exactly when the rings are more
   pub full : (places scratch : ℕ)
-      → scratch_check (size t) scratch ≡ Accepted
-      → (listing_answer t q lo hi (each places) scratch ≡ Listed.Refused NoRoom) ↔ (places < length rings)
+      → scratch_check (size t) scratch ≡ Ok tt
+      → (listing_answer t q lo hi (each places) scratch ≡ Err NoRoom) ↔ (places < length rings)
   -- else the whole listing
-  pub listed : (scratch : ℕ) (old : Columns (List ℕ)) → scratch_check (size t) scratch ≡ Accepted → OneLength old → length rings ≤ length old.starts
+  pub listed : (scratch : ℕ) (old : Columns (List ℕ)) → scratch_check (size t) scratch ≡ Ok tt → OneLength old → length rings ≤ length old.starts
       → (let answer = listing_answer t q lo hi (places_of old) scratch in ListingLeft t q lo hi rings answer old (listing_columns answer t q lo hi old))
   -- in which the ring of each window, if not empty, stands once and only once, by its tightest window, with the number of its rows
   -- and that of the windows whose ring it is
   pub each_ring : (s e : ℕ) → lo ≤ s → e ≤ hi → nonempty (ring t q s e) ≡ true → ListedOnce t q lo hi s e
   -- what Minimal windows writes, cut at its count, holds exactly the query's minimal windows, each once, by row, then start
   pub written : (row_places start_places end_places scratch count : ℕ) (rows starts ends : List ℕ)
-      → minimal_answer t q lo hi row_places start_places end_places scratch ≡ Counted.Count count
-      → Archive t q lo hi (take count (minimal_rows (Counted.Count count) t q lo hi rows))
-      (take count (minimal_starts (Counted.Count count) t q lo hi starts))
-      (take count (minimal_ends (Counted.Count count) t q lo hi ends))
+      → minimal_answer t q lo hi row_places start_places end_places scratch ≡ Ok count
+      → Archive t q lo hi (take count (minimal_rows (Ok count) t q lo hi rows))
+      (take count (minimal_starts (Ok count) t q lo hi starts))
+      (take count (minimal_ends (Ok count) t q lo hi ends))
   -- Recall accepts every such list, for every window of the range, and marks exactly that window's ring
   pub recalls : (rows starts ends old : List ℕ) (s e : ℕ) → Archive t q lo hi rows starts ends → length old ≡ size t → lo ≤ s → s ≤ e → e ≤ hi
       → (let answer = recall_answer t (columns_of rows starts ends) s e (length old) in
-      (answer ≡ Accepted) × (recall_marks answer t (columns_of rows starts ends) s e old ≡ marks (ring t q s e)))
+      (answer ≡ Ok tt) × (recall_marks answer t (columns_of rows starts ends) s e old ≡ marks (ring t q s e)))
 
 -- ---- the proof
 
-is_rings : Listed → Type 0
-is_rings (Listed.Rings n sum empty) = Unit {0}
-is_rings (Listed.Refused r) = ⊥
+is_rings : Result Listed Refusal → Type 0
+is_rings (Ok l) = Unit {0}
+is_rings (Err r) = ⊥
 
-module _ (t : Table) (q : Query) (lo hi : ℕ) (table : table_check t ≡ Accepted) (query : query_check q ≡ Accepted) (range : range_check lo hi ≡ Accepted) where
+module _ (t : Table) (q : Query) (lo hi : ℕ) (table : table_check t ≡ Ok tt) (query : query_check q ≡ Ok tt) (range : range_check lo hi ≡ Ok tt) where
   fits : hi < never
   fits = let w = range_e lo hi range in omega (arith, w.2)
 
@@ -111,7 +111,7 @@ module _ (t : Table) (q : Query) (lo hi : ℕ) (table : table_check t ≡ Accept
       → places.ends ≡ places.starts
       → places.rows ≡ places.starts
       → places.windows ≡ places.starts
-      → scratch_check (size t) scratch ≡ Accepted
+      → scratch_check (size t) scratch ≡ Ok tt
       → listing_checks t q lo hi places scratch ≡ NoRoom when ltb places.starts (length list)
   unfolding listing_checks
   checks places scratch ee er ew es =
@@ -132,9 +132,9 @@ module _ (t : Table) (q : Query) (lo hi : ℕ) (table : table_check t ≡ Accept
       room = NoRoom when ltb places.starts (length list)
 
   refused : (places scratch : ℕ)
-      → scratch_check (size t) scratch ≡ Accepted
+      → scratch_check (size t) scratch ≡ Ok tt
       → places < length list
-      → listing_answer t q lo hi (each places) scratch ≡ Listed.Refused NoRoom
+      → listing_answer t q lo hi (each places) scratch ≡ Err NoRoom
   unfolding listing_answer summed ◌when◌
   refused places scratch es h =
       ap (λ (v : Verdict). summed v list none)
@@ -144,17 +144,17 @@ module _ (t : Table) (q : Query) (lo hi : ℕ) (table : table_check t ≡ Accept
       → places.ends ≡ places.starts
       → places.rows ≡ places.starts
       → places.windows ≡ places.starts
-      → scratch_check (size t) scratch ≡ Accepted
+      → scratch_check (size t) scratch ≡ Ok tt
       → length list ≤ places.starts
-      → listing_answer t q lo hi places scratch ≡ Listed.Rings (length list) (row_sum list) none
+      → listing_answer t q lo hi places scratch ≡ Ok (in_all (length list) (row_sum list) none)
   unfolding listing_answer summed ◌when◌
   found places scratch ee er ew es h =
       ap (λ (v : Verdict). summed v list none)
       (checks places scratch ee er ew es ∙ ap (λ (b : Bool). NoRoom when b) (le-ltb places.starts (length list) h))
 
   only_full : (places scratch : ℕ)
-      → scratch_check (size t) scratch ≡ Accepted
-      → listing_answer t q lo hi (each places) scratch ≡ Listed.Refused NoRoom
+      → scratch_check (size t) scratch ≡ Ok tt
+      → listing_answer t q lo hi (each places) scratch ≡ Err NoRoom
       → places < length list
   unfolding is_rings
   only_full places scratch es h =
@@ -196,15 +196,15 @@ module _ (t : Table) (q : Query) (lo hi : ℕ) (table : table_check t ≡ Accept
             );
         listed = λ scratch old es alike h.
             let e = found (places_of old) scratch alike.ends alike.rows alike.windows es (subst (λ (n : ℕ). n ≤ length old.starts) many h) in
-            let w = ap (λ (a : Listed). listing_columns a t q lo hi old) e in
+            let w = ap (λ (a : Result Listed Refusal). listing_columns a t q lo hi old) e in
             record {
-              answer_so = e ∙ (λ i. Listed.Rings (sym many i) (sym (distinct_sum t q lo hi fits) i) none);
+              answer_so = e ∙ (λ i. Ok (in_all (sym many i) (sym (distinct_sum t q lo hi fits) i) none));
               columns_so = w;
               is_listing = listing_is t q lo hi;
               as_many = sym many;
               numbers_so = λ i l. numbers old w i (subst (λ (n : ℕ). i < n) many l);
               adds_up =
-                  ap (λ (a : Listed). sum (take (length (distinct_rings t q lo hi)) (listing_columns a t q lo hi old).windows) + listing_empty a) e
+                  ap (λ (a : Result Listed Refusal). sum (take (length (distinct_rings t q lo hi)) (listing_columns a t q lo hi old).windows) + listing_empty a) e
                   ∙ (ap (λ (n : ℕ). sum (take n (with_entries number list old).windows) + none) many
                   ∙ (ap (λ (ns : List ℕ). sum ns + none) (cells number list old.windows) ∙ windows_add_up t q lo hi fits));
               fit = λ i l.
@@ -213,7 +213,7 @@ module _ (t : Table) (q : Query) (lo hi : ℕ) (table : table_check t ≡ Accept
                   (behind_fits t q lo hi r.0 r.2 (get_or list i nowhere));
               empty_fit =
                   let r = range_e lo hi range in
-                  subst (λ (a : Listed). listing_empty a < 4294967296) (sym e) (empty_fits t q lo hi r.0 r.2);
+                  subst (λ (a : Result Listed Refusal). listing_empty a < 4294967296) (sym e) (empty_fits t q lo hi r.0 r.2);
             };
         each_ring = ring_listed t q lo hi fits;
         written =

@@ -3,8 +3,8 @@
 --     first_exists       there is a first counted day
 --     none_listed        no end before the least time is listed
 --     start_as           the entries of a start, as the counts say
---     EndsAt, ends_start, ends_run, ends_total, ends_shown, ends_skip, ends_entered, ends_one     the loop of `list_ends`
---     ends_places, ends_end, ends_none     places for the start column; what `list_ends` leaves; no row of the first day has a core time
+--     EndsAt, ends_start, ends_total, ends_skip, ends_entered, ends_one     the loop of `list_ends`
+--     ends_end, ends_none     what `list_ends` leaves; no row of the first day has a core time
 -- Assumes nothing.
 use Prim.Native.Nat.{ℕ, zero, suc, ◌+◌, ◌-◌, ◌*◌, ◌≤◌, ◌<◌}
 use native.Mathlib.Nat.{le_refl, eq-or-lt_of_le}
@@ -27,7 +27,7 @@ use Rattle.rings.proofs.WordLaws.{true_or_false, same_or, and_r}
 use Rattle.listing.specs.Listing.{ListedRing}
 use Rattle.listing.specs.ListingCall.{Columns, columns_of}
 use Rattle.listing.specs.Inner.{start_entries, sum_of, count_entries, Uncounted, FirstCounted, Run, Regathered, filled_if, Progress}
-use Rattle.listing.specs.Inner.{day_places, most_rows, most_windows, Places, StartPlaces, Counting, EndsAhead, Numbered, Gathering, EndsListed}
+use Rattle.listing.specs.Inner.{day_places, most_rows, Places, EndsAhead, Numbered, Gathering, EndsListed}
 use Rattle.listing.specs.declared.list.Passed.{Passed}
 use Rattle.listing.proofs.StartLaws.{listed_no, listed_by, entries_are}
 use Rattle.listing.proofs.ColumnLaws.{SameLengths, same_places, lengths_on, alike_kept, Putting, putting_places, filled_none}
@@ -51,8 +51,9 @@ uncounted_less U l = record { order = omega arith; none = λ e a b. U.none e (om
 pub counted_one : {xs : List ℕ} {low hi day : ℕ} → Uncounted xs low day → day ≤ hi → (get_or xs day 0 ≡ 0 → ⊥) → FirstCounted xs low hi day
 counted_one U o h = record { before = U; to = omega arith; counted = λ a z. h z }
 
-pub counted_none : {xs : List ℕ} {low hi day : ℕ} → Uncounted xs low day → day ≤ hi + 1 → hi < day → FirstCounted xs low hi day
-counted_none U o h = record { before = U; to = o; counted = λ a z. absurd (omega arith) }
+pub counted_none : {xs : List ℕ} {low hi day : ℕ} → Uncounted xs low day → day ≡ hi + 1 → FirstCounted xs low hi (hi + 1)
+counted_none {xs} {low} {hi} U e =
+    record { before = subst (Uncounted xs low) e U; to = le_refl (hi + 1); counted = λ a z. absurd (omega arith) }
 
 -- there is one such day
 first_one : {xs : List ℕ} {low hi r r' : ℕ} → FirstCounted xs low hi r → FirstCounted xs low hi r' → r ≡ r'
@@ -67,7 +68,7 @@ pub first_exists : (xs : List ℕ) (low hi : ℕ) → low ≤ hi + 1 → (r : �
 first_exists xs low hi o = from (hi + 1 - low) low (omega arith) (uncounted_start xs low)
   where
     from : (n day : ℕ) → day + n ≡ hi + 1 → Uncounted xs low day → (r : ℕ) × FirstCounted xs low hi r
-    from zero day d U = (day, counted_none U (omega arith) (omega arith))
+    from zero day d U = (hi + 1, counted_none U (omega arith))
     from (suc n) day d U =
         ⊎_elim (λ z. from n (day + 1) (omega arith) (uncounted_next U z)) (λ c. (day, counted_one U (omega arith) c)) (same_or (get_or xs day 0) 0)
 
@@ -212,10 +213,6 @@ module _ {xs g : List ℕ} {f : Frame} {low least : ℕ} {writes : Bool} {p : Pa
 
   module _ {e total entries summed : ℕ} {new : Columns (List ℕ)} {g' : List ℕ}
       (E : EndsAt xs g least f.start low f.stop writes p old e total entries summed new g') where
-    -- what `first_counted` is asked: where the run that begins on e ends
-    pub ends_run : e ≤ f.stop → Counting xs (e + 1) f.stop
-    ends_run o = record { long = A.counts.long; order = omega arith; last = A.counts.last }
-
     module _ (o : e ≤ f.stop) where
       -- numbers that stay small
       pub ends_total : total + get_or xs e 0 ≤ most_rows
@@ -224,9 +221,6 @@ module _ {xs g : List ℕ} {f : Frame} {low least : ℕ} {writes : Bool} {p : Pa
       module _ {next : ℕ} (C : FirstCounted xs (e + 1) f.stop next) where
         run : Run xs f.stop e next
         run = record { counted = E.counted o; ends = C }
-
-        pub ends_shown : get_or g' e 0 + (f.start + 1 - p.from) * (next - e) ≤ most_windows
-        ends_shown = omega (arith, A.shown e next E.from o run, E.ahead e (le_refl e))
 
         later_sum : total + get_or xs e 0 + sum_of xs next (f.stop + 1 - next) ≤ most_rows
         later_sum =
@@ -362,10 +356,6 @@ module _ {xs g : List ℕ} {f : Frame} {low least : ℕ} {writes : Bool} {p : Pa
   module _ (starts : List ℕ) {e total entries summed : ℕ} {ends rows windows g' : List ℕ}
       (E : EndsAt xs g least f.start low f.stop writes p old e total entries summed
       (columns_of (filled_if writes f.start p.count entries starts) ends rows windows) g') where
-    -- there are places for the start column
-    pub ends_places : length starts ≡ length old.starts → StartPlaces writes p.count (p.count + entries) starts
-    ends_places same = record { order = omega arith; in_starts = λ w. omega (arith, A.room w, E.left) }
-
     pub ends_end : {empty : ℕ} {starts' : List ℕ} → least ≤ f.stop → f.stop < e → empty ≡ p.empty + (low - f.start)
         → starts' ≡ filled_if writes f.start p.count (p.count + entries - p.count) starts
         → EndsListed xs f low least writes p (record { count = p.count + entries; sum = p.sum + summed; empty = empty; from = f.start + 1 }) old

@@ -1,6 +1,6 @@
 -- What `has_room`, `find_rings` and `list_rings` return and leave (src/list.rt).
 --     room_most, room_counted     `has_room`: the columns hold the longest list; else the count decides
---     find_refused, find_room, find_done     `find_rings`: 10; room for the pass that writes; the listing
+--     find_refused, find_done     `find_rings`: 10; the listing
 --     lengths_differ, lengths_alike     `one_length`
 --     Answers, list_checked, list_refused, list_done     `list_rings`: what the checks leave; a check refuses; else what `find_rings` does
 -- Assumes nothing.
@@ -15,23 +15,22 @@ use lib.Dec.{leb, ltb, eqb}
 use borrow.Author.Tests.{leb-true, leb-false, eqb-true, le-leb, lt-ltb, le-ltb}
 use Rattle.rings.specs.Words.{◌and◌}
 use Rattle.rings.specs.Table.{Table}
-use Rattle.rings.specs.Refusals.{behind_scratch}
+use Rattle.rings.specs.Refusals.{Verdict, behind_scratch}
 use Rattle.rings.specs.Starts.{Prepared}
 use Rattle.rings.specs.Buffers.{cleared, cleared_if, scratch_on}
 use Rattle.rings.specs.Checks.{◌when◌, ◌then◌, range_check}
 use Rattle.rings.specs.declared.Query.{Query}
 use Rattle.rings.specs.declared.refusal.Refusal.{Refusal}
 use Rattle.rings.specs.declared.refusal.Refusal.TheVariants.{NoRoom}
-use Rattle.rings.specs.declared.refusal.Verdict.{Verdict}
-use Rattle.rings.specs.declared.refusal.Verdict.TheVariants.{Accepted, Refused}
 use Rattle.rings.proofs.WordLaws.{clash, and_l, and_r}
 use Rattle.rings.proofs.AcceptedLaws.{shared, scratch_kept, then_room, call_sound, call_k, call_window, call_lengths, call_scratch, window_e}
 use Rattle.listing.specs.Listing.{ListedRing, listing}
 use Rattle.listing.specs.WindowCounts.{empty_windows, windows_behind}
-use Rattle.listing.specs.ListingCall.{Columns, places_of, listing_checks, summed, listing_answer, listing_columns, listing_scratch}
+use Rattle.listing.specs.ListingCall.{Columns, places_of, listing_checks, in_all, summed, listing_answer, listing_columns, listing_scratch}
 use Rattle.listing.specs.LongestList.{longest, days_of}
 use Rattle.listing.specs.Inner.{written_of, Passing, RoomFound, Checked, Found}
 use Rattle.listing.specs.declared.Listed.{Listed}
+use Rattle.std.specs.Prelude.{Result, Ok, Err}
 use Rattle.listing.specs.declared.list.Passed.{Passed}
 use Rattle.listing.proofs.CountLaws.{listing_most}
 use Rattle.listing.proofs.ColumnLaws.{written_none}
@@ -70,14 +69,8 @@ module _ (t : Table) (q : Query) (lo hi : ℕ) where
 
   -- ---- the list
 
-  -- what the pass that writes asks
-  pub find_room : {room : Bool} {old mid : Columns (List ℕ)} {sc : List ℕ} → RoomFound t q lo hi room old mid sc → room ≡ true
-      → length ls ≤ length mid.starts
-  find_room {old = old} R f =
-      omega (arith, leb-true (length ls) (length old.starts) (sym R.answer ∙ f), ap (λ (c : Columns (List ℕ)). length c.starts) R.unwritten)
-
   module _ {room : Bool} {old mid : Columns (List ℕ)} {before sc sc₁ : List ℕ} (R : RoomFound t q lo hi room old mid sc₁) (clear : sc ≡ cleared before) where
-    pub find_refused : room ≡ false → Found t q lo hi (Listed.Refused NoRoom) old mid before sc
+    pub find_refused : room ≡ false → Found t q lo hi (Err NoRoom) old mid before sc
     unfolding listing_columns summed ◌when◌
     find_refused f =
         let l = leb-false (length ls) (length old.starts) (sym R.answer ∙ f) in
@@ -90,7 +83,7 @@ module _ (t : Table) (q : Query) (lo hi : ℕ) where
     pub find_done : room ≡ true
         → {p : Passed} {new : Columns (List ℕ)} {sc₂ : List ℕ}
         → Passing t q lo hi true p mid new sc₂
-        → Found t q lo hi (Listed.Rings p.count p.sum p.empty) old new before sc
+        → Found t q lo hi (Ok (in_all p.count p.sum p.empty)) old new before sc
     unfolding listing_columns summed ◌when◌ written_of
     find_done f {p} P =
         let W = progress_end P.whole in
@@ -99,15 +92,15 @@ module _ (t : Table) (q : Query) (lo hi : ℕ) where
               three W.counted W.summed_up P.empty_so
               ∙ sym (ap (λ (x : Bool). summed (NoRoom when x) ls (empty_windows t q lo hi)) (le-ltb (length old.starts) (length ls) fits));
           columns =
-              W.columns ∙ ap (λ (c : Columns (List ℕ)). listing_columns (Listed.Rings p.count p.sum p.empty) t q lo hi c) R.unwritten;
+              W.columns ∙ ap (λ (c : Columns (List ℕ)). listing_columns (Ok (in_all p.count p.sum p.empty)) t q lo hi c) R.unwritten;
           clear = clear;
         }
       where
         fits : length ls ≤ length old.starts
         fits = leb-true (length ls) (length old.starts) (sym R.answer ∙ f)
 
-        three : {x x' y y' z z' : ℕ} → x ≡ x' → y ≡ y' → z ≡ z' → Listed.Rings x y z ≡ Listed.Rings x' y' z'
-        three p r s = λ i. Listed.Rings (p i) (r i) (s i)
+        three : {x x' y y' z z' : ℕ} → x ≡ x' → y ≡ y' → z ≡ z' → ◌≡◌ {A = Result Listed Refusal} (Ok (in_all x y z)) (Ok (in_all x' y' z'))
+        three p r s = λ i. Ok (in_all (p i) (r i) (s i))
 
 -- ---- the call
 
@@ -129,7 +122,7 @@ zeros ls n sc true = refl
 zeros ls n sc false = refl
 
 module _ (t : Table) (q : Query) (lo hi : ℕ) (old : Columns (List ℕ)) (sc : List ℕ) where
-  abbrev pub Answers : Listed → Columns (List ℕ) → List ℕ → Type 0
+  abbrev pub Answers : Result Listed Refusal → Columns (List ℕ) → List ℕ → Type 0
   Answers r new sc' =
       (r ≡ listing_answer t q lo hi (places_of old) (length sc)) × ((new ≡ listing_columns r t q lo hi old) × (sc' ≡ listing_scratch r sc))
 
@@ -152,7 +145,7 @@ module _ (t : Table) (q : Query) (lo hi : ℕ) (old : Columns (List ℕ)) (sc : 
     answer_by h = ap (λ (w : Verdict). summed w (listing t q lo hi) (empty_windows t q lo hi)) (checks ∙ ap (λ (w : Verdict). w then room) h)
 
     -- what the checks leave
-    pub list_checked : shared t q window lengths (length sc) ≡ Accepted → Checked t q lo hi old sc
+    pub list_checked : shared t q window lengths (length sc) ≡ Ok tt → Checked t q lo hi old sc
     list_checked h =
         let d = t.days in
         let range = window_e lo hi ew (call_window d t.first t.second q window lengths (length sc) h) in
@@ -173,12 +166,12 @@ module _ (t : Table) (q : Query) (lo hi : ℕ) (old : Columns (List ℕ)) (sc : 
           enough = call_scratch d t.first t.second q window lengths (length sc) h;
         }
 
-    pub list_refused : {r : Refusal} → shared t q window lengths (length sc) ≡ Refused r → Answers (Listed.Refused r) old sc
+    pub list_refused : {r : Refusal} → shared t q window lengths (length sc) ≡ Err r → Answers (Err r) old sc
     unfolding summed listing_columns listing_scratch ◌then◌
     list_refused h = (sym (answer_by h), (refl, scratch_kept t q window lengths (length sc) sc h))
 
-    pub list_done : {r : Listed} {new : Columns (List ℕ)} {sc' : List ℕ}
-        → shared t q window lengths (length sc) ≡ Accepted
+    pub list_done : {r : Result Listed Refusal} {new : Columns (List ℕ)} {sc' : List ℕ}
+        → shared t q window lengths (length sc) ≡ Ok tt
         → Found t q lo hi r old new sc sc'
         → Answers r new sc'
     unfolding ◌then◌
@@ -187,7 +180,7 @@ module _ (t : Table) (q : Query) (lo hi : ℕ) (old : Columns (List ℕ)) (sc : 
       (
         F.columns,
         F.clear
-            ∙ sym (ap (λ (y : Listed). listing_scratch y sc) F.answer
+            ∙ sym (ap (λ (y : Result Listed Refusal). listing_scratch y sc) F.answer
             ∙ zeros (listing t q lo hi) (empty_windows t q lo hi) sc (ltb (length old.starts) (length (listing t q lo hi)))),
       ),
     )

@@ -1,3 +1,4 @@
+pub mod ResultLaws
 pub mod TightLaws
 pub mod DistinctLaws
 pub mod CountLaws

@@ -16,8 +16,10 @@ use Rattle.text.specs.Layout.{query_bytes, entry_bytes, most_rows, most_input}
 use Rattle.text.specs.Line.{lines_of, row_of, query_of}
 use Rattle.text.specs.Table.{day_of, days_of, table_read_of}
 use Rattle.text.specs.Print.{refused_line}
-use Rattle.text.specs.declared.lines.QueryRead.{QueryRead}
-use Rattle.text.specs.declared.table.TableRead.{TableRead}
+use Rattle.text.specs.declared.lines.LineError.{LineError}
+use Rattle.text.specs.declared.lines.LineError.TheVariants as line
+use Rattle.text.specs.declared.lines.Query.{Query as QueryLine}
+use Rattle.text.specs.declared.table.ReadError.{ReadError}
 use Rattle.text.proofs.ListingLaws.{listing_length}
 use Rattle.rings.specs.Table.{Table, size}
 use Rattle.rings.specs.Refusals.{rule_of, number_of, place_number, place_of}
@@ -30,11 +32,12 @@ use Rattle.rings.specs.declared.refusal.Refusal.TheVariants.{ColumnsDiffer, TooL
 use Rattle.rings.specs.declared.refusal.Refusal.TheVariants.{BadRange, BadLength, Scratch, NoRoom, BadEntry, NotInRing}
 use Rattle.listing.specs.Listing.{ListedRing, listing}
 use Rattle.listing.specs.ListingCall.{each, listing_answer}
-use Rattle.listing.specs.Program.{Outcome, found, stopped, place_line, input_line, stopped_by, unless_refused, table_of}
+use Rattle.listing.specs.Program.{Outcome, found, stopped, place_line, input_line, stopped_by, table_of}
 use Rattle.listing.specs.Program.{from_list, most_listed, program_scratch, listed, from_rows, bad_query, from_query, unless_long, outcome}
-use Rattle.listing.specs.ProgramText.{line_of, list_text, outcome_text, most_output, fitted, list_answer, list_output}
+use Rattle.listing.specs.ProgramText.{line_of, list_text, outcome_text, most_output, refused_as, fitted, list_answer, list_output}
 use Rattle.listing.specs.declared.Listed.{Listed}
-use Rattle.listing.specs.declared.Printed.{Printed}
+use Rattle.std.specs.Prelude.{Result, Ok, Err}
+use Rattle.listing.specs.declared.Refused.{Refused}
 use Rattle.listing.proofs.ReadingLaws.{lines_most, place_lines, reader_most}
 use Rattle.listing.proofs.AnswerLaws.{refused_place, rings_count, rings_most}
 
@@ -83,38 +86,38 @@ line_most : (r : Refusal) → input_line r ≤ place_of r + 2
 unfolding input_line place_of
 line_most r = place_most (rule_of r).place
 
-by_list : (t : Table) (q : Query) (lo hi : ℕ) (a : Listed)
+by_list : (t : Table) (q : Query) (lo hi : ℕ) (a : Result Listed Refusal)
     → listing_answer t q lo hi (each most_listed) program_scratch ≡ a
     → size t ≤ most_input
     → Bounded (from_list a (listing t q lo hi))
 unfolding from_list stopped_by rings_in number_in line_in
-by_list t q lo hi (Listed.Rings n sum empty) e h =
+by_list t q lo hi (Ok l) e h =
     record { rings = omega (arith, rings_count t q lo hi (sym e) refl, rings_most t q lo hi (sym e) refl); number = omega arith; line = omega arith }
-by_list t q lo hi (Listed.Refused r) e h =
+by_list t q lo hi (Err r) e h =
     stops (number_of r) (input_line r) (number_most r) (omega (arith, line_most r, refused_place t q lo hi (each most_listed) program_scratch e))
 
 rows_most : (text : List ℕ) → size (table_of text) ≤ length text
 unfolding table_of days_of
 rows_most text = omega (arith, lines_most text, length-map (lines_of text) (λ (l : List ℕ). day_of (row_of l)))
 
-by_rows : (text : List ℕ) (q : Query) (lo hi : ℕ) (r : TableRead)
+by_rows : (text : List ℕ) (q : Query) (lo hi : ℕ) (r : Result ℕ ReadError)
     → r ≡ table_read_of text most_rows most_rows most_rows
     → length text ≤ most_input
     → Bounded (from_rows r (table_of text) q lo hi)
-unfolding from_rows unless_refused listed
-by_rows text q lo hi (TableRead.Rows n) e h =
+unfolding from_rows listed
+by_rows text q lo hi (Ok n) e h =
     by_list (table_of text) q lo hi (listing_answer (table_of text) q lo hi (each most_listed) program_scratch) refl (omega (arith, rows_most text))
-by_rows text q lo hi (TableRead.BadLine n) e h = stops _ _ (omega arith) (omega (arith, reader_most n, place_lines text most_rows most_rows most_rows e))
-by_rows text q lo hi (TableRead.BadField n) e h = stops _ _ (omega arith) (omega (arith, reader_most n, place_lines text most_rows most_rows most_rows e))
-by_rows text q lo hi (TableRead.BadNumber n) e h = stops _ _ (omega arith) (omega (arith, reader_most n, place_lines text most_rows most_rows most_rows e))
-by_rows text q lo hi TableRead.NoRoom e h = stops _ _ (omega arith) (omega (arith, reader_most 0))
+by_rows text q lo hi (Err (ReadError.BadLine n)) e h = stops _ _ (omega arith) (omega (arith, reader_most n, place_lines text most_rows most_rows most_rows e))
+by_rows text q lo hi (Err (ReadError.BadField n)) e h = stops _ _ (omega arith) (omega (arith, reader_most n, place_lines text most_rows most_rows most_rows e))
+by_rows text q lo hi (Err (ReadError.BadNumber n)) e h = stops _ _ (omega arith) (omega (arith, reader_most n, place_lines text most_rows most_rows most_rows e))
+by_rows text q lo hi (Err ReadError.NoRoom) e h = stops _ _ (omega arith) (omega (arith, reader_most 0))
 
-by_query : (q : QueryRead) (text : List ℕ) → length text ≤ most_input → Bounded (from_query q text)
+by_query : (q : Result QueryLine LineError) (text : List ℕ) → length text ≤ most_input → Bounded (from_query q text)
 unfolding from_query bad_query
-by_query (QueryRead.Query k lo hi) text h = by_rows text (record { k = k }) lo hi (table_read_of text most_rows most_rows most_rows) refl h
-by_query QueryRead.BadLine text h = stops _ _ (omega arith) (omega arith)
-by_query QueryRead.BadField text h = stops _ _ (omega arith) (omega arith)
-by_query QueryRead.BadNumber text h = stops _ _ (omega arith) (omega arith)
+by_query (Ok q) text h = by_rows text (record { k = q.k }) q.from q.to (table_read_of text most_rows most_rows most_rows) refl h
+by_query (Err line.BadLine) text h = stops _ _ (omega arith) (omega arith)
+by_query (Err line.BadField) text h = stops _ _ (omega arith) (omega arith)
+by_query (Err line.BadNumber) text h = stops _ _ (omega arith) (omega arith)
 
 by_length : (input : List ℕ) (b : Bool) → ltb most_input (length input) ≡ b → Bounded (unless_long b (from_query (query_of input) (drop query_bytes input)))
 unfolding unless_long stopped_by number_of input_line
@@ -149,13 +152,13 @@ text_by : (o : Outcome)
     → Bounded o
     → (old : List ℕ) {n : ℕ} {now : List ℕ}
     → length old ≡ most_output
-    → Printed.Text n ≡ list_answer o (length old)
-    → now ≡ list_output (Printed.Text n) o old
+    → Ok n ≡ list_answer o (length old)
+    → now ≡ list_output (Ok n) o old
     → TextAnswer o n now
 unfolding list_answer list_output fitted outcome_text over
 text_by (found ls) b old {n} {now} l e w =
     let t : leb (length (list_text ls)) (length old) ≡ true = le-leb (length (list_text ls)) (length old) (omega (arith, fits ls b)) in
-    let q : Printed.Text n ≡ Printed.Text (length (list_text ls)) = rw t at e in
+    let q : ◌≡◌ {A = Result ℕ Refused} (Ok n) (Ok (length (list_text ls))) = rw t at e in
     let m : n ≡ length (list_text ls) = cc in
     record {
       room = omega (arith, ap length w, length-append (list_text ls) (drop (length (list_text ls)) old));
@@ -165,26 +168,27 @@ text_by (stopped k line) b old l e w = let z : ◌≡◌ {A = ℕ} 0 1 = cc in a
 
 refused_by : (o : Outcome)
     → Bounded o
-    → (old : List ℕ) {n line : ℕ} {now : List ℕ}
+    → (old : List ℕ) {r : Refused} {now : List ℕ}
     → length old ≡ most_output
-    → Printed.Refused n line ≡ list_answer o (length old)
-    → now ≡ list_output (Printed.Refused n line) o old
-    → RefusedAnswer o n line old now
+    → Err r ≡ list_answer o (length old)
+    → now ≡ list_output (Err r) o old
+    → RefusedAnswer o r.number r.line old now
 unfolding list_answer list_output fitted outcome_text number_in line_in
-refused_by (found ls) b old {n} {line} l e w =
+refused_by (found ls) b old {r} l e w =
     let t : leb (length (list_text ls)) (length old) ≡ true = le-leb (length (list_text ls)) (length old) (omega (arith, fits ls b)) in
-    let q : Printed.Refused n line ≡ Printed.Text (length (list_text ls)) = rw t at e in
+    let q : ◌≡◌ {A = Result ℕ Refused} (Err r) (Ok (length (list_text ls))) = rw t at e in
     let z : ◌≡◌ {A = ℕ} 0 1 = cc in absurd (omega arith)
-refused_by (stopped k at) b old {n} {line} l e w =
-    let p : n ≡ k = cc in
-    let q : line ≡ at = cc in
+refused_by (stopped k at) b old {r} l e w =
+    let same : r ≡ refused_as k at = cc in
+    let p : r.number ≡ k = ap (λ (x : Refused). x.number) same in
+    let q : r.line ≡ at = ap (λ (x : Refused). x.line) same in
     record { number = omega (arith, b.number); place = omega (arith, b.line); kept = w; is = λ i. refused_line (p i) (q i) }
 
 -- by the answer a of the list call
-module _ (input old : List ℕ) {a : Printed} {now : List ℕ} (l : length old ≡ most_output)
+module _ (input old : List ℕ) {a : Result ℕ Refused} {now : List ℕ} (l : length old ≡ most_output)
     (e : a ≡ list_answer (outcome input) (length old)) (w : now ≡ list_output a (outcome input) old) where
-  pub text_answer : {n : ℕ} → a ≡ Printed.Text n → TextAnswer (outcome input) n now
-  text_answer q = text_by (outcome input) (bounded input) old l (sym q ∙ e) (w ∙ ap (λ (x : Printed). list_output x (outcome input) old) q)
+  pub text_answer : {n : ℕ} → a ≡ Ok n → TextAnswer (outcome input) n now
+  text_answer q = text_by (outcome input) (bounded input) old l (sym q ∙ e) (w ∙ ap (λ (x : Result ℕ Refused). list_output x (outcome input) old) q)
 
-  pub refused_answer : {n line : ℕ} → a ≡ Printed.Refused n line → RefusedAnswer (outcome input) n line old now
-  refused_answer q = refused_by (outcome input) (bounded input) old l (sym q ∙ e) (w ∙ ap (λ (x : Printed). list_output x (outcome input) old) q)
+  pub refused_answer : {r : Refused} → a ≡ Err r → RefusedAnswer (outcome input) r.number r.line old now
+  refused_answer q = refused_by (outcome input) (bounded input) old l (sym q ∙ e) (w ∙ ap (λ (x : Result ℕ Refused). list_output x (outcome input) old) q)

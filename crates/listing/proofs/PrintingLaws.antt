@@ -2,8 +2,8 @@
 --     Printing, print_start, print_next, print_end    the loop that writes a line an entry
 --     put_wrote          what a call that prints leaves, where its bytes fit
 --     text_none, text_done    the answer for a listing's text, by the room that there is
---     text_of             the columns of a listing that its text is made of
---     entries_are, place_holds    what they hold
+--     columns_for ls, entries_are, place_holds    columns that hold the entries ls, and what they hold
+--     cut_at, cut_columns    the columns of a listing that its text is made of, cut at their entries
 -- Assumes nothing.
 use Prim.Native.Nat.{ℕ, zero, suc, ◌+◌, ◌*◌, ◌≤◌, ◌<◌}
 use mathlib.Core.Path.{◌≡◌, refl, sym, ap, subst, ◌∙◌}
@@ -17,7 +17,7 @@ use lib.ListN.{length, get_or, take, drop, take-append-drop, length-append, leng
 use borrow.Author.Tests.{le-leb, lt-leb}
 use Rattle.text.specs.Layout.{entry_bytes}
 use Rattle.text.specs.Print.{header, listing_line, entry_lines, listing_text, pasted, put_of, written}
-use Rattle.text.specs.declared.print.Put.{Put}
+use Rattle.std.specs.Prelude.{Option, Ok, Err}
 use Rattle.text.proofs.Tests.{pick_true}
 use Rattle.text.proofs.PasteLaws.{pasted_length, pasted_start, pasted_pasted}
 use Rattle.text.proofs.PrintLaws.{line_length}
@@ -30,9 +30,9 @@ use Rattle.listing.specs.Listing.{ListedRing, span}
 use Rattle.listing.specs.ListingCall.{Columns, with_entries}
 use Rattle.listing.specs.Program.{found}
 use Rattle.listing.specs.ProgramText.{line_of, list_text, outcome_text, refused_of, fitted, list_answer, list_output}
-use Rattle.listing.specs.ProgramSteps.{TextColumns, text_columns, entry_at, entries_at, ring_lines, Prints}
-use Rattle.listing.specs.declared.Printed.{Printed}
-use Rattle.listing.proofs.ColumnLaws.{cell}
+use Rattle.listing.specs.ProgramSteps.{TextColumns, text_columns, entry_at, entries_at, entries_of, ring_lines, Prints}
+use Rattle.listing.specs.declared.Refused.{Refused}
+use Rattle.listing.proofs.ColumnLaws.{map_at, cells}
 
 -- ---- a line an entry
 
@@ -70,43 +70,41 @@ module _ (c : TextColumns) where
       ∙ lines_more (tabulate (entry_at c) 0 i) (entry_at c i)
 
 -- the first i lines stand behind the header
-pub record Printing (c : TextColumns) (old now : List ℕ) (at i : ℕ) : Type 0 where
-  pub next : at ≡ entry_bytes * (i + 1)
+pub record Printing (c : TextColumns) (old now : List ℕ) (i : ℕ) : Type 0 where
   pub long : length now ≡ length old
   pub is : now ≡ pasted old entry_bytes (ring_lines (entries_at c i))
 
-pub put_wrote : (out : List ℕ) (at : ℕ) (bytes : List ℕ) {r : Put} {now : List ℕ}
+pub put_wrote : (out : List ℕ) (at : ℕ) (bytes : List ℕ) {r : Option ℕ} {now : List ℕ}
     → at + length bytes ≤ length out
     → r ≡ put_of out at bytes
     → now ≡ written r out at bytes
     → now ≡ pasted out at bytes
 unfolding put_of
 put_wrote out at bytes {r} h e q =
-    q ∙ ap (λ (p : Put). written p out at bytes) (e ∙ pick_true _ _ _ (le-leb (at + length bytes) (length out) h))
+    q ∙ ap (λ (p : Option ℕ). written p out at bytes) (e ∙ pick_true _ _ _ (le-leb (at + length bytes) (length out) h))
 
 module _ (c : TextColumns) where
-  pub print_start : (old : List ℕ) → Printing c old old entry_bytes 0
+  pub print_start : (old : List ℕ) → Printing c old old 0
   unfolding entries_at tabulate ring_lines entry_lines pasted
   print_start old =
       record {
-        next = refl;
         long = refl;
         is = sym (ap (λ (l : List ℕ). l ++ drop entry_bytes old) (append-nil (take entry_bytes old)) ∙ take-append-drop entry_bytes old);
       }
 
-  pub print_next : {old now now' : List ℕ} {at i n : ℕ} {r : Put} → Printing c old now at i → i < n → entry_bytes * (n + 1) ≤ length old
-      → r ≡ put_of now at (line (entry_at c i)) → now' ≡ written r now at (line (entry_at c i))
-      → Printing c old now' (at + entry_bytes) (i + 1)
-  print_next {old} {now} {now'} {at} {i} {n} p h room e q =
+  pub print_next : {old now now' : List ℕ} {i n : ℕ} {r : Option ℕ} → Printing c old now i → i < n → entry_bytes * (n + 1) ≤ length old
+      → r ≡ put_of now (entry_bytes * (i + 1)) (line (entry_at c i)) → now' ≡ written r now (entry_bytes * (i + 1)) (line (entry_at c i))
+      → Printing c old now' (i + 1)
+  print_next {old} {now} {now'} {i} {n} p h room e q =
+      let at : ℕ = entry_bytes * (i + 1) in
       let x = entry_at c i in
       let es = entries_at c i in
       let one : length (line x) ≡ entry_bytes = line_length x.start x.end (span x) x.rows in
       let all : length (ring_lines es) ≡ entry_bytes * i = lines_length es ∙ ap (λ (k : ℕ). entry_bytes * k) (entries_length c i) in
-      let fits : at + length (line x) ≤ length now = omega (arith, p.next, p.long) in
+      let fits : at + length (line x) ≤ length now = omega (arith, p.long) in
       let w : now' ≡ pasted now at (line x) = put_wrote now at (line x) fits e q in
-      let place : at ≡ entry_bytes + length (ring_lines es) = omega (arith, p.next) in
+      let place : at ≡ entry_bytes + length (ring_lines es) = omega arith in
       record {
-        next = omega (arith, p.next);
         long = ap length w ∙ pasted_length now at (line x) fits ∙ p.long;
         is =
             w
@@ -116,8 +114,8 @@ module _ (c : TextColumns) where
             ∙ ap (pasted old entry_bytes) (sym (lines_next c i));
       }
 
-  pub print_end : {old now : List ℕ} {at i n : ℕ} → Printing c old now at i → i ≤ n → n ≤ i → now ≡ pasted old entry_bytes (ring_lines (entries_at c n))
-  print_end {old} {now} {at} {i} {n} p a b = let e : i ≡ n = omega arith in subst (λ (k : ℕ). now ≡ pasted old entry_bytes (ring_lines (entries_at c k))) e p.is
+  pub print_end : {old now : List ℕ} {i n : ℕ} → Printing c old now i → i ≤ n → n ≤ i → now ≡ pasted old entry_bytes (ring_lines (entries_at c n))
+  print_end {old} {now} {i} {n} p a b = let e : i ≡ n = omega arith in subst (λ (k : ℕ). now ≡ pasted old entry_bytes (ring_lines (entries_at c k))) e p.is
 
   -- ---- the text
 
@@ -127,16 +125,16 @@ module _ (c : TextColumns) where
       listing_length (map line_of (entries_at c n))
       ∙ omega (arith, length-map (entries_at c n) line_of, entries_length c n)
 
-  pub text_none : (output : List ℕ) (n : ℕ) {a : Printed}
+  pub text_none : (output : List ℕ) (n : ℕ) {r : Refused}
       → length output < entry_bytes * (n + 1)
-      → a ≡ refused_of NoRoom
-      → Prints (found (entries_at c n)) a output output
+      → r ≡ refused_of NoRoom
+      → Prints (found (entries_at c n)) (Err r) output output
   unfolding list_answer list_output fitted refused_of
   text_none output n h e = rw e (record { answer = rw (text_size n, lt-leb (entry_bytes * (n + 1)) (length output) h); output = refl })
 
-  pub text_done : (output : List ℕ) (n : ℕ) {r : Put} {o₁ o₂ : List ℕ} → entry_bytes * (n + 1) ≤ length output
+  pub text_done : (output : List ℕ) (n : ℕ) {r : Option ℕ} {o₁ o₂ : List ℕ} → entry_bytes * (n + 1) ≤ length output
       → r ≡ put_of output 0 header → o₁ ≡ written r output 0 header → o₂ ≡ pasted o₁ entry_bytes (ring_lines (entries_at c n))
-      → Prints (found (entries_at c n)) (Printed.Text (entry_bytes * (n + 1))) output o₂
+      → Prints (found (entries_at c n)) (Ok (entry_bytes * (n + 1))) output o₂
   unfolding list_answer list_output fitted outcome_text over list_text listing_text ring_lines
   text_done output n {r} {o₁} {o₂} h e q w =
       let es = entries_at c n in
@@ -166,27 +164,38 @@ mem_get_d [] d j h = absurd (not-suc-le-zero h)
 mem_get_d (x ∷ ls) d zero h = here refl
 mem_get_d (x ∷ ls) d (suc j) h = there (mem_get_d ls d j (le_of_suc-le-suc h))
 
-abbrev pub text_of : Columns (List ℕ) → TextColumns
-text_of c = text_columns c.starts c.ends c.rows
+-- the columns that hold the entries ls and nothing behind them
+abbrev pub columns_for : List ListedRing → TextColumns
+columns_for ls = text_columns (map (λ x. x.start) ls) (map (λ x. x.end) ls) (map (λ x. x.rows) ls)
 
--- whatever numbers stand in the column behind them
-module _ (f : ListedRing → ℕ) (ls : List ListedRing) (old : Columns (List ℕ)) {c : Columns (List ℕ)} (e : c ≡ with_entries f ls old) where
-  entry_is : (j : ℕ) → j < length ls → entry_at (text_of c) j ≡ get_or ls j nothing
+module _ (ls : List ListedRing) where
+  entry_is : (j : ℕ) → j < length ls → entry_at (columns_for ls) j ≡ get_or ls j nothing
   unfolding entry_at nothing
-  entry_is j h =
-      ap (λ (x : Columns (List ℕ)). entry_at (text_of x) j) e
-      ∙ (λ i. record {
-        start = cell (λ x. x.start) ls old.starts nothing j h i;
-        end = cell (λ x. x.end) ls old.ends nothing j h i;
-        rows = cell (λ x. x.rows) ls old.rows nothing j h i;
-      })
+  entry_is j h = λ i. record {
+    start = map_at (λ x. x.start) ls nothing j h i;
+    end = map_at (λ x. x.end) ls nothing j h i;
+    rows = map_at (λ x. x.rows) ls nothing j h i;
+  }
 
-  pub entries_are : {n : ℕ} → n ≡ length ls → entries_at (text_of c) n ≡ ls
+  pub entries_are : entries_of (columns_for ls) ≡ ls
   unfolding entries_at
-  entries_are m =
-      ap (tabulate (entry_at (text_of c)) 0) m
-      ∙ tabulate_list (entry_at (text_of c)) nothing 0 ls (λ j h. ap (entry_at (text_of c)) (zero-add j) ∙ entry_is j h)
+  entries_are =
+      ap (tabulate (entry_at (columns_for ls)) 0) (length-map ls (λ x. x.start))
+      ∙ tabulate_list (entry_at (columns_for ls)) nothing 0 ls (λ j h. ap (entry_at (columns_for ls)) (zero-add j) ∙ entry_is j h)
 
   -- what holds of each entry of the listing holds of each entry of the columns
-  pub place_holds : (P : ListedRing → Type 0) → ((x : ListedRing) → Mem x ls → P x) → (j : ℕ) → j < length ls → P (entry_at (text_of c) j)
+  pub place_holds : (P : ListedRing → Type 0) → ((x : ListedRing) → Mem x ls → P x) → (j : ℕ) → j < length ls → P (entry_at (columns_for ls) j)
   place_holds P o j h = subst P (sym (entry_is j h)) (o (get_or ls j nothing) (mem_get_d ls nothing j h))
+
+-- the columns, cut at their n entries, whatever numbers stand behind them
+abbrev pub cut_at : ℕ → Columns (List ℕ) → TextColumns
+cut_at n c = text_columns (take n c.starts) (take n c.ends) (take n c.rows)
+
+pub cut_columns : (f : ListedRing → ℕ) (ls : List ListedRing) (old : Columns (List ℕ)) {c : Columns (List ℕ)} {n : ℕ}
+    → c ≡ with_entries f ls old
+    → n ≡ length ls
+    → cut_at n c ≡ columns_for ls
+cut_columns f ls old {c} {n} e m =
+    ap (cut_at n) e
+    ∙ (ap (λ (k : ℕ). cut_at k (with_entries f ls old)) m
+    ∙ (λ i. text_columns (cells (λ x. x.start) ls old.starts i) (cells (λ x. x.end) ls old.ends i) (cells (λ x. x.rows) ls old.rows i)))

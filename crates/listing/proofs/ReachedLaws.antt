@@ -24,7 +24,7 @@ use Rattle.rings.specs.Windows.{Window, windows}
 use Rattle.rings.specs.Checks.{◌when◌, ◌then◌}
 use Rattle.rings.specs.TableCheck.{day_before, row_faults, row_check, table_check}
 use Rattle.rings.specs.declared.Query.{Query}
-use Rattle.rings.specs.declared.refusal.Verdict.TheVariants.{Accepted}
+use Rattle.std.specs.Prelude.{Ok}
 use Rattle.rings.proofs.WordLaws.{and_i, or_l, or_r, count_pos, length_tabulate, get_d_tabulate}
 use Rattle.rings.proofs.ListLaws.{filter_by_yes}
 use Rattle.rings.proofs.PeelLaws.{within_refl}
@@ -102,7 +102,7 @@ module _ (lo hi : ℕ) where
   unfolding daily second_of at
   daily_second j l = get_d_tabulate (λ d. 1) lo (suc hi - lo) j 0 l
 
-  row_sound : (j before day : ℕ) → before ≤ day → 1 ≤ day → day ≤ 1024 → row_faults j before day 0 1 ≡ Accepted
+  row_sound : (j before day : ℕ) → before ≤ day → 1 ≤ day → day ≤ 1024 → row_faults j before day 0 1 ≡ Ok tt
   unfolding row_faults ◌when◌ ◌then◌ ◌and◌ ◌or◌ no
   row_sound j before day a b c = simp (le-leb 1 day b, le-leb day 1024 c, le-ltb day before a)
 
@@ -113,13 +113,13 @@ module _ (lo hi : ℕ) where
       let a : day_of (daily lo hi) j ≡ lo + j = daily_day j (omega arith) in
       let b : day_of (daily lo hi) (suc j) ≡ lo + suc j = daily_day (suc j) l in omega arith
 
-  rows_sound : 1 ≤ lo → hi ≤ 1024 → (j : ℕ) → j < suc hi - lo → row_check (daily lo hi) j ≡ Accepted
+  rows_sound : 1 ≤ lo → hi ≤ 1024 → (j : ℕ) → j < suc hi - lo → row_check (daily lo hi) j ≡ Ok tt
   unfolding row_check
   rows_sound a b j l =
       let d : day_of (daily lo hi) j ≡ lo + j = daily_day j l in
       rw (daily_first j l, daily_second j l) (row_sound j (day_before (daily lo hi) j) (day_of (daily lo hi) j) (days_rise j l) (omega arith) (omega arith))
 
-  pub daily_accepted : 1 ≤ lo → hi ≤ 1024 → table_check (daily lo hi) ≡ Accepted
+  pub daily_accepted : 1 ≤ lo → hi ≤ 1024 → table_check (daily lo hi) ≡ Ok tt
   unfolding table_check daily ◌when◌ ◌then◌ ◌and◌ no
   daily_accepted a b =
       let n : size (daily lo hi) ≡ suc hi - lo = daily_size in

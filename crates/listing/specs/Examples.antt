@@ -25,17 +25,16 @@ use Rattle.rings.specs.RecallCall.{Columns, recall_answer, recall_marks}
 use Rattle.rings.specs.Compute.{compute}
 use Rattle.rings.specs.declared.Query.{Query}
 use Rattle.rings.specs.declared.refusal.Refusal.{Refusal}
-use Rattle.rings.specs.declared.refusal.Verdict.{Verdict}
-use Rattle.rings.specs.declared.refusal.Counted.{Counted}
+use Rattle.rings.specs.Refusals.{Verdict}
 use Rattle.rings.proofs.CoreTimeLaws.{times_absent}
 use Rattle.listing.specs.Tight.{member_days, lowest, first_day, last_day, nonempty, tightest, tight}
 use Rattle.listing.specs.Listing.{ListedRing, entry_of, listing, row_sum}
 use Rattle.listing.specs.Distinct.{same_mark, same_rows, distinct, rings_of, distinct_rings}
 use Rattle.listing.specs.WindowCounts.{showing, empty_windows, windows_behind, sum}
-use Rattle.listing.specs.ListingCall.{columns_of, each, listing_checks, summed, listing_answer, listing_columns, listing_scratch, listing_report}
+use Rattle.listing.specs.ListingCall.{columns_of, each, listing_checks, in_all, summed, listing_answer, listing_columns, listing_scratch, listing_report}
 use Rattle.listing.specs.ListingCall.{listing_sum, listing_empty}
 use Rattle.listing.specs.LongestList.{longest, days_of, longest_answer}
-use Rattle.listing.specs.declared.Listed.{Listed}
+use Rattle.std.specs.Prelude.{Ok, Err}
 
 abbrev pub season : Table
 season = record { days = 1 ∷ 2 ∷ 2 ∷ 4 ∷ 5 ∷ 6 ∷ []; first = 1 ∷ 2 ∷ 1 ∷ 1 ∷ 3 ∷ 2 ∷ []; second = 2 ∷ 3 ∷ 3 ∷ 2 ∷ 4 ∷ 4 ∷ [] }
@@ -93,29 +92,29 @@ pub record StarredRows : Type 0 where
   -- "Minimal windows: row 0 [1,2]; rows 1 and 2 [1,2], [2,4]; row 3 [2,4]; rows 4 and 5 [2,6]. Eight entries"
   pub minimal : minimal_windows season two 1 6 ≡ entry 0 1 2 ∷ entry 1 1 2 ∷ entry 1 2 4 ∷ entry 2 1 2 ∷ entry 2 2 4
       ∷ entry 3 2 4 ∷ entry 4 2 6 ∷ entry 5 2 6 ∷ []
-  pub eight_places : minimal_answer season two 1 6 8 8 8 8216 ≡ Counted.Count 8
+  pub eight_places : minimal_answer season two 1 6 8 8 8 8216 ≡ Ok 8
   -- ten places: the two past the count keep their contents
   pub row_column_lem : minimal_rows (minimal_answer season two 1 6 10 10 10 8216) season two 1 6 (replicate 10 9) ≡ 0 ∷ 1 ∷ 1 ∷ 2 ∷ 2 ∷ 3 ∷ 4 ∷ 5 ∷ 9 ∷ 9 ∷ []
   pub start_column : minimal_starts (minimal_answer season two 1 6 10 10 10 8216) season two 1 6 (replicate 10 9) ≡ 1 ∷ 1 ∷ 2 ∷ 1 ∷ 2 ∷ 2 ∷ 2 ∷ 2 ∷ 9 ∷ 9 ∷ []
   pub end_column : minimal_ends (minimal_answer season two 1 6 10 10 10 8216) season two 1 6 (replicate 10 9) ≡ 2 ∷ 2 ∷ 4 ∷ 2 ∷ 4 ∷ 4 ∷ 6 ∷ 6 ∷ 9 ∷ 9 ∷ []
   -- "seven places give 10": columns kept, scratch 0
-  pub seven_places : minimal_answer season two 1 6 7 7 7 8216 ≡ Counted.Refused Refusal.NoRoom
+  pub seven_places : minimal_answer season two 1 6 7 7 7 8216 ≡ Err Refusal.NoRoom
   pub seven_report : counted_report (minimal_answer season two 1 6 7 7 7 8216) ≡ record { number = 10; place = 0; count = 0 }
   pub seven_column : minimal_rows (minimal_answer season two 1 6 7 7 7 8216) season two 1 6 (replicate 7 9) ≡ replicate 7 9
   pub seven_scratch : counted_scratch (minimal_answer season two 1 6 7 7 7 8216) (replicate 8216 9) ≡ replicate 8216 0
   -- "The five rings above, sum 21"
   pub five_rings : listing season two 1 6 ≡ listed 1 2 3 ∷ listed 1 4 4 ∷ listed 1 6 6 ∷ listed 2 4 3 ∷ listed 2 6 5 ∷ []
-  pub five_answer : listing_answer season two 1 6 (each 2048) 8216 ≡ Listed.Rings 5 21 13
-  pub five_places : listing_answer season two 1 6 (each 5) 8216 ≡ Listed.Rings 5 21 13
+  pub five_answer : listing_answer season two 1 6 (each 2048) 8216 ≡ Ok (in_all 5 21 13)
+  pub five_places : listing_answer season two 1 6 (each 5) 8216 ≡ Ok (in_all 5 21 13)
   -- six places: the one past the count keeps its contents
   pub listed_columns : listing_columns (listing_answer season two 1 6 (each 6) 8216) season two 1 6 (each (replicate 6 9))
       ≡ columns_of (1 ∷ 1 ∷ 1 ∷ 2 ∷ 2 ∷ 9 ∷ []) (2 ∷ 4 ∷ 6 ∷ 4 ∷ 6 ∷ 9 ∷ []) (3 ∷ 4 ∷ 6 ∷ 3 ∷ 5 ∷ 9 ∷ []) (2 ∷ 2 ∷ 1 ∷ 2 ∷ 1 ∷ 9 ∷ [])
   -- four places give 10 too: columns kept, scratch 0
   pub four_columns : listing_columns (listing_answer season two 1 6 (each 4) 8216) season two 1 6 (each (replicate 4 9)) ≡ each (replicate 4 9)
   pub four_scratch : listing_scratch (listing_answer season two 1 6 (each 4) 8216) (replicate 8216 9) ≡ replicate 8216 0
-  pub four_places : listing_answer season two 1 6 (each 4) 8216 ≡ Listed.Refused Refusal.NoRoom
+  pub four_places : listing_answer season two 1 6 (each 4) 8216 ≡ Err Refusal.NoRoom
   -- 02, S-1: "The new 32-bit column obeys 8 and 10 as the list's columns do": on 10 above; one place less than the others is 8, all kept
-  pub column_short : listing_answer season two 1 6 (columns_of 5 5 5 4) 8216 ≡ Listed.Refused Refusal.BadLength
+  pub column_short : listing_answer season two 1 6 (columns_of 5 5 5 4) 8216 ≡ Err Refusal.BadLength
   pub short_columns : (let old = columns_of {A = List ℕ} (replicate 5 9) (replicate 5 9) (replicate 5 9) (replicate 4 9) in
       listing_columns (listing_answer season two 1 6 (columns_of 5 5 5 4) 8216) season two 1 6 old ≡ old)
   -- "In 01's example they are 2, 2, 1, 2, 1 and 13"
@@ -127,31 +126,31 @@ pub record StarredRows : Type 0 where
   -- the same five, found without tightest windows
   pub five_distinct : distinct_rings season two 1 6 ≡ map (λ (x : ListedRing). ring season two x.start x.end) (listing season two 1 6)
   -- "k = 3: none": every window is one with no ring
-  pub k_3 : listing_answer season three 1 6 (each 2048) 8216 ≡ Listed.Rings 0 0 21
+  pub k_3 : listing_answer season three 1 6 (each 2048) 8216 ≡ Ok (in_all 0 0 21)
   pub k_3_empty : empty_windows season three 1 6 ≡ 21
   -- "k = 1: 15 rings": [3,3] alone has none, and [1,2], [2,2], [4,4], [4,5], [4,6] have a second window, with day 3
-  pub k_1 : listing_answer season one 1 6 (each 2048) 8216 ≡ Listed.Rings 15 43 1
+  pub k_1 : listing_answer season one 1 6 (each 2048) 8216 ≡ Ok (in_all 15 43 1)
   pub k_1_numbers : map (windows_behind season one 1 6) (listing season one 1 6)
       ≡ 1 ∷ 2 ∷ 1 ∷ 1 ∷ 1 ∷ 2 ∷ 1 ∷ 1 ∷ 1 ∷ 2 ∷ 2 ∷ 2 ∷ 1 ∷ 1 ∷ 1 ∷ []
   pub k_1_distinct : length (distinct_rings season one 1 6) ≡ 15
   -- "No rows: no ring"
-  pub no_rows : listing_answer empty one 1 6 (each 2048) 8192 ≡ Listed.Rings 0 0 21
+  pub no_rows : listing_answer empty one 1 6 (each 2048) 8192 ≡ Ok (in_all 0 0 21)
   -- "Rows 1 1 2 and 2 1 2, k = 2: none; k = 1: [1,1], [1,2], [2,2]"
-  pub pair_k_2 : listing_answer pair two 1 2 (each 2048) 8200 ≡ Listed.Rings 0 0 3
-  pub pair_k_1_answer : listing_answer pair one 1 2 (each 2048) 8200 ≡ Listed.Rings 3 4 0
+  pub pair_k_2 : listing_answer pair two 1 2 (each 2048) 8200 ≡ Ok (in_all 0 0 3)
+  pub pair_k_1_answer : listing_answer pair one 1 2 (each 2048) 8200 ≡ Ok (in_all 3 4 0)
   pub pair_k_1 : listing pair one 1 2 ≡ listed 1 1 1 ∷ listed 1 2 2 ∷ listed 2 2 1 ∷ []
   -- days without rows inside a run: [1,1] to [1,3] show the ring of [1,1], [1,4] to [1,6] that of [1,4], and nine windows with day 4 but not 1 that of [4,4]
   pub apart_rings : listing apart two 1 6 ≡ listed 1 1 3 ∷ listed 1 4 6 ∷ listed 4 4 3 ∷ []
   pub apart_numbers : map (windows_behind apart two 1 6) (listing apart two 1 6) ≡ 3 ∷ 3 ∷ 9 ∷ []
   pub apart_empty : empty_windows apart two 1 6 ≡ 6
   -- Window ring and Recall: the ring of [1, 4], and the same from the eight entries
-  pub ring_count : ring_answer season two 1 4 6 8216 ≡ Counted.Count 4
+  pub ring_count : ring_answer season two 1 4 6 8216 ≡ Ok 4
   pub ring_marks_lem : ring_marks (ring_answer season two 1 4 6 8216) season two 1 4 (replicate 6 9) ≡ 1 ∷ 1 ∷ 1 ∷ 1 ∷ 0 ∷ 0 ∷ []
-  pub recall : recall_answer season eight_entries 1 4 6 ≡ Verdict.Accepted
+  pub recall : recall_answer season eight_entries 1 4 6 ≡ Ok tt
   pub recall_marks_lem : recall_marks (recall_answer season eight_entries 1 4 6) season eight_entries 1 4 (replicate 6 9) ≡ 1 ∷ 1 ∷ 1 ∷ 1 ∷ 0 ∷ 0 ∷ []
   -- 1 + 2 + .. + 6; and for 1,024 days
-  pub longest_6 : longest_answer 1 6 ≡ Counted.Count 21
-  pub longest_1024 : longest_answer 1 1024 ≡ Counted.Count 524800
+  pub longest_6 : longest_answer 1 6 ≡ Ok 21
+  pub longest_1024 : longest_answer 1 1024 ≡ Ok 524800
   -- Mistake: "a row's time from its accounts alone". The accounts 1 and 2 of row 3 have 2; the row has 4, its own day
   pub own_day_accounts : tabulate (account_time season two 6 1) 1 2 ≡ 2 ∷ 2 ∷ []
   pub own_day : row_time season two 6 1 3 ≡ 4
@@ -182,12 +181,12 @@ from_start_3 : (n : ℕ) → tabulate (account_time season two 6 3) 0 (suc (suc 
 unfolding compute
 from_start_3 n = ap (λ (l : List ℕ). never ∷ never ∷ never ∷ never ∷ never ∷ l) (times_absent season two 6 3 (omega arith) 5 n (le_refl 5))
 
-column : (s : ℕ) (ls : List ℕ) → times_answer season two 1 6 s 4096 6 8216 ≡ Verdict.Accepted → tabulate (account_time season two 6 s) 0 4096 ≡ ls
+column : (s : ℕ) (ls : List ℕ) → times_answer season two 1 6 s 4096 6 8216 ≡ Ok tt → tabulate (account_time season two 6 s) 0 4096 ≡ ls
     → account_column (times_answer season two 1 6 s 4096 6 8216) season two 6 s (replicate 4096 9) ≡ ls
 unfolding account_column
 column s ls a e = ap (λ (v : Verdict). account_column v season two 6 s (replicate 4096 9)) a ∙ e
 
-accepted : (times_answer season two 1 6 1 4096 6 8216 ≡ Verdict.Accepted) × (times_answer season two 1 6 3 4096 6 8216 ≡ Verdict.Accepted)
+accepted : (times_answer season two 1 6 1 4096 6 8216 ≡ Ok tt) × (times_answer season two 1 6 3 4096 6 8216 ≡ Ok tt)
 unfolding compute
 accepted = (refl, refl)
 

@@ -27,7 +27,7 @@
 --     Ready, Passing           `pass` and `has_room`; `pass`
 --     RoomFound                `has_room`
 --     Checked, Found           `find_rings`
-use Rattle.std.specs.Prelude.{ℕ, zero, suc, ◌+◌, ◌-◌, ◌*◌, ◌≤◌, ◌<◌, ◌≡◌, Bool, true, false, length, get_or, set, leb, ltb}
+use Rattle.std.specs.Prelude.{ℕ, zero, suc, ◌+◌, ◌-◌, ◌*◌, ◌≤◌, ◌<◌, ◌≡◌, Bool, true, false, length, get_or, set, leb, ltb, Result}
 use mathlib.Core.List.{List, [], ◌++◌, map, flatten}
 use Rattle.rings.specs.Words.{◌and◌, at, tabulate, cons_if, filter_by}
 use Rattle.rings.specs.Table.{Table, size}
@@ -38,6 +38,7 @@ use Rattle.rings.specs.declared.frame.Frame.{Frame}
 use Rattle.rings.specs.Checks.{◌when◌}
 use Rattle.rings.specs.Buffers.{cleared}
 use Rattle.rings.specs.declared.Query.{Query}
+use Rattle.rings.specs.declared.refusal.Refusal.{Refusal}
 use Rattle.rings.specs.declared.refusal.Refusal.TheVariants.{NoRoom}
 use Rattle.listing.specs.Tight.{tight}
 use Rattle.listing.specs.Listing.{ListedRing, entry_of, listing, row_sum}
@@ -209,7 +210,7 @@ pub record Checked (t : Table) (q : Query) (lo hi : ℕ) (c : Columns (List ℕ)
   pub columns : OneLength c
   pub enough : 8192 + 4 * size t ≤ length scratch
 
-pub record Found (t : Table) (q : Query) (lo hi : ℕ) (r : Listed) (old new : Columns (List ℕ)) (before scratch : List ℕ) : Type 0 where
+pub record Found (t : Table) (q : Query) (lo hi : ℕ) (r : Result Listed Refusal) (old new : Columns (List ℕ)) (before scratch : List ℕ) : Type 0 where
   pub answer : r ≡ summed (NoRoom when ltb (length old.starts) (length (listing t q lo hi))) (listing t q lo hi) (empty_windows t q lo hi)
   pub columns : new ≡ listing_columns r t q lo hi old
   pub clear : scratch ≡ cleared before

@@ -6,21 +6,22 @@
 --     with_entries f ls c     the columns c with the entries ls written from place 0 on, f x windows behind the ring of x
 --     OneLength c        the columns have as many places each
 --     listing_checks      what stops the call, in order
+--     in_all n sum empty    n rings in all, the sum of their rows, and so many windows with no ring
 --     summed v ls n      the answer for a listing: its count, its sum and n windows with no ring where no check refuses
 --     listing_answer      the answer: the count, the sum of rows, and the number of windows with no ring
 --     listing_columns     the columns at exit
 --     listing_scratch     the scratch at exit
 --     listing_report a, listing_sum a, listing_empty a    the answer in numbers
-use Rattle.std.specs.Prelude.{ℕ, ◌≡◌, List, map, length, ltb, eqb}
+use Rattle.std.specs.Prelude.{ℕ, ◌≡◌, List, map, length, ltb, eqb, Result, Ok, Err}
 use Rattle.rings.specs.Words.{◌and◌, no}
 use Rattle.rings.specs.Table.{Table, size}
-use Rattle.rings.specs.Refusals.{Report, done, refused}
+use Rattle.rings.specs.Refusals.{Verdict, Report, done, refused}
 use Rattle.rings.specs.Checks.{◌when◌, ◌then◌, query_check, range_check, scratch_check}
 use Rattle.rings.specs.Buffers.{over, cleared, scratch_on}
 use Rattle.rings.specs.TableCheck.{table_check}
 use Rattle.rings.specs.declared.Query.{Query}
+use Rattle.rings.specs.declared.refusal.Refusal.{Refusal}
 use Rattle.rings.specs.declared.refusal.Refusal.TheVariants.{BadLength, NoRoom}
-use Rattle.rings.specs.declared.refusal.Verdict.{Verdict}
 use Rattle.listing.specs.Listing.{ListedRing, listing, row_sum}
 use Rattle.listing.specs.WindowCounts.{empty_windows, windows_behind}
 use Rattle.listing.specs.declared.Listed.{Listed}
@@ -61,31 +62,34 @@ listing_checks t q lo hi places scratch =
     then scratch_check (size t) scratch
     then NoRoom when ltb places.starts (length (listing t q lo hi))
 
-unfoldable pub summed : Verdict → List ListedRing → ℕ → Listed
-summed Verdict.Accepted ls n = Listed.Rings (length ls) (row_sum ls) n
-summed (Verdict.Refused r) ls n = Listed.Refused r
+abbrev pub in_all : ℕ → ℕ → ℕ → Listed
+in_all n sum empty = record { count = n; sum = sum; empty = empty }
+
+unfoldable pub summed : Verdict → List ListedRing → ℕ → Result Listed Refusal
+summed (Ok _) ls n = Ok (in_all (length ls) (row_sum ls) n)
+summed (Err r) ls n = Err r
 
 -- 01: "the count, and the sum of rows". 02: "and give the number of windows with no ring"
-unfoldable pub listing_answer : Table → Query → ℕ → ℕ → Columns ℕ → ℕ → Listed
+unfoldable pub listing_answer : Table → Query → ℕ → ℕ → Columns ℕ → ℕ → Result Listed Refusal
 listing_answer t q lo hi places scratch = summed (listing_checks t q lo hi places scratch) (listing t q lo hi) (empty_windows t q lo hi)
 
 -- 02: "For each listed ring, in list order, give the number of windows of the range whose ring it is"
-unfoldable pub listing_columns : Listed → Table → Query → ℕ → ℕ → Columns (List ℕ) → Columns (List ℕ)
-listing_columns (Listed.Rings n sum empty) t q lo hi old = with_entries (windows_behind t q lo hi) (listing t q lo hi) old
-listing_columns (Listed.Refused r) t q lo hi old = old
+unfoldable pub listing_columns : Result Listed Refusal → Table → Query → ℕ → ℕ → Columns (List ℕ) → Columns (List ℕ)
+listing_columns (Ok l) t q lo hi old = with_entries (windows_behind t q lo hi) (listing t q lo hi) old
+listing_columns (Err r) t q lo hi old = old
 
-unfoldable pub listing_scratch : Listed → List ℕ → List ℕ
-listing_scratch (Listed.Rings n sum empty) scratch = cleared scratch
-listing_scratch (Listed.Refused r) scratch = scratch_on r scratch
+unfoldable pub listing_scratch : Result Listed Refusal → List ℕ → List ℕ
+listing_scratch (Ok l) scratch = cleared scratch
+listing_scratch (Err r) scratch = scratch_on r scratch
 
-unfoldable pub listing_report : Listed → Report
-listing_report (Listed.Rings n sum empty) = done n
-listing_report (Listed.Refused r) = refused r
+unfoldable pub listing_report : Result Listed Refusal → Report
+listing_report (Ok l) = done l.count
+listing_report (Err r) = refused r
 
-unfoldable pub listing_sum : Listed → ℕ
-listing_sum (Listed.Rings n sum empty) = sum
-listing_sum (Listed.Refused r) = 0
+unfoldable pub listing_sum : Result Listed Refusal → ℕ
+listing_sum (Ok l) = l.sum
+listing_sum (Err r) = 0
 
-unfoldable pub listing_empty : Listed → ℕ
-listing_empty (Listed.Rings n sum empty) = empty
-listing_empty (Listed.Refused r) = 0
+unfoldable pub listing_empty : Result Listed Refusal → ℕ
+listing_empty (Ok l) = l.empty
+listing_empty (Err r) = 0

@@ -4,7 +4,7 @@
 --     longest_answer lo hi    the answer
 use Rattle.std.specs.Prelude.{ℕ, suc, ◌+◌, ◌*◌, ◌-◌, ◌/◌}
 use Rattle.rings.specs.Checks.{counted, range_check}
-use Rattle.rings.specs.declared.refusal.Counted.{Counted}
+use Rattle.rings.specs.Refusals.{Counted}
 
 -- 01: "n(n+1)/2 for n days, the most rings there can be"
 unfoldable pub longest : ℕ → ℕ

@@ -6,23 +6,23 @@
 --     place_line p        the input line of a place of rings, or 0
 --     input_line r        the input line of a refusal of rings, or 0
 --     stopped_by r        the outcome for it
---     unless_refused      an answer for a refusal's number and input line, or another where the number is 0
 --     table_of rows       the table that the text of the rows holds
 --     from_list           the outcome by Listing's answer
 --     most_listed         the rings that the program lists
 --     program_scratch     the numbers of its scratch
 --     listed t q lo hi   the outcome of Listing, for a table that was read
 --     from_rows           the outcome by what the reader says of the rows
---     bad_query a         the outcome for a query line that is refused
+--     bad_query e         the outcome for a query line that is refused
 --     from_query          the outcome by what the query line holds
 --     unless_long b o     the outcome o, or 2 where the input is too long
 --     outcome input      the outcome of an input
-use Rattle.std.specs.Prelude.{ℕ, zero, suc, ◌+◌, ◌*◌, Bool, true, false, List, length, drop, ltb}
+use Rattle.std.specs.Prelude.{ℕ, zero, suc, ◌+◌, ◌*◌, Bool, true, false, List, length, drop, ltb, Result, Ok, Err}
 use Rattle.text.specs.Layout.{query_bytes, most_rows, most_input}
 use Rattle.text.specs.Line.{query_of, query_number, query_place}
 use Rattle.text.specs.Table.{days_of, firsts_of, seconds_of, table_read_of, number, place}
-use Rattle.text.specs.declared.lines.QueryRead.{QueryRead}
-use Rattle.text.specs.declared.table.TableRead.{TableRead}
+use Rattle.text.specs.declared.lines.LineError.{LineError}
+use Rattle.text.specs.declared.lines.Query.{Query as QueryLine}
+use Rattle.text.specs.declared.table.ReadError.{ReadError}
 use Rattle.rings.specs.Table.{Table}
 use Rattle.rings.specs.Refusals.{rule_of, number_of}
 use Rattle.rings.specs.declared.Query.{Query}
@@ -58,17 +58,12 @@ input_line r = place_line (rule_of r).place
 unfoldable pub stopped_by : Refusal → Outcome
 stopped_by r = stopped (number_of r) (input_line r)
 
--- 01: "the refusal number (0 for none)"
-unfoldable pub unless_refused : {A : Type 0} → (ℕ → ℕ → A) → ℕ → ℕ → A → A
-unless_refused refused zero line other = other
-unless_refused refused (suc n) line other = refused (suc n) line
-
 unfoldable pub table_of : List ℕ → Table
 table_of rows = record { days = days_of rows; first = firsts_of rows; second = seconds_of rows }
 
-unfoldable pub from_list : Listed → List ListedRing → Outcome
-from_list (Listed.Rings n sum empty) ls = found ls
-from_list (Listed.Refused r) ls = stopped_by r
+unfoldable pub from_list : Result Listed Refusal → List ListedRing → Outcome
+from_list (Ok l) ls = found ls
+from_list (Err r) ls = stopped_by r
 
 -- 01: "then lists into columns of 2,048"
 abbrev pub most_listed : ℕ
@@ -81,19 +76,18 @@ program_scratch = 8192 + 4 * most_rows
 unfoldable pub listed : Table → Query → ℕ → ℕ → Outcome
 listed t q lo hi = from_list (listing_answer t q lo hi (each most_listed) program_scratch) (listing t q lo hi)
 
-unfoldable pub from_rows : TableRead → Table → Query → ℕ → ℕ → Outcome
-from_rows a t q lo hi = unless_refused stopped (number a) (reader_line (place a)) (listed t q lo hi)
+unfoldable pub from_rows : Result ℕ ReadError → Table → Query → ℕ → ℕ → Outcome
+from_rows (Ok n) t q lo hi = listed t q lo hi
+from_rows (Err e) t q lo hi = stopped (number (Err e)) (reader_line (place (Err e)))
 
-unfoldable pub bad_query : QueryRead → Outcome
-bad_query a = stopped (query_number a) (query_place a)
+unfoldable pub bad_query : LineError → Outcome
+bad_query e = stopped (query_number (Err e)) (query_place (Err e))
 
 -- 01: "It reads the query line first (11, 12, 13 at line 1; 11 when input is empty), then the rows". 18,448 bytes hold a query and 1,024 rows:
 -- there is room for them
-unfoldable pub from_query : QueryRead → List ℕ → Outcome
-from_query (QueryRead.Query k lo hi) rows = from_rows (table_read_of rows most_rows most_rows most_rows) (table_of rows) (record { k = k }) lo hi
-from_query QueryRead.BadLine rows = bad_query QueryRead.BadLine
-from_query QueryRead.BadField rows = bad_query QueryRead.BadField
-from_query QueryRead.BadNumber rows = bad_query QueryRead.BadNumber
+unfoldable pub from_query : Result QueryLine LineError → List ℕ → Outcome
+from_query (Ok q) rows = from_rows (table_read_of rows most_rows most_rows most_rows) (table_of rows) (record { k = q.k }) q.from q.to
+from_query (Err e) rows = bad_query e
 
 -- 01: "Over 18,448 bytes: refusal 2, place 0, before any line is read"
 unfoldable pub unless_long : Bool → Outcome → Outcome

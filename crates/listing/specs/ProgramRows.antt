@@ -9,7 +9,7 @@
 --     compute_program    a theorem that says `unfolding compute_program` computes with every definition of the program
 --     ProgramRows        the table: a field for each row
 --     program_rows_hold  the theorem
-use Rattle.std.specs.Prelude.{ℕ, ◌≡◌, refl, List, [], ◌∷◌, ◌++◌, replicate}
+use Rattle.std.specs.Prelude.{ℕ, ◌≡◌, refl, List, [], ◌∷◌, ◌++◌, replicate, Ok}
 use Rattle.text.specs.Decimal.{unblank, is_digit, all_digits, leads_well, is_numeral, value, numeral_of, field_of}
 use Rattle.text.specs.Line.{prepend, lines_of, first_line, is_whole, judged, field_at, line_as, step_as, row_of, step_at, query_of}
 use Rattle.text.specs.Table.{days_of, firsts_of, seconds_of, judged_from, table_read_of}
@@ -19,11 +19,10 @@ use Rattle.rings.specs.Compute.{compute}
 use Rattle.listing.specs.Tight.{member_days, lowest, first_day, last_day, nonempty, tightest, tight}
 use Rattle.listing.specs.Listing.{entry_of, listing, row_sum, span}
 use Rattle.listing.specs.ListingCall.{listing_checks, summed, listing_answer}
-use Rattle.listing.specs.Program.{found, stopped, reader_line, input_line, stopped_by, unless_refused, table_of, from_list}
+use Rattle.listing.specs.Program.{found, stopped, reader_line, input_line, stopped_by, table_of, from_list}
 use Rattle.listing.specs.Program.{listed as listed_by, from_rows, bad_query, from_query, unless_long, outcome}
 use Rattle.listing.specs.ProgramText.{line_of, list_text, outcome_text, program_text, refused_of, fitted, list_answer, list_output, printed_report}
 use Rattle.listing.specs.Examples.{listed}
-use Rattle.listing.specs.declared.Printed.{Printed}
 
 abbrev pub query : ℕ → ℕ → ℕ → List ℕ
 query k s e = five k ++ five s ++ five e ++ 10 ∷ []
@@ -49,7 +48,7 @@ unfolding
     unblank is_digit all_digits leads_well is_numeral value numeral_of field_of
     prepend lines_of first_line is_whole judged field_at line_as step_as row_of step_at query_of days_of firsts_of seconds_of judged_from table_read_of
     column_of printed listing_line entry_lines listing_text refused_line
-    reader_line input_line stopped_by unless_refused table_of from_list listed_by from_rows bad_query from_query unless_long outcome
+    reader_line input_line stopped_by table_of from_list listed_by from_rows bad_query from_query unless_long outcome
     span line_of list_text outcome_text program_text refused_of fitted list_answer list_output printed_report
 compute_program = tt
 
@@ -73,7 +72,7 @@ pub record ProgramRows : Type 0 where
   pub one_day_printed : program_text one_day_text ≡ head_line ++ line 3 3 1 3
   pub refused_printed : program_text [] ≡ 114 ∷ 101 ∷ 102 ∷ 117 ∷ 115 ∷ 101 ∷ 100 ∷ 32 ∷ 32 ∷ 32 ∷ 49 ∷ 49 ∷ six 1 ++ 10 ∷ []
   -- the list call: six lines of 22 bytes; two bytes past them are kept; one byte less leaves all of it
-  pub call : list_answer (outcome season_text) 134 ≡ Printed.Text 132
+  pub call : list_answer (outcome season_text) 134 ≡ Ok 132
   pub call_output : list_output (list_answer (outcome season_text) 134) (outcome season_text) (replicate 134 9) ≡ season_list ++ 9 ∷ 9 ∷ []
   pub call_just_fits : printed_report (list_answer (outcome season_text) 132) ≡ record { number = 0; place = 0; count = 132 }
   pub call_kept : list_output (list_answer (outcome season_text) 131) (outcome season_text) (replicate 131 9) ≡ replicate 131 9

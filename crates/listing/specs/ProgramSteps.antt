@@ -1,28 +1,31 @@
 -- The listing program step by step: what its functions hand to each other.
 --     Readable text d f s    a text that is not too long, and columns for its rows
---     asked_by t q lo hi  what an input asks for, by what the reader says of its rows
+--     asked_for q lo hi n  the listing of a query over n rows
+--     unread e, bad_line e    a refusal of the reader, and that of a query line, as the program tells it
 --     rows_of a           how many rows an input has
 --     asked a d f s      the outcome of what is asked, the rows standing in front of the columns d, f, s
 --     Asks o a d f s     an input of the outcome o asks for a
 --     TextColumns        the columns of a listing that its text is made of: its starts, its ends, its rows
 --     text_columns x y z  these three
---     entry_at, entries_at    the entry at a place of these columns, and the first n
+--     entry_at, entries_at, entries_of    the entry at a place of these columns, the first n, and all of them
 --     ring_lines ls       the lines of a listing, without the header
 --     Rising c n         the columns have n entries, and each starts on day 1 or later, by its end
 --     Printable c n output    the same, and an output with room for their text
 --     Prints o a old now    the answer to an input of the outcome o, and the output, which held old
-use Rattle.std.specs.Prelude.{ℕ, ◌+◌, ◌*◌, ◌≤◌, ◌<◌, ◌≡◌, List, map, length, get_or, take}
+use Rattle.std.specs.Prelude.{ℕ, ◌+◌, ◌*◌, ◌≤◌, ◌<◌, ◌≡◌, List, map, length, get_or, take, Result, Ok, Err}
 use Rattle.text.specs.Layout.{entry_bytes, most_rows, most_input}
 use Rattle.text.specs.Print.{entry_lines}
-use Rattle.text.specs.Table.{number, place, count}
-use Rattle.text.specs.declared.table.TableRead.{TableRead}
+use Rattle.text.specs.Table.{number, place}
+use Rattle.text.specs.Line.{query_number, query_place}
+use Rattle.text.specs.declared.lines.LineError.{LineError}
+use Rattle.text.specs.declared.table.ReadError.{ReadError}
 use Rattle.rings.specs.Words.{tabulate}
 use Rattle.rings.specs.Table.{table_of}
 use Rattle.rings.specs.declared.Query.{Query}
 use Rattle.listing.specs.Listing.{ListedRing}
-use Rattle.listing.specs.Program.{Outcome, stopped, reader_line, unless_refused, most_listed, listed}
-use Rattle.listing.specs.ProgramText.{line_of, list_answer, list_output}
-use Rattle.listing.specs.declared.Printed.{Printed}
+use Rattle.listing.specs.Program.{Outcome, stopped, reader_line, most_listed, listed}
+use Rattle.listing.specs.ProgramText.{line_of, refused_as, list_answer, list_output}
+use Rattle.listing.specs.declared.Refused.{Refused}
 use Rattle.listing.specs.declared.program.Asked.{Asked}
 
 -- the columns of the program hold as many rows as an input can have
@@ -32,18 +35,24 @@ pub record Readable (text d f s : List ℕ) : Type 0 where
   pub first : length f ≡ most_rows
   pub second : length s ≡ most_rows
 
-unfoldable pub asked_by : TableRead → Query → ℕ → ℕ → Asked
-asked_by a q lo hi = unless_refused Asked.Refused (number a) (reader_line (place a)) (Asked.Rows q lo hi (count a))
+abbrev pub asked_for : Query → ℕ → ℕ → ℕ → Asked
+asked_for q lo hi n = record { query = q; ts = lo; te = hi; count = n }
 
-unfoldable pub rows_of : Asked → ℕ
-rows_of (Asked.Rows q lo hi n) = n
-rows_of (Asked.Refused number line) = 0
+abbrev pub unread : ReadError → Refused
+unread e = refused_as (number (Err e)) (reader_line (place (Err e)))
 
-unfoldable pub asked : Asked → List ℕ → List ℕ → List ℕ → Outcome
-asked (Asked.Rows q lo hi n) d f s = listed (table_of (take n d) (take n f) (take n s)) q lo hi
-asked (Asked.Refused number line) d f s = stopped number line
+abbrev pub bad_line : LineError → Refused
+bad_line e = refused_as (query_number (Err e)) (query_place (Err e))
 
-pub record Asks (o : Outcome) (a : Asked) (d f s : List ℕ) : Type 0 where
+unfoldable pub rows_of : Result Asked Refused → ℕ
+rows_of (Ok a) = a.count
+rows_of (Err r) = 0
+
+unfoldable pub asked : Result Asked Refused → List ℕ → List ℕ → List ℕ → Outcome
+asked (Ok a) d f s = listed (table_of (take a.count d) (take a.count f) (take a.count s)) a.query a.ts a.te
+asked (Err r) d f s = stopped r.number r.line
+
+pub record Asks (o : Outcome) (a : Result Asked Refused) (d f s : List ℕ) : Type 0 where
   pub most : rows_of a ≤ most_rows
   pub is : o ≡ asked a d f s
 
@@ -61,6 +70,9 @@ entry_at c i = record { start = get_or c.starts i 0; end = get_or c.ends i 0; ro
 unfoldable pub entries_at : TextColumns → ℕ → List ListedRing
 entries_at c n = tabulate (entry_at c) 0 n
 
+abbrev pub entries_of : TextColumns → List ListedRing
+entries_of c = entries_at c (length c.starts)
+
 unfoldable pub ring_lines : List ListedRing → List ℕ
 ring_lines ls = entry_lines (map line_of ls)
 
@@ -76,6 +88,6 @@ pub record Printable (c : TextColumns) (n : ℕ) (output : List ℕ) : Type 0 wh
   pub rising : Rising c n
   pub room : entry_bytes * (n + 1) ≤ length output
 
-pub record Prints (o : Outcome) (a : Printed) (old now : List ℕ) : Type 0 where
+pub record Prints (o : Outcome) (a : Result ℕ Refused) (old now : List ℕ) : Type 0 where
   pub answer : a ≡ list_answer o (length old)
   pub output : now ≡ list_output a o old

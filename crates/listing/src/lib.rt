@@ -8,19 +8,20 @@ mod program;
 pub use list::list_rings;
 pub use longest::longest_list;
 pub use program::{MOST_OUTPUT, list_text};
-pub use rings::{Counted, Query, Refusal, Verdict};
+pub use rings::{Query, Refusal};
 
-// Listing's answer: how many rings, the sum of their rows, and how many windows have no ring. Longest list answers a `Counted`.
+// What Listing finds: how many rings, the sum of their rows, and how many windows have no ring.
 #[derive(Clone, Copy)]
-pub enum Listed {
-    Rings { count: usize, sum: u64, empty: u64 },
-    Refused(Refusal),
+pub struct Listed {
+    pub count: usize,
+    pub sum: u64,
+    pub empty: u64,
 }
 
-// The answer of the listing program's work on bytes: the length of the listing text, or a refusal's number and its
-// input line, 0 where it has none.
+// A refusal as 01 prints it and as C gets it: its number, and its input line, 0 where it has none. The kinds of text's
+// and of rings' refusals end here, since both are told as numbers.
 #[derive(Clone, Copy)]
-pub enum Printed {
-    Text(usize),
-    Refused { number: u32, line: usize },
+pub struct Refused {
+    pub number: u32,
+    pub line: usize,
 }

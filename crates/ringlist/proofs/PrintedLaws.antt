@@ -12,7 +12,7 @@ use lib.Seq.{length-take-le, take_at}
 use Rattle.io.specs.Counts.{IsPrefixLen}
 use Rattle.text.specs.Layout.{refused_bytes}
 use Rattle.text.specs.Print.{refused_line, put_of, written}
-use Rattle.text.specs.declared.print.Put.{Put}
+use Rattle.std.specs.Prelude.{Option}
 use Rattle.text.proofs.PasteLaws.{pasted_length, pasted_start}
 use Rattle.text.proofs.PrintLaws.{refused_length}
 use Rattle.listing.specs.Program.{outcome}
@@ -23,7 +23,7 @@ use Rattle.listing.proofs.OutcomeLaws.{TextAnswer, RefusedAnswer}
 counts : (n : ℕ) (xs : List ℕ) → n ≤ length xs → IsPrefixLen n xs
 counts n xs h = (h, sym (length-take-le n xs h))
 
-pub prints_refused : (out : List ℕ) (n line : ℕ) {r : Put} {now : List ℕ}
+pub prints_refused : (out : List ℕ) (n line : ℕ) {r : Option ℕ} {now : List ℕ}
     → length out ≡ most_output
     → r ≡ put_of out 0 (refused_line n line)
     → now ≡ written r out 0 (refused_line n line)

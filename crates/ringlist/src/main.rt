@@ -8,17 +8,17 @@ ghost use Rattle.text.specs.Print.{refused_line};
 ghost use Rattle.listing.specs.ProgramText.{most_output, program_text};
 ghost use Rattle.listing.specs.ProgramInput.{Brought};
 
-use listing::{MOST_OUTPUT, Printed, list_text};
+use listing::{MOST_OUTPUT, Refused, list_text};
 use std::io::{Read, Result, Write, writer};
 use text::{MOST_INPUT, REFUSED_BYTES, put_refused};
 
 // The refused line.
-fn refuse(number: u32, line: usize, output: &mut [u8]) -> usize
-    requires { (number ≤ 15) × (line ≤ most_input + 2) × (length output.old ≡ most_output) }
+fn refuse(refused: Refused, output: &mut [u8]) -> usize
+    requires { (refused.number ≤ 15) × (refused.line ≤ most_input + 2) × (length output.old ≡ most_output) }
     ensures prefix_len { IsPrefixLen result output.new }
-    ensures output_after { take result output.new ≡ refused_line number line }
+    ensures output_after { take result output.new ≡ refused_line refused.number refused.line }
 {
-    put_refused(output, number as u16, line as u16);
+    put_refused(output, refused.number as u16, refused.line as u16);
     REFUSED_BYTES
 }
 
@@ -28,19 +28,15 @@ fn print(input: &[u8], output: &mut [u8]) -> usize
     ensures prefix_len { IsPrefixLen result output.new }
     ensures output_after { take result output.new ≡ program_text input.now }
 {
-    let printed = list_text(input, output);
-    match printed {
-        Printed::Text(n) => {
-            return n;
-        }
-        Printed::Refused { number, line } => {
-            return refuse(number, line, output);
-        }
+    match list_text(input, output) {
+        Ok(n) => n,
+        Err(refused) => refuse(refused, output),
     }
 }
 
 // What the program prints for the input of which a read brought so many bytes into the buffer. The buffer has one
-// byte more than an input may have: a longer one is seen to be too long, and of any other all is there.
+// byte more than an input may have: a longer one is seen to be too long, and of any other all is there. So the whole
+// buffer is handed on, with the count: its length says that it was large enough.
 fn answer(buffer: &[u8], read: usize, output: &mut [u8]) -> usize
     requires prefix_len { IsPrefixLen read buffer.now }
     requires room { (most_input < length buffer.now) × (length output.old ≡ most_output) }
@@ -55,6 +51,7 @@ fn read_full<R: Read>(reader: &mut R, buffer: &mut [u8]) -> Result<usize>
     ensures { IfOk result (λ n. IsPrefixLen n buffer.new) }
 {
     let mut done = 0;
+    // By as many bytes as each read brings, so no range counts them.
     while done < buffer.len() {
         let n = reader.read(&mut buffer[done..])?;
         if n == 0 {

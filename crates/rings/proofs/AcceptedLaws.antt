@@ -13,18 +13,17 @@ use mathlib.Core.List.{List}
 use lib.ListN.{length}
 use lib.Dec.{leb, ltb, eqb}
 use borrow.Author.Tests.{leb-true, ltb-false, eqb-true}
+use Rattle.std.specs.Prelude.{Ok, Err}
 use Rattle.rings.specs.Words.{◌and◌, no}
 use Rattle.rings.specs.Table.{Table, table_of}
 use Rattle.rings.specs.TableCheck.{table_check}
 use Rattle.rings.specs.Sound.{Sound}
 use Rattle.rings.specs.Checks.{◌when◌, ◌then◌, query_check, range_check, scratch_check}
-use Rattle.rings.specs.Refusals.{behind_scratch}
+use Rattle.rings.specs.Refusals.{behind_scratch, Verdict}
 use Rattle.rings.specs.Buffers.{cleared_if, scratch_on}
 use Rattle.rings.specs.declared.Query.{Query}
 use Rattle.rings.specs.declared.refusal.Refusal.{Refusal}
 use Rattle.rings.specs.declared.refusal.Refusal.TheVariants.{BadK, BadRange, BadLength, Scratch}
-use Rattle.rings.specs.declared.refusal.Verdict.{Verdict}
-use Rattle.rings.specs.declared.refusal.Verdict.TheVariants.{Accepted, Refused}
 use Rattle.rings.proofs.WordLaws.{and_l, and_r}
 use Rattle.rings.proofs.CheckLaws.{accepted_left, accepted_right, when_accepted, passed, front_call}
 use Rattle.rings.proofs.TableLaws.{table_sound}
@@ -40,7 +39,7 @@ unfolding scratch_on cleared_if
 scratch_on_lem r sc h = rw h
 
 pub scratch_kept : (t : Table) (q : Query) (window lengths : Bool) (n : ℕ) {r : Refusal} (sc : List ℕ)
-    → shared t q window lengths n ≡ Refused r
+    → shared t q window lengths n ≡ Err r
     → sc ≡ scratch_on r sc
 scratch_kept t q window lengths n {r} sc e =
     scratch_on_lem r sc ((front_call t q window lengths (length t.days) n).keeps r e)
@@ -49,8 +48,8 @@ scratch_kept t q window lengths n {r} sc e =
 
 then_assoc : (v w x : Verdict) → (v then w) then x ≡ v then (w then x)
 unfolding ◌then◌
-then_assoc Accepted w x = refl
-then_assoc (Refused r) w x = refl
+then_assoc (Ok _) w x = refl
+then_assoc (Err r) w x = refl
 
 pub then_room : (t : Table) (q : Query) (window lengths : Bool) (n : ℕ) (w : Verdict)
     → shared t q window lengths n then w
@@ -77,7 +76,7 @@ then_room t q window lengths n w =
 module _ (d f s : List ℕ) (q : Query) (window lengths : Bool) (scratch : ℕ)
     (e : table_check (table_of d f s) then query_check q then BadRange when no window then BadLength when no lengths
     then scratch_check (length d) scratch
-    ≡ Accepted)
+    ≡ Ok tt)
   where
     rest₁ : Verdict
     rest₁ = BadRange when no window then BadLength when no lengths then scratch_check (length d) scratch
@@ -92,7 +91,7 @@ module _ (d f s : List ℕ) (q : Query) (window lengths : Bool) (scratch : ℕ)
     pub call_sound : Sound d f s
     call_sound = table_sound d f s (accepted_left (table_check (table_of d f s)) after₁ e)
 
-    e₁ : after₁ ≡ Accepted
+    e₁ : after₁ ≡ Ok tt
     e₁ = accepted_right (table_check (table_of d f s)) after₁ e
 
     pub call_k : (1 ≤ q.k) × (q.k ≤ 4095)
@@ -103,7 +102,7 @@ module _ (d f s : List ℕ) (q : Query) (window lengths : Bool) (scratch : ℕ)
           leb-true q.k 4095 (and_r (leb 1 q.k) (leb q.k 4095) h),
         )
 
-    e₂ : BadRange when no window then BadLength when no lengths then scratch_check (length d) scratch ≡ Accepted
+    e₂ : BadRange when no window then BadLength when no lengths then scratch_check (length d) scratch ≡ Ok tt
     unfolding rest₁
     e₂ = accepted_right (query_check q) rest₁ e₁
 
@@ -111,7 +110,7 @@ module _ (d f s : List ℕ) (q : Query) (window lengths : Bool) (scratch : ℕ)
     unfolding rest₂
     call_window = passed BadRange window (accepted_left (BadRange when no window) rest₂ e₂)
 
-    e₃ : BadLength when no lengths then scratch_check (length d) scratch ≡ Accepted
+    e₃ : BadLength when no lengths then scratch_check (length d) scratch ≡ Ok tt
     unfolding rest₂
     e₃ = accepted_right (BadRange when no window) rest₂ e₂
 
@@ -137,7 +136,7 @@ window_e s e h y =
       leb-true e 1024 (and_r (leb s e) (leb e 1024) g₂),
     )
 
-pub range_e : (s e : ℕ) → range_check s e ≡ Accepted → (1 ≤ s) × (s ≤ e) × (e ≤ 1024)
+pub range_e : (s e : ℕ) → range_check s e ≡ Ok tt → (1 ≤ s) × (s ≤ e) × (e ≤ 1024)
 unfolding range_check
 range_e s e h = window_e s e refl (passed BadRange (leb 1 s and leb s e and leb e 1024) h)
 

@@ -16,6 +16,7 @@ use mathlib.Core.List.{List, [], ◌∷◌, ◌++◌, map}
 use lib.ListN.{length, get_or, take, drop, length-map}
 use lib.Dec.{eqb}
 use borrow.Author.Tests.{lt-ltb, le-leb, eq-eqb}
+use Rattle.std.specs.Prelude.{Ok}
 use Rattle.rings.specs.Words.{◌and◌, no, at, tabulate, Pairwise}
 use Rattle.rings.specs.Table.{Table, size, day_of}
 use Rattle.rings.specs.Ring.{ring, in_ring}
@@ -30,9 +31,7 @@ use Rattle.rings.specs.RecallCall.{Columns, columns_of, entry_at, comes_after, i
 use Rattle.rings.specs.RecallCall.{recall_answer, recall_marks}
 use Rattle.rings.specs.declared.Query.{Query}
 use Rattle.rings.specs.declared.refusal.Refusal.TheVariants.{BadRange, BadLength, BadEntry}
-use Rattle.rings.specs.declared.refusal.Verdict.{Verdict}
-use Rattle.rings.specs.declared.refusal.Verdict.TheVariants.{Accepted}
-use Rattle.rings.specs.declared.refusal.Counted.{Counted}
+use Rattle.rings.specs.Refusals.{Verdict}
 use Rattle.rings.proofs.WordLaws.{and_i, or_l, or_r, length_tabulate, marked_tabulate_e, marked_tabulate_i}
 use Rattle.rings.proofs.WordLaws.{same_marks}
 use Rattle.rings.proofs.ListLaws.{mem_tabulate}
@@ -107,7 +106,7 @@ entries_of es =
 
 module _ (t : Table) (q : Query) (lo hi : ℕ) (rows starts ends : List ℕ)
     (row_places start_places end_places scratch : ℕ) {n : ℕ}
-    (accepted : minimal_answer t q lo hi row_places start_places end_places scratch ≡ Counted.Count n) where
+    (accepted : minimal_answer t q lo hi row_places start_places end_places scratch ≡ Ok n) where
   counts : length (minimal_windows t q lo hi) ≡ n
   unfolding minimal_answer
   counts =
@@ -115,7 +114,7 @@ module _ (t : Table) (q : Query) (lo hi : ℕ) (rows starts ends : List ℕ)
       (length (minimal_windows t q lo hi)) n accepted).1
 
   cut : (part : Entry → ℕ) (old : List ℕ)
-      → take n (entry_column (Counted.Count n) part (minimal_windows t q lo hi) old)
+      → take n (entry_column (Ok n) part (minimal_windows t q lo hi) old)
       ≡ map part (minimal_windows t q lo hi)
   unfolding entry_column over
   cut part old =
@@ -123,9 +122,9 @@ module _ (t : Table) (q : Query) (lo hi : ℕ) (rows starts ends : List ℕ)
       ap (λ (m : ℕ). take m (map part es ++ drop (length (map part es)) old)) (sym (length-map es part ∙ counts))
       ∙ front_of (map part es) (drop (length (map part es)) old)
 
-  pub archive_written : Archive t q lo hi (take n (minimal_rows (Counted.Count n) t q lo hi rows))
-      (take n (minimal_starts (Counted.Count n) t q lo hi starts))
-      (take n (minimal_ends (Counted.Count n) t q lo hi ends))
+  pub archive_written : Archive t q lo hi (take n (minimal_rows (Ok n) t q lo hi rows))
+      (take n (minimal_starts (Ok n) t q lo hi starts))
+      (take n (minimal_ends (Ok n) t q lo hi ends))
   unfolding minimal_rows minimal_starts minimal_ends
   archive_written =
       let es = minimal_windows t q lo hi in
@@ -178,14 +177,14 @@ module _ (t : Table) (q : Query) (lo hi : ℕ) (one : 1 ≤ lo) (top : hi ≤ 10
       (tabulate_pair Before (λ j. entry_at c j) 0 (length rows) i (suc i) A.holds.in_order (omega arith)
       (omega arith) (omega arith))
 
-  entries_pass : in_order (tabulate (entry_check t c) 0 (length rows)) ≡ Accepted
+  entries_pass : in_order (tabulate (entry_check t c) 0 (length rows)) ≡ Ok tt
   unfolding entry_check
   entries_pass =
       order_accepted (entry_check t c) 0 (length rows)
       (λ i h l. passes (BadEntry i) (and_i (fits_here i (omega arith)) (in_place_lem i (omega arith))))
 
   module _ (s e : ℕ) (from : lo ≤ s) (order : s ≤ e) (to : e ≤ hi) where
-    pub archive_accepted : table_check t ≡ Accepted → recall_answer t c s e (size t) ≡ Accepted
+    pub archive_accepted : table_check t ≡ Ok tt → recall_answer t c s e (size t) ≡ Ok tt
     unfolding recall_answer range_check
     archive_accepted h =
         then_accepted (lengths then (listed then range)) h
@@ -212,7 +211,7 @@ module _ (t : Table) (q : Query) (lo hi : ℕ) (rows starts ends : List ℕ) (A 
     (s e : ℕ) (short : e < never) (from : lo ≤ s)
     (to : e ≤ hi) where
   pub archive_marks : (old : List ℕ)
-      → recall_marks Accepted t (columns_of rows starts ends) s e old ≡ marks (ring t q s e)
+      → recall_marks (Ok tt) t (columns_of rows starts ends) s e old ≡ marks (ring t q s e)
   unfolding recall_marks in_ring
   archive_marks old =
       ap marks

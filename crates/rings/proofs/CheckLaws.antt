@@ -1,13 +1,14 @@
 -- Checks in order.
 --     then_refused, then_accepted   the first check that refuses decides
 --     accepted_left, accepted_right, when_accepted, passed      what an accepted list of checks says
---     passes                        a check that is met
+--     passes, fails                 a check that is met; one that is not
 --     order_accepted, order_refused     a run of checks that all pass; one that refuses at i
 --     all_accepted                  and what an accepted run says of each
 --     Front, front_when, front_then, front_order, front_table, front_call     checks that stand before 9 or are it:
 --         their refusals keep the scratch
 --     counted_yes, counted_no       the answer of a call that counts
 --     counted_e                     what it says where it is a count
+--     handed_on                     a `?` that returns hands on the refusal
 -- Assumes nothing.
 use Prim.Native.Nat.{ℕ, zero, suc, ◌+◌, ◌*◌, ◌≤◌, ◌<◌}
 use native.Mathlib.Nat.{le_refl, eq-or-lt_of_le}
@@ -17,52 +18,55 @@ use mathlib.Core.Logic.{⊎_elim}
 use mathlib.Core.Bool.{Bool, true, false}
 use lib.Dec.{leb, ltb, eqb}
 use lib.ListN.{length}
+use Rattle.std.specs.Prelude.{Result, Ok, Err}
+use Rattle.std.specs.Result.{IsErrAnd}
 use Rattle.rings.specs.Words.{◌and◌, ◌or◌, no, tabulate}
 use Rattle.rings.specs.Table.{Table, day_of, first_of, second_of}
 use Rattle.rings.specs.Checks.{◌when◌, ◌then◌, in_order, counted, query_check, scratch_check}
-use Rattle.rings.specs.Refusals.{behind_scratch}
+use Rattle.rings.specs.Refusals.{behind_scratch, Counted, Verdict}
 use Rattle.rings.specs.TableCheck.{day_before, row_faults, row_check, table_check}
 use Rattle.rings.specs.declared.Query.{Query}
 use Rattle.rings.specs.declared.refusal.Refusal.{Refusal}
 use Rattle.rings.specs.declared.refusal.Refusal.TheVariants.{ColumnsDiffer, TooLarge, BadDay, BadAccounts}
 use Rattle.rings.specs.declared.refusal.Refusal.TheVariants.{DayFalls, BadK, BadRange, BadLength, Scratch}
-use Rattle.rings.specs.declared.refusal.Counted.{Counted}
-use Rattle.rings.specs.declared.refusal.Verdict.{Verdict}
-use Rattle.rings.specs.declared.refusal.Verdict.TheVariants.{Accepted, Refused}
 use Rattle.rings.proofs.WordLaws.{not_no}
 
-pub then_refused : {v : Verdict} (w : Verdict) {r : Refusal} → v ≡ Refused r → v then w ≡ Refused r
+pub then_refused : {v : Verdict} (w : Verdict) {r : Refusal} → v ≡ Err r → v then w ≡ Err r
 unfolding ◌then◌
 then_refused w e = rw e
 
-pub then_accepted : {v : Verdict} (w : Verdict) → v ≡ Accepted → v then w ≡ w
+pub then_accepted : {v : Verdict} (w : Verdict) → v ≡ Ok tt → v then w ≡ w
 unfolding ◌then◌
 then_accepted w e = rw e
 
-pub accepted_left : (v w : Verdict) → v then w ≡ Accepted → v ≡ Accepted
+pub accepted_left : (v w : Verdict) → v then w ≡ Ok tt → v ≡ Ok tt
 unfolding ◌then◌
-accepted_left Accepted w e = refl
-accepted_left (Refused r) w e = e
+accepted_left (Ok _) w e = refl
+accepted_left (Err r) w e = e
 
-pub accepted_right : (v w : Verdict) → v then w ≡ Accepted → w ≡ Accepted
+pub accepted_right : (v w : Verdict) → v then w ≡ Ok tt → w ≡ Ok tt
 unfolding ◌then◌
-accepted_right Accepted w e = e
-accepted_right (Refused r) w e = cc
+accepted_right (Ok _) w e = e
+accepted_right (Err r) w e = cc
 
-pub when_accepted : (r : Refusal) (b : Bool) → r when b ≡ Accepted → b ≡ false
+pub when_accepted : (r : Refusal) (b : Bool) → r when b ≡ Ok tt → b ≡ false
 unfolding ◌when◌
 when_accepted r true e = cc
 when_accepted r false e = refl
 
-pub passed : (r : Refusal) (b : Bool) → r when no b ≡ Accepted → b ≡ true
+pub passed : (r : Refusal) (b : Bool) → r when no b ≡ Ok tt → b ≡ true
 passed r b e = not_no b (when_accepted r (no b) e)
 
-pub passes : (r : Refusal) {b : Bool} → b ≡ true → r when no b ≡ Accepted
+pub passes : (r : Refusal) {b : Bool} → b ≡ true → r when no b ≡ Ok tt
 unfolding ◌when◌ no
 passes r h = rw h refl
 
-pub order_accepted : (f : ℕ → Verdict) (i n : ℕ) → ((j : ℕ) → i ≤ j → j < i + n → f j ≡ Accepted)
-    → in_order (tabulate f i n) ≡ Accepted
+pub fails : (r : Refusal) {b : Bool} → b ≡ false → r when no b ≡ Err r
+unfolding ◌when◌ no
+fails r h = rw h refl
+
+pub order_accepted : (f : ℕ → Verdict) (i n : ℕ) → ((j : ℕ) → i ≤ j → j < i + n → f j ≡ Ok tt)
+    → in_order (tabulate f i n) ≡ Ok tt
 unfolding in_order tabulate
 order_accepted f i zero h = refl
 order_accepted f i (suc n) h =
@@ -72,33 +76,33 @@ order_accepted f i (suc n) h =
 pub order_refused : (f : ℕ → Verdict) (i n j : ℕ) {r : Refusal}
     → i ≤ j
     → j < i + n
-    → ((l : ℕ) → i ≤ l → l < j → f l ≡ Accepted)
-    → f j ≡ Refused r
-    → in_order (tabulate f i n) ≡ Refused r
+    → ((l : ℕ) → i ≤ l → l < j → f l ≡ Ok tt)
+    → f j ≡ Err r
+    → in_order (tabulate f i n) ≡ Err r
 unfolding in_order tabulate
 order_refused f i zero j a b h e = absurd (omega arith)
 order_refused f i (suc n) j {r} a b h e =
-    ⊎_elim (λ q. then_refused (in_order (tabulate f (suc i) n)) (subst (λ (x : ℕ). f x ≡ Refused r) (sym q) e))
+    ⊎_elim (λ q. then_refused (in_order (tabulate f (suc i) n)) (subst (λ (x : ℕ). f x ≡ Err r) (sym q) e))
     (λ q. then_accepted (in_order (tabulate f (suc i) n)) (h i (le_refl i) q)
     ∙ order_refused f (suc i) n j q (omega arith) (λ l c d. h l (omega arith) d) e)
     (eq-or-lt_of_le a)
 
-pub all_accepted : (f : ℕ → Verdict) (i n : ℕ) → in_order (tabulate f i n) ≡ Accepted → (j : ℕ) → i ≤ j → j < i + n
-    → f j ≡ Accepted
+pub all_accepted : (f : ℕ → Verdict) (i n : ℕ) → in_order (tabulate f i n) ≡ Ok tt → (j : ℕ) → i ≤ j → j < i + n
+    → f j ≡ Ok tt
 unfolding in_order tabulate
 all_accepted f i zero h j a b = absurd (omega arith)
 all_accepted f i (suc n) h j a b =
     ⊎_elim
-    (λ q. subst (λ (x : ℕ). f x ≡ Accepted) q (accepted_left (f i) (in_order (tabulate f (suc i) n)) h))
+    (λ q. subst (λ (x : ℕ). f x ≡ Ok tt) q (accepted_left (f i) (in_order (tabulate f (suc i) n)) h))
     (λ q. all_accepted f (suc i) n (accepted_right (f i) (in_order (tabulate f (suc i) n)) h) j q (omega arith))
     (eq-or-lt_of_le a)
 
 -- ---- refusals that keep the scratch
 
 pub record Front (v : Verdict) : Type 0 where
-  pub keeps : (r : Refusal) → v ≡ Refused r → behind_scratch r ≡ false
+  pub keeps : (r : Refusal) → v ≡ Err r → behind_scratch r ≡ false
 
-front_accepted : Front Accepted
+front_accepted : Front (Ok tt)
 front_accepted = record { keeps = λ r e. cc }
 
 pub front_when : (r : Refusal) (b : Bool) → behind_scratch r ≡ false → Front (r when b)
@@ -109,8 +113,8 @@ front_when r false h = front_accepted
 
 pub front_then : (v w : Verdict) → Front v → Front w → Front (v then w)
 unfolding ◌then◌
-front_then Accepted w f g = g
-front_then (Refused r) w f g = f
+front_then (Ok _) w f g = g
+front_then (Err r) w f g = f
 
 pub front_order : (f : ℕ → Verdict) (i n : ℕ) → ((j : ℕ) → Front (f j)) → Front (in_order (tabulate f i n))
 unfolding in_order tabulate
@@ -162,23 +166,29 @@ front_call t q window lengths rows scratch =
 
 -- ---- the answer of a call that counts
 
-pub counted_yes : {v : Verdict} (n : ℕ) → v ≡ Accepted → counted v n ≡ Counted.Count n
+pub counted_yes : {v : Verdict} (n : ℕ) → v ≡ Ok tt → counted v n ≡ Ok n
 unfolding counted
 counted_yes n e = rw e
 
-pub counted_no : {v : Verdict} {r : Refusal} (n : ℕ) → v ≡ Refused r → counted v n ≡ Counted.Refused r
+pub counted_no : {v : Verdict} {r : Refusal} (n : ℕ) → v ≡ Err r → counted v n ≡ Err r
 unfolding counted
 counted_no n e = rw e
 
 count_of : Counted → ℕ
-count_of (Counted.Count n) = n
-count_of (Counted.Refused r) = 0
+count_of (Ok n) = n
+count_of (Err r) = 0
 
 is_count : Counted → Type 0
-is_count (Counted.Count n) = Unit {0}
-is_count (Counted.Refused r) = ⊥
+is_count (Ok n) = Unit {0}
+is_count (Err r) = ⊥
 
-pub counted_e : (v : Verdict) (n m : ℕ) → counted v n ≡ Counted.Count m → (v ≡ Accepted) × (n ≡ m)
+pub counted_e : (v : Verdict) (n m : ℕ) → counted v n ≡ Ok m → (v ≡ Ok tt) × (n ≡ m)
 unfolding counted count_of is_count
-counted_e Accepted n m h = (refl, ap count_of h)
-counted_e (Refused r) n m h = absurd (subst is_count (sym h) tt)
+counted_e (Ok _) n m h = (refl, ap count_of h)
+counted_e (Err r) n m h = absurd (subst is_count (sym h) tt)
+
+-- ---- what a `?` returns
+
+pub handed_on : {T : Type 0} {a : Result T Refusal} {r : Refusal} → IsErrAnd a (λ x. x ≡ r) → a ≡ Err r
+handed_on {a = Ok x} h = absurd h
+handed_on {a = Err x} h = ap Err h

@@ -28,7 +28,7 @@ use Rattle.rings.proofs.PairLaws.{count_drop}
 use Rattle.rings.proofs.LeadLaws.{lead_from, lead_test}
 use Rattle.rings.proofs.PeelLoopLaws.{Counting}
 
-module _ (d f s scratch : List ℕ) (q : Frame) (R : Ready d f s scratch q) where
+module _ (d f s scratch : List ℕ) (q : Frame) (R : Ready (table_of d f s) scratch q) where
   abbrev t : Table
   t = table_of d f s
 

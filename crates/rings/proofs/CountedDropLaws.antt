@@ -45,7 +45,7 @@ abbrev pub StillPending : List ℕ → List ℕ → List ℕ → Frame → List 
 StillPending d f g r xs new m counts =
     PendingHistogram (time_by (table_of d f g) (estimate xs) r.start r.stop) (length d) new m counts
 
-module _ (d f g scratch : List ℕ) (r : Frame) (R : ReadyPruned d f g scratch r) (xs : List ℕ)
+module _ (d f g scratch : List ℕ) (r : Frame) (R : ReadyPruned (table_of d f g) scratch r) (xs : List ℕ)
     (len : length xs ≡ 4096) {u : ℕ} (small : u < 4096)
     (E : Every (table_of d f g) (estimate xs) r.lo u scratch) (D : Days r.stop xs) (old new : ℕ)
     (en : new ≡ get_or xs u 0) (tail : ℕ) (sp₀ ws₀ : List ℕ) (counting : Bool) where
@@ -172,7 +172,7 @@ module _ (d f g scratch : List ℕ) (r : Frame) (R : ReadyPruned d f g scratch r
 
 -- what is still to be counted
 pub counted_dropping_adds : {d f g scratch : List ℕ} (xs : List ℕ) {r : Frame} {u new m : ℕ} {counts : List ℕ}
-    → ReadyPruned d f g scratch r
+    → ReadyPruned (table_of d f g) scratch r
     → u < 4096
     → Days r.stop xs
     → new ≡ get_or xs u 0

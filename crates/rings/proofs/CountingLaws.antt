@@ -7,7 +7,7 @@
 --     pending_start, pending_same, pending_has, pending_room, pending_move, pending_end    rows that move to one day
 --         are taken off theirs first, and counted there at last
 --     count_yes, count_no, pending_on_here, pending_on_else, pending_on_none     one row more; what is pending on a day
---     counted_so, counted_then, counted_added      walks with the flag for counting, one after the other
+--     counted_so, counted_then, counted_added      walks that may count, one after the other
 -- Assumes nothing.
 use Prim.Native.Nat.{ℕ, zero, suc, max, ◌+◌, ◌-◌, ◌≤◌, ◌<◌}
 use native.Mathlib.Nat.{le_refl, eq-or-lt_of_le}
@@ -67,7 +67,7 @@ module _ (t : Table) (x : ℕ → ℕ) (s hi j : ℕ) where
 -- where the times of the accounts are core times, so are those of the rows
 pub by_core : (d f g : List ℕ) (q : Query) (s te lo : ℕ)
     → Setting (table_of d f g) q s te lo
-    → {xs : List ℕ} → CoreTimesAre d f g (frame_of q s te lo) xs
+    → {xs : List ℕ} → CoreTimesAre (table_of d f g) (frame_of q s te lo) xs
     → (j : ℕ) → j < length d
     → time_by (table_of d f g) (estimate xs) s te j ≡ row_time (table_of d f g) q te s j
 by_core d f g q s te lo S {xs} C j l =
@@ -382,7 +382,7 @@ module _ (xs : List ℕ) {test : Bool} {time e more : ℕ} (w : Picked test time
       (let z = o.no y in omega arith))
       (true_or_false test)
 
--- ---- walks with the flag for counting
+-- ---- walks that may count
 
 module _ {counting : Bool} {P Q : Type 0} where
   pub counted_so : {xs xs' : List ℕ} → (P → Q) → WhereCounted counting P xs xs' → WhereCounted counting Q xs xs'
@@ -393,7 +393,7 @@ module _ {counting : Bool} {P Q : Type 0} where
   counted_then W X = record { counted = X.counted; same = λ y. X.same y ∙ W.same y }
 
 -- the rows that moved are counted at last
-pub counted_added : {counting : Bool} {A : Type 0} {g : ℕ → ℕ} {n new m : ℕ} {xs xs' xs'' : List ℕ} →
+pub counted_added : {counting : Bool} {g : ℕ → ℕ} {n new m : ℕ} {xs xs' xs'' : List ℕ} →
     WhereCounted counting (PendingHistogram g n new m xs') xs xs' → WhereCounted counting (Adding m new xs' xs'') xs' xs'' →
-    WhereCounted counting (A → Histogram g n xs'') xs xs''
-counted_added W X = record { counted = λ y a. pending_end (W.counted y) (X.counted y); same = λ y. X.same y ∙ W.same y }
+    WhereCounted counting (Histogram g n xs'') xs xs''
+counted_added W X = record { counted = λ y. pending_end (W.counted y) (X.counted y); same = λ y. X.same y ∙ W.same y }

@@ -1,5 +1,5 @@
 -- Rows by day, in a table whose days never fall.
---     BinarySearch, binary_start, binary_up, binary_down, binary_end     the loop of `rows_before`
+--     dated_before, split_of      the days are partitioned by a day, and the point of that splits the rows
 --     LinearSearch, linear_on, linear_next, linear_found, linear_end     the loop of `rows_through`
 --     span_after, span_of      the rows of a window
 --     heads_on       the heads can go on to a day, from the first rows
@@ -14,8 +14,12 @@ use mathlib.Core.Path.{sym, subst}
 use mathlib.Core.Logic.{⊎_elim}
 use mathlib.Core.List.{List}
 use lib.ListN.{length, get_or}
-use lib.Dec.{leb}
-use borrow.Author.Tests.{leb-true, leb-false}
+use lib.Dec.{leb, ltb}
+use borrow.Author.Tests.{leb-true, leb-false, ltb-true, ltb-false}
+use mathlib.Core.Bool.{true, false}
+use mathlib.Core.Path.{◌≡◌}
+use Rattle.std.specs.List.Sorted.{IsPartitionedBy, IsPartitionPoint}
+use Rattle.std.proofs.lemmas.List.Sorted.{IsPartitionedBy-ltb, IsNonDecreasingBy-from_default}
 use Rattle.rings.specs.Words.{at}
 use Rattle.rings.specs.Table.{Table, table_of, day_of, first_of, second_of, Split}
 use Rattle.rings.specs.Sound.{NeverFall, Sound}
@@ -25,6 +29,19 @@ use Rattle.rings.specs.declared.frame.Frame.{Frame}
 use Rattle.rings.specs.declared.Query.{Query}
 use Rattle.rings.proofs.TableLaws.{rising_all}
 use Rattle.rings.proofs.WordLaws.{true_or_false}
+
+-- days that never fall are partitioned by whether they are before a day
+pub dated_before : {d : List ℕ} → NeverFall d → (day : ℕ) → IsPartitionedBy (λ x. ltb x day) d
+dated_before {d} up day = IsPartitionedBy-ltb (λ x. x) d day (IsNonDecreasingBy-from_default (λ x. x) d 0 (rising_all d up))
+
+pub split_of : {d : List ℕ} {day r : ℕ} → r ≤ length d
+    → IsPartitionPoint (λ x. ltb x day ≡ true) (λ x. ltb x day ≡ false) d r → Split d day r
+split_of {d} {day} {r} within point =
+    record {
+      within = within;
+      before = λ j l. ltb-true _ _ (point.0 j 0 (omega arith) l);
+      after = λ j a b. ltb-false _ _ (point.1 j 0 a b);
+    }
 
 pub record LinearSearch (d : List ℕ) (day r : ℕ) : Type 0 where
   pub within : r ≤ length d
@@ -42,56 +59,13 @@ linear_next {d} {day} {r} S l h =
           (eq-or-lt_of_le (omega arith));
     }
 
--- the rows below low are dated before the day, those from high on are not
-pub record BinarySearch (d : List ℕ) (day low high : ℕ) : Type 0 where
-  pub ordered : low ≤ high
-  pub within : high ≤ length d
-  pub before : (j : ℕ) → j < low → get_or d j 0 < day
-  pub after : (j : ℕ) → high ≤ j → j < length d → day ≤ get_or d j 0
-
-pub binary_start : (d : List ℕ) (day : ℕ) → BinarySearch d day 0 (length d)
-binary_start d day =
-    record {
-      ordered = omega arith;
-      within = le_refl (length d);
-      before = λ j h. absurd (not-suc-le-zero h);
-      after = λ j a b. absurd (omega arith);
-    }
-
-module _ {d : List ℕ} (up : NeverFall d) {day low high middle : ℕ} (H : BinarySearch d day low high)
-    (a : low ≤ middle) (b : middle < high) where
-  pub binary_up : get_or d middle 0 < day → BinarySearch d day (middle + 1) high
-  binary_up h =
-      let w = H.within in
-      record {
-        ordered = omega arith;
-        within = w;
-        before = λ j k. let r = rising_all d up j middle (omega arith) (omega arith) in omega arith;
-        after = H.after;
-      }
-
-  pub binary_down : day ≤ get_or d middle 0 → BinarySearch d day low middle
-  binary_down h =
-      let w = H.within in
-      record {
-        ordered = a;
-        within = omega arith;
-        before = H.before;
-        after = λ j k l. let r = rising_all d up middle j k l in omega arith;
-      }
-
-pub binary_end : {d : List ℕ} {day low high : ℕ} → BinarySearch d day low high → high ≤ low → Split d day low
-binary_end {d} {day} {low} {high} H h =
-    let w = H.within in
-    let o = H.ordered in
-    record { within = omega arith; before = H.before; after = λ j a b. H.after j (omega arith) b }
-
 pub linear_found : {d : List ℕ} {day r : ℕ} → NeverFall d → LinearSearch d day r → day ≤ get_or d r 0 → Split d day r
 linear_found {d} {day} {r} up S h =
     record { within = S.within; before = S.before; after = λ j a b. le_trans h (rising_all d up r j a b) }
 
-pub linear_end : {d : List ℕ} {day r : ℕ} → LinearSearch d day r → length d ≤ r → Split d day r
-linear_end S h = record { within = S.within; before = S.before; after = λ j a b. absurd (omega arith) }
+pub linear_end : {d : List ℕ} {day r : ℕ} → LinearSearch d day r → length d ≤ r → Split d day (length d)
+linear_end {d} S h =
+    record { within = le_refl (length d); before = λ j k. S.before j (omega arith); after = λ j a b. absurd (omega arith) }
 
 -- the rows of the window [s, e]: there are none where s is the day after e
 pub span_after : {d : List ℕ} {s e lo end : ℕ} → s ≤ e + 1 → Split d s lo → Split d (e + 1) end → Span d e lo end
@@ -117,7 +91,7 @@ split_none d = record { within = omega arith; before = λ j h. absurd (not-suc-l
 
 -- the heads of an adjacency that was just made, or of one whose heads went back, go on to a day
 pub heads_on : {d f s sc : List ℕ} {day next : ℕ} → Sound d f s → Adjacency (table_of d f s) 0 sc
-    → Split d day next → HeadsAt d f s sc 0 day 0 next
+    → Split d day next → HeadsAt (table_of d f s) sc 0 day 0 next
 heads_on {d} S L N = record { sound = S; adjacency = L; ordered = omega arith; first = split_none d; last = N }
 
 pub span_of : {d : List ℕ} {s e lo end : ℕ} → s ≤ e → Split d s lo → Split d (e + 1) end → Span d e lo end
@@ -147,7 +121,7 @@ pub ready_of : {d f s scratch : List ℕ} {q : Query} {start stop lo : ℕ}
     → 1 ≤ q.k
     → stop ≤ 1024
     → Split d start lo
-    → Ready d f s scratch (frame_of q start stop lo)
+    → Ready (table_of d f s) scratch (frame_of q start stop lo)
 ready_of S L one top a = record { sound = S; adjacency = L; setting = setting_of S one top a }
 
 pub framed_of : {d f s : List ℕ} {q : Query} {start stop lo : ℕ}
@@ -155,7 +129,7 @@ pub framed_of : {d f s : List ℕ} {q : Query} {start stop lo : ℕ}
     → 1 ≤ q.k
     → stop ≤ 1024
     → Split d start lo
-    → Framed d f s (frame_of q start stop lo)
+    → Framed (table_of d f s) (frame_of q start stop lo)
 framed_of S one top a = record { sound = S; setting = setting_of S one top a }
 
 pub ready_pairs_of : {d f s scratch : List ℕ} {q : Query} {start stop lo : ℕ}
@@ -164,7 +138,7 @@ pub ready_pairs_of : {d f s scratch : List ℕ} {q : Query} {start stop lo : ℕ
     → 1 ≤ q.k
     → stop ≤ 1024
     → Split d start lo
-    → ReadyPairs d f s scratch (frame_of q start stop lo)
+    → ReadyPairs (table_of d f s) scratch (frame_of q start stop lo)
 ready_pairs_of S P one top a = record { sound = S; paired = P; setting = setting_of S one top a }
 
 pub ready_pruned_of : {d f s scratch : List ℕ} {q : Query} {start stop lo : ℕ}
@@ -173,11 +147,11 @@ pub ready_pruned_of : {d f s scratch : List ℕ} {q : Query} {start stop lo : �
     → 1 ≤ q.k
     → stop ≤ 1024
     → Split d start lo
-    → ReadyPruned d f s scratch (frame_of q start stop lo)
+    → ReadyPruned (table_of d f s) scratch (frame_of q start stop lo)
 ready_pruned_of S L one top a = record { sound = S; pruned = L; within = a.within; setting = setting_of S one top a }
 
 -- what is left of it without the adjacency
-pub ready_pruned_framed : {d f s scratch : List ℕ} {p : Frame} → ReadyPruned d f s scratch p → Framed d f s p
+pub ready_pruned_framed : {d f s scratch : List ℕ} {p : Frame} → ReadyPruned (table_of d f s) scratch p → Framed (table_of d f s) p
 ready_pruned_framed R = record { sound = R.sound; setting = R.setting }
 
 pub pruned_paired : {t : Table} {scratch : List ℕ} → PrunedAdjacency t scratch → Paired t scratch

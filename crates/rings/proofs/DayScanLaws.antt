@@ -91,7 +91,7 @@ pub record DayScanning (d f g scratch : List ℕ) (r : Frame) (xs : List ℕ) (u
   pub reading : Reading scratch u b p
   pub scanned : RowsScanned (table_of d f g) (estimate xs) r.lo r.stop c u b n above more
 
-module _ (d f g scratch : List ℕ) (r : Frame) (R : ReadyPruned d f g scratch r) (xs : List ℕ)
+module _ (d f g scratch : List ℕ) (r : Frame) (R : ReadyPruned (table_of d f g) scratch r) (xs : List ℕ)
     (len : length xs ≡ 4096) (D : Days r.stop xs) {u c : ℕ} (small : u < 4096) (top : c ≤ r.stop)
     (E : Every (table_of d f g) (estimate xs) r.lo u scratch) where
   abbrev tt : Table

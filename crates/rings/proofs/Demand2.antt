@@ -18,6 +18,7 @@ use mathlib.Core.List.{List, map}
 use lib.ListN.{length, length-map}
 use lib.Dec.{leb, ltb, eqb}
 use borrow.Author.Tests.{ltb-false}
+use Rattle.std.specs.Prelude.{Ok}
 use Rattle.rings.specs.Words.{◌and◌, no, at, marked, tabulate}
 use Rattle.rings.specs.Table.{Table, size, day_of, first_of, second_of}
 use Rattle.rings.specs.Ring.{met, IsRing, ring, members}
@@ -33,9 +34,7 @@ use Rattle.rings.specs.MinimalWindowsCall.{minimal_starts, minimal_ends}
 use Rattle.rings.specs.RecallCall.{Columns, entry_check, recall_answer, recall_marks}
 use Rattle.rings.specs.declared.Query.{Query}
 use Rattle.rings.specs.declared.refusal.Refusal.TheVariants.{BadRange, BadLength, NoRoom}
-use Rattle.rings.specs.declared.refusal.Verdict.{Verdict}
-use Rattle.rings.specs.declared.refusal.Verdict.TheVariants.{Accepted}
-use Rattle.rings.specs.declared.refusal.Counted.{Counted}
+use Rattle.rings.specs.Refusals.{Verdict, Counted}
 use Rattle.rings.proofs.WordLaws.{true_or_false, clash, length_tabulate, get_d_tabulate}
 use Rattle.rings.proofs.CheckLaws.{accepted_left, accepted_right, when_accepted, passed, counted_e}
 use Rattle.rings.proofs.RingLaws.{ring_is, ring_only, marked_in, in_marked}
@@ -110,33 +109,33 @@ pub record RecallLeft (t : Table) (q : Query) (c : Columns) (s e : ℕ) (left : 
 pub record Demand2 (t : Table) (q : Query) : Type 0 where
   -- "distinct other accounts", which a ring counts: in an accepted table each other account that shares a row of the
   -- set, once, and nothing else
-  pub others : table_check t ≡ Accepted → (m : List Bool) (u : ℕ) → DistinctOthers t m u
+  pub others : table_check t ≡ Ok tt → (m : List Bool) (u : ℕ) → DistinctOthers t m u
   -- each window has one ring (001, Definition 2): it is `ring`, by which minimal windows are defined
   pub one_ring : (s e : ℕ) → OneRing t q s e (ring t q s e)
   -- Window ring marks it and counts its rows
   pub window_ring : (s e scratch n : ℕ) (old : List ℕ)
       → (let answer = ring_answer t q s e (length old) scratch in
-      answer ≡ Counted.Count n → RingLeft t q s e n (ring_marks answer t q s e old))
+      answer ≡ Ok n → RingLeft t q s e n (ring_marks answer t q s e old))
   -- Core times writes the core time of each account and of each row
   pub core_times : (lo hi s scratch : ℕ) (accounts rows : List ℕ)
       → (let answer = times_answer t q lo hi s (length accounts) (length rows) scratch in
-      answer ≡ Accepted → TimesLeft t q hi s (account_column answer t q hi s accounts) (row_column answer t q hi s rows))
+      answer ≡ Ok tt → TimesLeft t q hi s (account_column answer t q hi s accounts) (row_column answer t q hi s rows))
   -- each range has one list of minimal windows (001, Definition 5)
   pub one_list : (lo hi : ℕ) → OneList t q lo hi (minimal_windows t q lo hi)
   -- Minimal windows counts and writes it
   pub minimal_windows_lem : (lo hi scratch n : ℕ) (rows starts ends : List ℕ)
       → (let answer = minimal_answer t q lo hi (length rows) (length starts) (length ends) scratch in
-      answer ≡ Counted.Count n
+      answer ≡ Ok n
       → WindowsLeft t q lo hi n rows starts ends
       (minimal_rows answer t q lo hi rows) (minimal_starts answer t q lo hi starts) (minimal_ends answer t q lo hi ends))
   -- a payment is in the ring of a window of the range exactly if one of its minimal windows lies inside (001, Lemma 3)
-  pub in_ring_exactly : (lo hi s e : ℕ) → range_check lo hi ≡ Accepted → lo ≤ s → s ≤ e → e ≤ hi
+  pub in_ring_exactly : (lo hi s e : ℕ) → range_check lo hi ≡ Ok tt → lo ≤ s → s ≤ e → e ≤ hi
       → (m : List Bool) → IsRing t q s e m → (es : List Entry) → IsMinimalList t q lo hi es → (j : ℕ)
       → (marked m j ≡ true) ↔ ListedInside es s e j
   -- Recall marks the rows with a listed window inside, so from that list the ring of every window of the range
   pub recall : (c : Columns) (s e : ℕ) (old : List ℕ)
       → (let answer = recall_answer t c s e (length old) in
-      answer ≡ Accepted → RecallLeft t q c s e (recall_marks answer t c s e old))
+      answer ≡ Ok tt → RecallLeft t q c s e (recall_marks answer t c s e old))
 
 -- ---- the proof
 
@@ -151,7 +150,7 @@ module _ (t : Table) (q : Query) where
 
   ring_left : (s e scratch n : ℕ) (old : List ℕ)
       → (let answer = ring_answer t q s e (length old) scratch in
-      answer ≡ Counted.Count n → RingLeft t q s e n (ring_marks answer t q s e old))
+      answer ≡ Ok n → RingLeft t q s e n (ring_marks answer t q s e old))
   unfolding ring_answer ring_marks
   ring_left s e scratch n old h =
       record {
@@ -201,7 +200,7 @@ module _ (t : Table) (q : Query) where
         (λ e a b y. row_reach_i t q hi s j e a b (in_marked t q s e j y))
         (λ e a b. marked_in t q s e j (row_reach_e t q hi s short j e a b))
 
-    module _ (accepted : table_check t ≡ Accepted) where
+    module _ (accepted : table_check t ≡ Ok tt) where
       abbrev account_times : List ℕ
       account_times = tabulate (account_time t q hi s) 0 4096
 
@@ -241,8 +240,8 @@ module _ (t : Table) (q : Query) where
 
   -- what the checks of an accepted call say
   times_passed : (lo hi s account_places row_places scratch : ℕ)
-      → times_answer t q lo hi s account_places row_places scratch ≡ Accepted
-      → (table_check t ≡ Accepted) × (hi ≤ 1024)
+      → times_answer t q lo hi s account_places row_places scratch ≡ Ok tt
+      → (table_check t ≡ Ok tt) × (hi ≤ 1024)
   unfolding times_answer
   times_passed lo hi s account_places row_places scratch h =
       let window = leb 1 lo and leb lo s and leb s hi and leb hi 1024 in
@@ -257,7 +256,7 @@ module _ (t : Table) (q : Query) where
 
   times_left : (lo hi s scratch : ℕ) (accounts rows : List ℕ)
       → (let answer = times_answer t q lo hi s (length accounts) (length rows) scratch in
-      answer ≡ Accepted → TimesLeft t q hi s (account_column answer t q hi s accounts) (row_column answer t q hi s rows))
+      answer ≡ Ok tt → TimesLeft t q hi s (account_column answer t q hi s accounts) (row_column answer t q hi s rows))
   unfolding account_column row_column
   times_left lo hi s scratch accounts rows h =
       let w = times_passed lo hi s (length accounts) (length rows) scratch h in
@@ -269,7 +268,7 @@ module _ (t : Table) (q : Query) where
   -- ---- Minimal windows
 
   windows_passed : (lo hi row_places start_places end_places scratch : ℕ)
-      → minimal_checks t q lo hi row_places start_places end_places scratch ≡ Accepted
+      → minimal_checks t q lo hi row_places start_places end_places scratch ≡ Ok tt
       → (start_places ≡ row_places) × (end_places ≡ row_places) × (length (minimal_windows t q lo hi) ≤ row_places)
   unfolding minimal_checks
   windows_passed lo hi row_places start_places end_places scratch h =
@@ -288,7 +287,7 @@ module _ (t : Table) (q : Query) where
 
   windows_left : (lo hi scratch n : ℕ) (rows starts ends : List ℕ)
       → (let answer = minimal_answer t q lo hi (length rows) (length starts) (length ends) scratch in
-      answer ≡ Counted.Count n
+      answer ≡ Ok n
       → WindowsLeft t q lo hi n rows starts ends
       (minimal_rows answer t q lo hi rows) (minimal_starts answer t q lo hi starts) (minimal_ends answer t q lo hi ends))
   unfolding minimal_answer minimal_rows minimal_starts minimal_ends entry_column
@@ -309,7 +308,7 @@ module _ (t : Table) (q : Query) where
 
   -- ---- in the ring exactly if a minimal window lies inside
 
-  exactly : (lo hi s e : ℕ) → range_check lo hi ≡ Accepted → lo ≤ s → s ≤ e → e ≤ hi
+  exactly : (lo hi s e : ℕ) → range_check lo hi ≡ Ok tt → lo ≤ s → s ≤ e → e ≤ hi
       → (m : List Bool) → IsRing t q s e m → (es : List Entry) → IsMinimalList t q lo hi es → (j : ℕ)
       → (marked m j ≡ true) ↔ ListedInside es s e j
   exactly lo hi s e range from order to m r es L j =
@@ -326,7 +325,7 @@ module _ (t : Table) (q : Query) where
 
   -- ---- Recall
 
-  recall_passed : (c : Columns) (s e places : ℕ) → recall_answer t c s e places ≡ Accepted → e ≤ 1024
+  recall_passed : (c : Columns) (s e places : ℕ) → recall_answer t c s e places ≡ Ok tt → e ≤ 1024
   unfolding recall_answer
   recall_passed c s e places h =
       let equal = eqb (length c.starts) (length c.rows) and eqb (length c.ends) (length c.rows)
@@ -360,7 +359,7 @@ module _ (t : Table) (q : Query) where
 
     recall_left : (old : List ℕ)
         → (let answer = recall_answer t c s e (length old) in
-        answer ≡ Accepted → RecallLeft t q c s e (recall_marks answer t c s e old))
+        answer ≡ Ok tt → RecallLeft t q c s e (recall_marks answer t c s e old))
     unfolding recall_marks marks
     recall_left old h =
         let top = recall_passed c s e (length old) h in

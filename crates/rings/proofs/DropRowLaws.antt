@@ -22,7 +22,7 @@ use Rattle.rings.proofs.CountingLaws.{by_out, by_core, by_later, is_time, hist_s
 use Rattle.rings.proofs.ShiftLaws.{mixed, mixed_below, mixed_from}
 
 module _ (d f g : List ℕ) (q : Query) (s te lo : ℕ) (S : Setting (table_of d f g) q s te lo) {xs : List ℕ}
-    (C : CoreTimesAre d f g (frame_of q s te lo) xs) {next : ℕ} (N : Split d (s + 1) next) where
+    (C : CoreTimesAre (table_of d f g) (frame_of q s te lo) xs) {next : ℕ} (N : Split d (s + 1) next) where
   abbrev ts : Table
   ts = table_of d f g
 

@@ -60,7 +60,7 @@ module _ (d f s : List ℕ) (S : Sound d f s) {j : ℕ} (l : j < length d) where
         ∙ ap (λ (y : ℕ). pick_other (eqb (get_or f j 0) u) (get_or f j 0) y) ec)
 
 -- `row_at`: j is the row that stands at p, a and c are its accounts
-module _ {d f s scratch : List ℕ} {u p : ℕ} (R : RowStands d f s scratch u p) {j : ℕ}
+module _ {d f s scratch : List ℕ} {u p : ℕ} (R : RowStands (table_of d f s) scratch u p) {j : ℕ}
     (ej : j ≡ get_or scratch (8192 + p) 0) where
   at_below : j < length d
   at_below = let a = R.row in omega arith
@@ -90,11 +90,11 @@ module _ {d f s scratch : List ℕ} {u p : ℕ} (R : RowStands d f s scratch u p
         }
 
 -- what `day_at` asks
-pub stands_place : {d f s scratch : List ℕ} {u p : ℕ} → RowStands d f s scratch u p → PlaceStands d scratch p
+pub stands_place : {d f s scratch : List ℕ} {u p : ℕ} → RowStands (table_of d f s) scratch u p → PlaceStands d scratch p
 stands_place R = record { place = let a = R.long in let b = R.place in omega arith; row = R.row }
 
 -- the day alone was read
-pub row_known : {d f s scratch : List ℕ} {u p : ℕ} → RowStands d f s scratch u p → (lo : ℕ) {day : ℕ}
+pub row_known : {d f s scratch : List ℕ} {u p : ℕ} → RowStands (table_of d f s) scratch u p → (lo : ℕ) {day : ℕ}
     → day ≡ get_or d (get_or scratch (8192 + p) 0) 0
     → let j = get_or scratch (8192 + p) 0 in
     RowRead (table_of d f s) scratch lo u p

@@ -115,9 +115,9 @@ module _ (d f s : List ℕ) (q : Frame) where
   rg = ring t q.query q.start q.stop
 
   -- peeling leaves those who are met in the ring
-  pub remaining_of : (scratch : List ℕ) → Ready d f s scratch q → q.start ≤ q.stop → {end : ℕ}
+  pub remaining_of : (scratch : List ℕ) → Ready (table_of d f s) scratch q → q.start ≤ q.stop → {end : ℕ}
       → Span d q.stop q.lo end → {r : Removal} {x l w : List ℕ}
-      → QueueEmpty d f s q (all_rows end) r x l w → Remaining t q x
+      → QueueEmpty (table_of d f s) q (all_rows end) r x l w → Remaining t q x
   unfolding day_of at
   remaining_of scratch R order {end} Sp {r} {x} {l} {w} Q =
       record {
@@ -134,7 +134,7 @@ module _ (d f s : List ℕ) (q : Frame) where
           (subst (λ (c : ℕ). PeelState t q 4096 c r.end r.head r.tail nothing x l w) Q.goes_on.day
           Q.goes_on.state))
 
-  module _ (W : WholeWindow d f s q) {x : List ℕ} (M : Remaining t q x) (j : ℕ) (b : j < length d) where
+  module _ (W : WholeWindow (table_of d f s) q) {x : List ℕ} (M : Remaining t q x) (j : ℕ) (b : j < length d) where
     rank_a : get_or f j 0 < 4096
     rank_a = first_small W.sound b refl
 

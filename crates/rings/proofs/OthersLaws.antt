@@ -21,12 +21,12 @@ use mathlib.Core.List.Memᴰ.{not-nil}
 use lib.ListN.{length, get_or}
 use lib.Dec.{eqb}
 use borrow.Author.Tests.{eq-eqb, ne_eqb}
+use Rattle.std.specs.Prelude.{Ok}
 use Rattle.rings.specs.Words.{◌and◌, no, at, suc_if, count, tabulate, filter_by, Pairwise}
 use Rattle.rings.specs.Words.Pairwise.{more}
 use Rattle.rings.specs.Table.{Table, size, first_of, second_of}
 use Rattle.rings.specs.Ring.{joins, neighbour, greatest, names, degree, touches, Shares, Others}
 use Rattle.rings.specs.TableCheck.{table_check}
-use Rattle.rings.specs.declared.refusal.Verdict.TheVariants.{Accepted}
 use Rattle.rings.proofs.WordLaws.{true_or_false, clash, and_i, and_l, and_r, no_i, no_e, same_truth, suc_if_yes}
 use Rattle.rings.proofs.WordLaws.{suc_if_no, count_same, count_none}
 use Rattle.rings.proofs.ListLaws.{mem_tabulate, mem_filter_by, filter_by_mem, pair_tabulate, pair_filter_by}
@@ -120,7 +120,7 @@ neighbour_named t m u v h =
 
 -- ---- an accepted table
 
-module _ (t : Table) (accepted : table_check t ≡ Accepted) where
+module _ (t : Table) (accepted : table_check t ≡ Ok tt) where
   pub accounts_rise : (j : ℕ) → j < size t → (first_of t j < second_of t j) × (second_of t j < 4096)
   unfolding first_of second_of at
   accounts_rise j l =

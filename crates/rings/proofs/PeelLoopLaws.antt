@@ -5,12 +5,13 @@
 --     tail_most, remove_queued_start, remove_queued_next, remove_queued_end    the queue
 --     remove_row_below, remove_row_place, remove_row_accounts, remove_row_old, remove_row_a_removed,
 --     remove_row_b_removed, remove_row_room_a, remove_row_room_b, remove_row_now, remove_row_left    a row leaves
---     removing_rows_start, removing_rows_next, removing_rows_end     the rows leave, from the last on
+--     removing_rows_start, removing_rows_asks, removing_rows_next, removing_rows_end     the rows leave, from the last
+--     on
 --     count_end    the neighbours
 --     removed_none, none_removed     nobody has been removed exactly where all times are 0
 --     rows_removed_of     by the two numbers alone
 -- Assumes nothing.
-use Prim.Native.Nat.{ℕ, suc, ◌-◌, ◌≤◌, ◌<◌}
+use Prim.Native.Nat.{ℕ, suc, ◌+◌, ◌-◌, ◌≤◌, ◌<◌}
 use native.Mathlib.Nat.{le_antisymm}
 use native.Mathlib.Omega.{arith}
 use mathlib.Core.Path.{◌≡◌, refl, sym, ◌∙◌, ap, subst}
@@ -77,12 +78,12 @@ same_next S ex el ew = record { times = ex ∙ S.times; left = el ∙ S.left; qu
 -- drain: the removal has gone on from m to state
 pub record RemovingQueued (d f s : List ℕ) (q : Frame) (m state : Removal) (x₀ l₀ w₀ x l w : List ℕ) : Type 0 where
   pub lengths : SameLengths x₀ l₀ w₀ x l w
-  pub goes_on : Continues d f s q m state x l w
+  pub goes_on : Continues (table_of d f s) q m state x l w
 
 -- fade: the rows from the end of state on have left
 pub record RemovingRows (d f s : List ℕ) (q : Frame) (end tail : ℕ) (x₀ l₀ w₀ x l w : List ℕ) : Type 0 where
   pub lengths : SameLengths x₀ l₀ w₀ x l w
-  pub rows_removed : RowsRemovedTo d f s q end tail x l w
+  pub rows_removed : RowsRemovedTo (table_of d f s) q end tail x l w
 
 -- count_neighbours: the rows below j have been counted
 pub record Counting (d f s : List ℕ) (q : Frame) (j end : ℕ) (l₀ l : List ℕ) : Type 0 where
@@ -103,7 +104,7 @@ pub count_end : {d f s : List ℕ} {q : Frame} {j end : ℕ} {l₀ l : List ℕ}
 count_end {d} {f} {s} {q} {l = l} C h =
     subst (λ (c : ℕ). NeighbourCounts (table_of d f s) q.lo c l) (le_antisymm C.most h) C.counted
 
-module _ (d f s scratch : List ℕ) (q : Frame) (R : Ready d f s scratch q) where
+module _ (d f s scratch : List ℕ) (q : Frame) (R : Ready (table_of d f s) scratch q) where
   abbrev t : Table
   t = table_of d f s
 
@@ -112,12 +113,12 @@ module _ (d f s scratch : List ℕ) (q : Frame) (R : Ready d f s scratch q) wher
 
   -- ---- remove_queued
 
-  pub tail_most : {b : ℕ} {m : Removal} {x l w : List ℕ} → PeelStateOf d f s q b m x l w → m.tail ≤ 4096
+  pub tail_most : {b : ℕ} {m : Removal} {x l w : List ℕ} → PeelStateOf (table_of d f s) q b m x l w → m.tail ≤ 4096
   unfolding removed_count
   tail_most {x = x} F =
       subst (λ (c : ℕ). c ≤ 4096) (sym F.queue.tail_is) (count_le (λ u. no (eqb (get_or x u 0) 0)) 4096)
 
-  pub remove_queued_start : {m : Removal} {x l w : List ℕ} → PeelStateOf d f s q 4096 m x l w
+  pub remove_queued_start : {m : Removal} {x l w : List ℕ} → PeelStateOf (table_of d f s) q 4096 m x l w
       → RemovingQueued d f s q m m x l w x l w
   remove_queued_start {m} {x} {l} {w} F =
       record { lengths = same_start x l w; goes_on = record { state = F; day = refl; end = refl } }
@@ -125,7 +126,7 @@ module _ (d f s scratch : List ℕ) (q : Frame) (R : Ready d f s scratch q) wher
   module _ {m state : Removal} {x₀ l₀ w₀ x l w : List ℕ} (D : RemovingQueued d f s q m state x₀ l₀ w₀ x l w) where
     pub remove_queued_next : {r : Removal} {x' l' w' : List ℕ} → length x' ≡ length x → length l' ≡ length l
         → length w' ≡ length w
-        → HeadWalked d f s q state r x' l' w' → RemovingQueued d f s q m r x₀ l₀ w₀ x' l' w'
+        → HeadWalked (table_of d f s) q state r x' l' w' → RemovingQueued d f s q m r x₀ l₀ w₀ x' l' w'
     remove_queued_next ex el ew W =
         record {
           lengths = same_next D.lengths ex el ew;
@@ -137,36 +138,33 @@ module _ (d f s scratch : List ℕ) (q : Frame) (R : Ready d f s scratch q) wher
               };
         }
 
-    pub remove_queued_end : state.tail ≤ state.head → QueueEmpty d f s q m state x l w
+    pub remove_queued_end : state.tail ≤ state.head → QueueEmpty (table_of d f s) q m state x l w
     remove_queued_end h = record { goes_on = D.goes_on; idle = le_antisymm D.goes_on.state.queue.in_order h }
 
   -- ---- remove_row
 
-  pub remove_row_below : {end tail : ℕ} {x l w : List ℕ} → RowRemovable d f s q end tail x l w → end - 1 < length d
+  pub remove_row_below : {j tail : ℕ} {x l w : List ℕ} → RowRemovable (table_of d f s) q (j + 1) tail x l w → j < length d
   remove_row_below L = let a = L.some in let b = L.rows_removed.row_removal.within in omega arith
 
   -- by the two numbers alone
-  pub rows_removed_of : {m : Removal} {x l w : List ℕ} → RowRemoval d f s q m x l w
-      → RowsRemovedTo d f s q m.end m.tail x l w
+  pub rows_removed_of : {m : Removal} {x l w : List ℕ} → RowRemoval (table_of d f s) q m x l w
+      → RowsRemovedTo (table_of d f s) q m.end m.tail x l w
   rows_removed_of {m} {x} {l} {w} F =
       record {
         day = m.day;
         row_removal =
             subst
-            (λ (c : ℕ). RowRemoval d f s q (record { day = m.day; end = m.end; head = c; tail = m.tail }) x l w)
+            (λ (c : ℕ). RowRemoval (table_of d f s) q (record { day = m.day; end = m.end; head = c; tail = m.tail }) x l w)
             F.idle F;
       }
 
-  module _ {end tail : ℕ} {x l w : List ℕ} (L : RowRemovable d f s q end tail x l w) {e : ℕ}
-      (day : e ≡ get_or d (end - 1) 0) where
-    abbrev j : ℕ
-    j = end - 1
-
+  module _ (j : ℕ) {tail : ℕ} {x l w : List ℕ} (L : RowRemovable (table_of d f s) q (j + 1) tail x l w) {e : ℕ}
+      (day : e ≡ get_or d j 0) where
     b : j < length d
     b = remove_row_below L
 
-    one_more : end ≡ suc j
-    one_more = let a = L.some in omega arith
+    one_more : j + 1 ≡ suc j
+    one_more = omega arith
 
     -- the state for the day of this row
     G : State 4096 e (suc j) tail tail x l w
@@ -200,14 +198,14 @@ module _ (d f s scratch : List ℕ) (q : Frame) (R : Ready d f s scratch q) wher
     pub remove_row_left : {r n : Removal} {x' l' w' : List ℕ}
         → n.day ≡ e
         → n.end ≡ j
-        → QueueEmpty d f s q n r x' l' w'
-        → RowsRemovedTo d f s q j r.tail x' l' w'
+        → QueueEmpty (table_of d f s) q n r x' l' w'
+        → RowsRemovedTo (table_of d f s) q j r.tail x' l' w'
     unfolding day_of at
     remove_row_left {r} {n} {x'} {l'} {w'} ed en Q =
-        subst (λ (c : ℕ). RowsRemovedTo d f s q c r.tail x' l' w') (Q.goes_on.end ∙ en)
+        subst (λ (c : ℕ). RowsRemovedTo (table_of d f s) q c r.tail x' l' w') (Q.goes_on.end ∙ en)
         (rows_removed_of (left ed en Q))
       where
-        left : n.day ≡ e → n.end ≡ j → QueueEmpty d f s q n r x' l' w' → RowRemoval d f s q r x' l' w'
+        left : n.day ≡ e → n.end ≡ j → QueueEmpty (table_of d f s) q n r x' l' w' → RowRemoval (table_of d f s) q r x' l' w'
         left ed en Q =
             let a = L.rows_removed.row_removal.within in
             let o = L.some in let g : r.end ≡ j = Q.goes_on.end ∙ en in
@@ -223,25 +221,25 @@ module _ (d f s scratch : List ℕ) (q : Frame) (R : Ready d f s scratch q) wher
             }
 
     -- it has left, and nobody fell
-    gone : State 4096 e j tail tail x l w → RowsRemovedTo d f s q j tail x l w
+    gone : State 4096 e j tail tail x l w → RowsRemovedTo (table_of d f s) q j tail x l w
     gone F =
         remove_row_left {r = record { day = e; end = j; head = tail; tail = tail }}
         {n = record { day = e; end = j; head = tail; tail = tail }} refl refl
         (record { goes_on = record { state = F; day = refl; end = refl }; idle = refl })
 
     pub remove_row_old : {y : Bool} → y ≡ leads_by scratch (length d) q.lo j → y ≡ false
-        → RowsRemovedTo d f s q j tail x l w
+        → RowsRemovedTo (table_of d f s) q j tail x l w
     remove_row_old h g = gone (remove_row_not_lead t q R.setting G e_day (lead_is h ∙ g))
 
     pub remove_row_a_removed : {a v : ℕ} → a ≡ get_or f j 0 → v ≡ get_or x a 0 → (v ≡ 0 → ⊥)
-        → RowsRemovedTo d f s q j tail x l w
+        → RowsRemovedTo (table_of d f s) q j tail x l w
     unfolding first_of at
     remove_row_a_removed {a} {v} ea ev n =
         gone (remove_row_removed t q R.setting G e_day b a
         (subst (λ (c : ℕ). touches t j c ≡ true) (sym ea) (touch_first t j)) (λ z. n (ev ∙ z)))
 
     pub remove_row_b_removed : {c v : ℕ} → c ≡ get_or s j 0 → v ≡ get_or x c 0 → (v ≡ 0 → ⊥)
-        → RowsRemovedTo d f s q j tail x l w
+        → RowsRemovedTo (table_of d f s) q j tail x l w
     unfolding second_of at
     remove_row_b_removed {c} {v} ec ev n =
         gone (remove_row_removed t q R.setting G e_day b c
@@ -289,20 +287,27 @@ module _ (d f s scratch : List ℕ) (q : Frame) (R : Ready d f s scratch q) wher
 
   -- ---- remove_rows_from_the_end
 
-  pub removing_rows_start : {m : Removal} {x l w : List ℕ} → RowRemoval d f s q m x l w
+  pub removing_rows_start : {m : Removal} {x l w : List ℕ} → RowRemoval (table_of d f s) q m x l w
       → RemovingRows d f s q m.end m.tail x l w x l w
   removing_rows_start {x = x} {l} {w} F = record { lengths = same_start x l w; rows_removed = rows_removed_of F }
 
   module _ {end tail : ℕ} {x₀ l₀ w₀ x l w : List ℕ} (F : RemovingRows d f s q end tail x₀ l₀ w₀ x l w) where
+    pub removing_rows_asks : q.lo < end → RowRemovable (table_of d f s) q (end - 1 + 1) tail x l w
+    removing_rows_asks h =
+        record {
+          rows_removed = subst (λ (c : ℕ). RowsRemovedTo (table_of d f s) q c tail x l w) (omega arith) F.rows_removed;
+          some = omega arith;
+        }
+
     pub removing_rows_next : {r : ℕ} {x' l' w' : List ℕ}
         → length x' ≡ length x
         → length l' ≡ length l
         → length w' ≡ length w
-        → RowsRemovedTo d f s q (end - 1) r x' l' w'
+        → RowsRemovedTo (table_of d f s) q (end - 1) r x' l' w'
         → RemovingRows d f s q (end - 1) r x₀ l₀ w₀ x' l' w'
     removing_rows_next ex el ew L = record { lengths = same_next F.lengths ex el ew; rows_removed = L }
 
-    pub removing_rows_end : end ≤ q.lo → CoreTimesAre d f s q x
+    pub removing_rows_end : end ≤ q.lo → CoreTimesAre (table_of d f s) q x
     removing_rows_end h =
         let now = F.rows_removed.row_removal in
         let g : end ≡ q.lo = le_antisymm h now.from in

@@ -28,7 +28,7 @@ use Rattle.rings.proofs.PeelStateLaws.{room, times_removal, queue_removal, remov
 use Rattle.rings.proofs.PeelLoopLaws.{removed_none, none_removed, QueueingLowDegree}
 use Rattle.rings.proofs.CountNeighbourLaws.{counts_for, counts_below}
 
-module _ (d f s scratch : List ℕ) (q : Frame) (R : Ready d f s scratch q) where
+module _ (d f s scratch : List ℕ) (q : Frame) (R : Ready (table_of d f s) scratch q) where
   abbrev t : Table
   t = table_of d f s
 
@@ -99,7 +99,7 @@ module _ (d f s scratch : List ℕ) (q : Frame) (R : Ready d f s scratch q) wher
       nobody : removed_count x ≡ 0
       nobody = removed_none x zero
 
-  pub low_degree_start : {end : ℕ} {x l w : List ℕ} → PeelStateOf d f s q 0 (all_rows end) x l w
+  pub low_degree_start : {end : ℕ} {x l w : List ℕ} → PeelStateOf (table_of d f s) q 0 (all_rows end) x l w
       → QueueingLowDegree d f s q 0 end 0 x w x l w
   low_degree_start {end} {x} F =
       record {
@@ -112,7 +112,7 @@ module _ (d f s scratch : List ℕ) (q : Frame) (R : Ready d f s scratch q) wher
 
   pub low_degree_end : {u end tail : ℕ} {x₀ w₀ x l w : List ℕ} → QueueingLowDegree d f s q u end tail x₀ w₀ x l w
       → 4096 ≤ u
-      → Continues d f s q (all_rows end) (record { day = never; end = end; head = 0; tail = tail }) x l w
+      → Continues (table_of d f s) q (all_rows end) (record { day = never; end = end; head = 0; tail = tail }) x l w
   low_degree_end {u} {end} {tail} {x = x} {l} {w} W h =
       record {
         state = subst (λ (c : ℕ). State c never end 0 tail x l w) (le_antisymm W.most h) W.state;
@@ -249,11 +249,11 @@ module _ (d f s scratch : List ℕ) (q : Frame) (R : Ready d f s scratch q) wher
 
     pub core_start : {x₀ l₀ x l w : List ℕ} → PeelBuffers x₀ l₀ w → x ≡ replicate (length x₀) 0
         → NeighbourCounts t q.lo end l
-        → PeelStateOf d f s q 0 (all_rows end) x l w
+        → PeelStateOf (table_of d f s) q 0 (all_rows end) x l w
     core_start {x₀} B ex C = peel_state_start x₀ B.times ex C B.queue Sp.within later_day
 
-    pub remove_rows_start : {r : Removal} {x l w : List ℕ} → QueueEmpty d f s q (all_rows end) r x l w
-        → RowRemoval d f s q r x l w
+    pub remove_rows_start : {r : Removal} {x l w : List ℕ} → QueueEmpty (table_of d f s) q (all_rows end) r x l w
+        → RowRemoval (table_of d f s) q r x l w
     unfolding day_of at
     remove_rows_start {r} Q =
         let g = Q.goes_on.end in let e = Q.goes_on.day in

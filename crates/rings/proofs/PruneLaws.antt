@@ -212,7 +212,7 @@ module _ {t : Table} {x : ℕ → ℕ} {u : ℕ} {sc₀ : List ℕ} (L : PrunedA
 pub pruning_stands : {d f s : List ℕ} {x : ℕ → ℕ} {u : ℕ} {sc₀ : List ℕ} {p end : ℕ} {sc : List ℕ} → Sound d f s
     → PrunedAdjacency (table_of d f s) sc₀
     → u < 4096 → Pruning (table_of d f s) x u sc₀ p end sc → p < get_or sc₀ u 0
-    → RowStands d f s sc u p
+    → RowStands (table_of d f s) sc u p
 pruning_stands {d} {u = u} S L small T more =
     let a = (L.pruned_list u small).to in
     record {

@@ -1,5 +1,5 @@
 -- A walk over an adjacency that may lack rows (specs/Inner/Adjacency.antt, PrunedAdjacency, Reading).
---     Seeking, seeking_start, seeking_next, seeking_found, seeking_out     where the rows from lo on begin
+--     Seeking                        where the rows from lo on begin
 --     reading_start                  a walk begins at the head
 --     reading_few                a place before the end lies in the adjacency
 --     reading_row, reading_from    the row there is one of the table's, from b on
@@ -39,38 +39,6 @@ pub record Seeking (sc : List ℕ) (u lo p : ℕ) : Type 0 where
   pub to : p ≤ get_or sc u 0
   pub before : (r : ℕ) → get_or sc (4096 + u) 0 ≤ r → r < p → get_or sc (8192 + r) 0 < lo
 
-pub seeking_start : {t : Table} {sc : List ℕ} {u p : ℕ} (lo : ℕ) → PrunedList t u sc → p ≡ get_or sc (4096 + u) 0
-    → Seeking sc u lo p
-seeking_start lo K e =
-    record { from = omega arith; to = let a = K.from in omega arith; before = λ r h k. absurd (omega arith) }
-
-pub seeking_next : {sc : List ℕ} {u lo p j : ℕ} → Seeking sc u lo p → p < get_or sc u 0 → j ≡ get_or sc (8192 + p) 0
-    → j < lo → Seeking sc u lo (p + 1)
-seeking_next {sc} G more ej h =
-    record {
-      from = let a = G.from in omega arith;
-      to = omega arith;
-      before = λ r a k.
-          ⊎_elim (λ o. let m = ap (λ (c : ℕ). get_or sc (8192 + c) 0) o in omega arith) (λ o. G.before r a o)
-          (eq-or-lt_of_le (let z : r ≤ _ = omega arith in z));
-    }
-
-pub seeking_found : {t : Table} {sc : List ℕ} {u lo p j : ℕ} → PrunedList t u sc → Seeking sc u lo p
-    → p < get_or sc u 0 → j ≡ get_or sc (8192 + p) 0
-    → lo ≤ j → Reading sc u lo p
-seeking_found {sc = sc} {p = p} K G more ej h =
-    record {
-      from = G.from;
-      to = G.to;
-      before = G.before;
-      after = λ r a k.
-          ⊎_elim (λ o. let m = ap (λ (c : ℕ). get_or sc (8192 + c) 0) o in omega arith)
-          (λ o. let m = K.rising p r G.from o k in omega arith) (eq-or-lt_of_le a);
-    }
-
-pub seeking_out : {sc : List ℕ} {u lo p : ℕ} → Seeking sc u lo p → get_or sc u 0 ≤ p → Reading sc u lo p
-seeking_out G past = record { from = G.from; to = G.to; before = G.before; after = λ r a k. absurd (omega arith) }
-
 -- ---- from there on
 
 -- a walk may begin at the head, with every row before it
@@ -90,7 +58,7 @@ module _ (d f s scratch : List ℕ) (S : Sound d f s) (L : PrunedAdjacency (tabl
   t = table_of d f s
 
   -- what `row_at` asks of a place from the head of u on
-  pub pruned_list_stands : {p : ℕ} → get_or scratch (4096 + u) 0 ≤ p → p < get_or scratch u 0 → RowStands d f s scratch u p
+  pub pruned_list_stands : {p : ℕ} → get_or scratch (4096 + u) 0 ≤ p → p < get_or scratch u 0 → RowStands (table_of d f s) scratch u p
   pruned_list_stands {p} h k =
       let K = L.pruned_list u small in
       record {
@@ -103,7 +71,7 @@ module _ (d f s scratch : List ℕ) (S : Sound d f s) (L : PrunedAdjacency (tabl
       }
 
   module _ {b p end : ℕ} (A : Reading scratch u b p) (ee : end ≡ get_or scratch u 0) where
-    pub reading_stands : p < end → RowStands d f s scratch u p
+    pub reading_stands : p < end → RowStands (table_of d f s) scratch u p
     reading_stands more = pruned_list_stands A.from (omega arith)
 
     -- an entry of u from b on does not stand before p

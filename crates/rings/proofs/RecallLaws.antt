@@ -20,6 +20,7 @@ use lib.ListN.{length, get_or, set, replicate, length-set, length-map, length-re
 use lib.Seq.{ext_get_or, get_or-set_same, get_or-set_other}
 use lib.Dec.{leb, ltb, eqb}
 use borrow.Author.Tests.{ltb-true, lt-leb, le-leb, eqb-true, eqb-false, eq-eqb, ne_eqb}
+use Rattle.std.specs.Prelude.{Ok, Err}
 use Rattle.rings.specs.Words.{◌and◌, ◌or◌, no, at, some, tabulate, any}
 use Rattle.rings.specs.Table.{Table, table_of, day_of}
 use Rattle.rings.specs.Windows.{Entry, entries, recalled}
@@ -30,8 +31,7 @@ use Rattle.rings.specs.RecallCall.{Columns, columns_of, entry_at, comes_after, i
 use Rattle.rings.specs.Inner.Recalling.{entry_of, dated, judged, hits, InTable, marks_of, Markable}
 use Rattle.rings.specs.declared.refusal.Refusal.{Refusal}
 use Rattle.rings.specs.declared.refusal.Refusal.TheVariants.{BadLength, BadEntry}
-use Rattle.rings.specs.declared.refusal.Verdict.{Verdict}
-use Rattle.rings.specs.declared.refusal.Verdict.TheVariants.{Accepted, Refused}
+use Rattle.rings.specs.Refusals.{Verdict}
 use Rattle.rings.proofs.WordLaws.{true_or_false, and_i, and_l, and_r, or_l, same_truth, some_i, some_e}
 use Rattle.rings.proofs.WordLaws.{length_tabulate, get_d_tabulate}
 use Rattle.rings.proofs.ListLaws.{mem_tabulate, tabulate_mem, any_i, any_e}
@@ -58,7 +58,7 @@ pub record Judged (d r b e : List ℕ) (rb sb eb j : ℕ) : Type 0 where
   pub row_before : (i : ℕ) → j ≡ suc i → rb ≡ get_or r i 0
   pub start_before : (i : ℕ) → j ≡ suc i → sb ≡ get_or b i 0
   pub end_before : (i : ℕ) → j ≡ suc i → eb ≡ get_or e i 0
-  pub passed : (i : ℕ) → i < j → entry_check (dated d) (columns_of r b e) i ≡ Accepted
+  pub passed : (i : ℕ) → i < j → entry_check (dated d) (columns_of r b e) i ≡ Ok tt
 
 module _ (d r b e : List ℕ) where
   abbrev c : Columns
@@ -114,7 +114,7 @@ module _ (d r b e : List ℕ) where
 
   pub judge_next : {rb sb eb j row start end day : ℕ} → Judged d r b e rb sb eb j → j < length r
       → row ≡ get_or r j 0 → start ≡ get_or b j 0
-      → end ≡ get_or e j 0 → day ≡ at d row → Accepted ≡ judged j (length d) day (entry_of rb sb eb) (entry_of row start end)
+      → end ≡ get_or e j 0 → day ≡ at d row → Ok tt ≡ judged j (length d) day (entry_of rb sb eb) (entry_of row start end)
       → Judged d r b e row start end (j + 1)
   judge_next {j = j} p l h₁ h₂ h₃ h₄ h =
       record {
@@ -124,7 +124,7 @@ module _ (d r b e : List ℕ) where
         end_before = λ i q. h₃ ∙ ap (λ (x : ℕ). get_or e x 0) (same i q);
         passed = λ i q.
             ⊎_elim
-            (λ x. subst (λ (y : ℕ). entry_check (dated d) c y ≡ Accepted) (sym x) (entry_here p h₁ h₂ h₃ h₄ h))
+            (λ x. subst (λ (y : ℕ). entry_check (dated d) c y ≡ Ok tt) (sym x) (entry_here p h₁ h₂ h₃ h₄ h))
             (λ x. p.passed i x)
             (eq-or-lt_of_le (le_of_suc-le-suc (rw (add-one j) at q)));
       }
@@ -135,21 +135,21 @@ module _ (d r b e : List ℕ) where
   pub judge_refused : {rb sb eb j row start end day : ℕ} {x : Refusal} → Judged d r b e rb sb eb j → j < length r
       → row ≡ get_or r j 0
       → start ≡ get_or b j 0 → end ≡ get_or e j 0 → day ≡ at d row
-      → Refused x ≡ judged j (length d) day (entry_of rb sb eb) (entry_of row start end)
-      → Refused x ≡ in_order (tabulate (entry_check (dated d) c) 0 (length r))
+      → Err x ≡ judged j (length d) day (entry_of rb sb eb) (entry_of row start end)
+      → Err x ≡ in_order (tabulate (entry_check (dated d) c) 0 (length r))
   judge_refused {j = j} p l h₁ h₂ h₃ h₄ h =
       sym (order_refused (entry_check (dated d) c) 0 (length r) j (omega arith) (omega arith)
       (λ i a q. p.passed i q) (entry_here p h₁ h₂ h₃ h₄ h))
 
   pub judge_end : {rb sb eb j : ℕ} → Judged d r b e rb sb eb j → length r ≤ j
-      → Accepted ≡ in_order (tabulate (entry_check (dated d) c) 0 (length r))
+      → Ok tt ≡ in_order (tabulate (entry_check (dated d) c) 0 (length r))
   judge_end p l = sym (order_accepted (entry_check (dated d) c) 0 (length r) (λ i a q. p.passed i (omega arith)))
 
 -- ---- the answer
 
 -- what a passed 8 says
 pub lengths_same : (d r b e : List ℕ) (p : ℕ)
-    → Accepted ≡ (BadLength when no (eqb (length b) (length r) and eqb (length e) (length r) and eqb p (length d)))
+    → Ok tt ≡ (BadLength when no (eqb (length b) (length r) and eqb (length e) (length r) and eqb p (length d)))
     → (length b ≡ length r) × (length e ≡ length r) × (p ≡ length d)
 lengths_same d r b e p h =
     let x = eqb (length b) (length r) in
@@ -183,12 +183,12 @@ module _ (d f g r b e : List ℕ) (lo hi p : ℕ) where
   to_listed : {v : Verdict} → v ≡ in_order (tabulate (entry_check (dated d) c') 0 (length r)) → listed ≡ v
   to_listed h = sym (h ∙ ap (λ (x : ℕ → Verdict). in_order (tabulate x 0 (length r))) days_alone)
 
-  pub answer_table : {x : Refusal} → Refused x ≡ table_check t → Refused x ≡ recall_answer t c' lo hi p
+  pub answer_table : {x : Refusal} → Err x ≡ table_check t → Err x ≡ recall_answer t c' lo hi p
   unfolding recall_answer
   answer_table h = sym (then_refused (BadLength when unequal then listed then range_check lo hi) (sym h))
 
-  pub answer_lengths : {x : Refusal} → Accepted ≡ table_check t → Refused x ≡ (BadLength when unequal)
-      → Refused x ≡ recall_answer t c' lo hi p
+  pub answer_lengths : {x : Refusal} → Ok tt ≡ table_check t → Err x ≡ (BadLength when unequal)
+      → Err x ≡ recall_answer t c' lo hi p
   unfolding recall_answer
   answer_lengths h₁ h₂ =
       sym
@@ -196,16 +196,16 @@ module _ (d f g r b e : List ℕ) (lo hi p : ℕ) where
       ∙ then_refused (listed then range_check lo hi)
       (sym h₂))
 
-  pub answer_entries : {x : Refusal} → Accepted ≡ table_check t → Accepted ≡ (BadLength when unequal)
-      → Refused x ≡ in_order (tabulate (entry_check (dated d) c') 0 (length r)) → Refused x ≡ recall_answer t c' lo hi p
+  pub answer_entries : {x : Refusal} → Ok tt ≡ table_check t → Ok tt ≡ (BadLength when unequal)
+      → Err x ≡ in_order (tabulate (entry_check (dated d) c') 0 (length r)) → Err x ≡ recall_answer t c' lo hi p
   unfolding recall_answer
   answer_entries h₁ h₂ h₃ =
       sym
       (then_accepted (BadLength when unequal then listed then range_check lo hi) (sym h₁)
       ∙ (then_accepted (listed then range_check lo hi) (sym h₂) ∙ then_refused (range_check lo hi) (to_listed h₃)))
 
-  pub answer_window : {v : Verdict} → Accepted ≡ table_check t → Accepted ≡ (BadLength when unequal)
-      → Accepted ≡ in_order (tabulate (entry_check (dated d) c') 0 (length r)) → v ≡ range_check lo hi
+  pub answer_window : {v : Verdict} → Ok tt ≡ table_check t → Ok tt ≡ (BadLength when unequal)
+      → Ok tt ≡ in_order (tabulate (entry_check (dated d) c') 0 (length r)) → v ≡ range_check lo hi
       → v ≡ recall_answer t c' lo hi p
   unfolding recall_answer
   answer_window h₁ h₂ h₃ h₄ =
@@ -214,7 +214,7 @@ module _ (d f g r b e : List ℕ) (lo hi p : ℕ) where
       ∙ (then_accepted (listed then range_check lo hi) (sym h₂) ∙ (then_accepted (range_check lo hi) (to_listed h₃) ∙ sym h₄)))
 
   -- a list that passes 14 names rows of the table
-  rows_inside : listed ≡ Accepted → (i : ℕ) → i < length r → get_or r i 0 < length d
+  rows_inside : listed ≡ Ok tt → (i : ℕ) → i < length r → get_or r i 0 < length d
   unfolding entry_check fits entry_at at
   rows_inside h i l =
       let x = entry_at c' i in
@@ -226,7 +226,7 @@ module _ (d f g r b e : List ℕ) (lo hi p : ℕ) where
       (and_l (fits t x) (in_place c' i) both))
 
   -- an accepted call: the columns are of one length, a mark stands for each row, and the list names rows of the table
-  list_fits : Accepted ≡ recall_answer t c' lo hi p
+  list_fits : Ok tt ≡ recall_answer t c' lo hi p
       → (length b ≡ length r) × (length e ≡ length r) × (p ≡ length d) × ((i : ℕ) → i < length r → get_or r i 0 < length d)
   unfolding recall_answer
   list_fits h =
@@ -241,7 +241,7 @@ module _ (d f g r b e : List ℕ) (lo hi : ℕ) (m₀ : List ℕ) where
   cleared_long : {m : List ℕ} → m ≡ replicate (length m₀) 0 → length m ≡ length m₀
   cleared_long h = ap length h ∙ length-replicate (length m₀) 0
 
-  pub marks_ready : {m : List ℕ} → Accepted ≡ recall_answer (table_of d f g) (columns_of r b e) lo hi (length m₀)
+  pub marks_ready : {m : List ℕ} → Ok tt ≡ recall_answer (table_of d f g) (columns_of r b e) lo hi (length m₀)
       → m ≡ replicate (length m₀) 0
       → Markable (columns_of r b e) m
   marks_ready h z =
@@ -253,7 +253,7 @@ module _ (d f g r b e : List ℕ) (lo hi : ℕ) (m₀ : List ℕ) where
         clear = z ∙ ap (λ (k : ℕ). replicate k 0) (sym n);
       }
 
-  pub marks_right : {m m' : List ℕ} → Accepted ≡ recall_answer (table_of d f g) (columns_of r b e) lo hi (length m₀)
+  pub marks_right : {m m' : List ℕ} → Ok tt ≡ recall_answer (table_of d f g) (columns_of r b e) lo hi (length m₀)
       → m ≡ replicate (length m₀) 0 → m' ≡ marks_of (columns_of r b e) lo hi (length m)
       → m' ≡ marks_of (columns_of r b e) lo hi (length d)
   marks_right h z w =

@@ -54,7 +54,7 @@ pub record RemovingAccount (d f s scratch : List ℕ) (q : Frame) (m : Removal) 
   pub state : AccountRemoval (table_of d f s) q b m.day m.end m.head tail u x l w
   pub reading : Reading scratch u b p
 
-module _ (d f s scratch : List ℕ) (q : Frame) (R : Ready d f s scratch q) where
+module _ (d f s scratch : List ℕ) (q : Frame) (R : Ready (table_of d f s) scratch q) where
   abbrev t : Table
   t = table_of d f s
 
@@ -68,7 +68,7 @@ module _ (d f s scratch : List ℕ) (q : Frame) (R : Ready d f s scratch q) wher
       (λ y. let a = lead_from t q.lo i y in let b = none_missing h in absurd (omega arith))
       (λ y. y) (true_or_false (leads t q.lo i))
 
-  module _ {m : Removal} {x l w : List ℕ} (H : HeadWaits d f s q m x l w) where
+  module _ {m : Removal} {x l w : List ℕ} (H : HeadWaits (table_of d f s) q m x l w) where
     pub head_small : m.head < 4096
     head_small = let a = tail_most d f s scratch q R H.state in let b = H.some in omega arith
 
@@ -103,7 +103,7 @@ module _ (d f s scratch : List ℕ) (q : Frame) (R : Ready d f s scratch q) wher
   module _ {m : Removal} {u tail : ℕ} {x₀ l₀ w₀ x l w : List ℕ} where
     module _ {p end : ℕ} (A : RemovingAccount d f s scratch q m u end p tail x₀ l₀ w₀ x l w) where
       walked : PeelState t q 4096 m.day m.end (m.head + 1) tail nothing x l w
-          → HeadWalked d f s q m (record { day = m.day; end = m.end; head = m.head + 1; tail = tail }) x l w
+          → HeadWalked (table_of d f s) q m (record { day = m.day; end = m.end; head = m.head + 1; tail = tail }) x l w
       walked F = record { goes_on = record { state = F; day = refl; end = refl }; head = refl }
 
       small : u < 4096
@@ -114,7 +114,7 @@ module _ (d f s scratch : List ℕ) (q : Frame) (R : Ready d f s scratch q) wher
 
       -- the loop ends: no row of u from b on leads
       pub removing_out : end ≤ p
-          → HeadWalked d f s q m (record { day = m.day; end = m.end; head = m.head + 1; tail = tail }) x l w
+          → HeadWalked (table_of d f s) q m (record { day = m.day; end = m.end; head = m.head + 1; tail = tail }) x l w
       removing_out h = walked (remove_account_end t q R.setting past (λ i a c k. absurd (omega arith)))
         where
           past : AccountRemoval t q (length d) m.day m.end m.head tail u x l w
@@ -124,7 +124,7 @@ module _ (d f s scratch : List ℕ) (q : Frame) (R : Ready d f s scratch q) wher
               (reading_out d f s scratch R.sound pruned small A.reading A.end_is every h i a k y))
 
       module _ (more : p < end) where
-        pub removing_stands : RowStands d f s scratch u p
+        pub removing_stands : RowStands (table_of d f s) scratch u p
         removing_stands = reading_stands d f s scratch R.sound pruned small A.reading A.end_is more
 
         pub removing_few : p < 32768
@@ -147,7 +147,7 @@ module _ (d f s scratch : List ℕ) (q : Frame) (R : Ready d f s scratch q) wher
 
           -- rows rise: this one, and so every later one, has left
           pub removing_stop : m.end ≤ r.row
-              → HeadWalked d f s q m (record { day = m.day; end = m.end; head = m.head + 1; tail = tail }) x l w
+              → HeadWalked (table_of d f s) q m (record { day = m.day; end = m.end; head = m.head + 1; tail = tail }) x l w
           removing_stop h = walked (remove_account_end t q R.setting to_row (λ i a c k. absurd (omega arith)))
 
           next_reading : Reading scratch u (r.row + 1) (p + 1)

@@ -267,7 +267,7 @@ pub as_day_scan : {d f g scratch : List ℕ} {r : Frame} {xs : List ℕ} {u c ta
     → DayScanning d f g scratch r xs u c p n above more
 as_day_scan G = record { b = G.b; within = G.within; late = G.late; reading = G.reading; scanned = G.scanned }
 
-module _ (d f g scratch : List ℕ) (r : Frame) (R : ReadyPruned d f g scratch r) (xs : List ℕ)
+module _ (d f g scratch : List ℕ) (r : Frame) (R : ReadyPruned (table_of d f g) scratch r) (xs : List ℕ)
     (len : length xs ≡ 4096) (D : Days r.stop xs) {u c : ℕ} (small : u < 4096) (top : c ≤ r.stop)
     (E : Every (table_of d f g) (estimate xs) r.lo u scratch) (tail : ℕ) (ws₀ : List ℕ) where
   abbrev tt : Table

@@ -52,17 +52,17 @@ module _ (d f g : List ℕ) (q : Query) (s te lo : ℕ) (S : Setting (table_of d
   abbrev ts : Table
   ts = table_of d f g
 
-  at_core : {xs : List ℕ} → CoreTimesAre d f g (frame_of q s te lo) xs → (u : ℕ) → u < 4096
+  at_core : {xs : List ℕ} → CoreTimesAre (table_of d f g) (frame_of q s te lo) xs → (u : ℕ) → u < 4096
       → estimate xs u ≡ account_time ts q te s u
   at_core {xs} C u l = estimate_at xs u C.long l ∙ C.times u l
 
-  pub core_days : {xs : List ℕ} → CoreTimesAre d f g (frame_of q s te lo) xs → Days te xs
+  pub core_days : {xs : List ℕ} → CoreTimesAre (table_of d f g) (frame_of q s te lo) xs → Days te xs
   core_days {xs} C v l =
       subst (λ (c : ℕ). (c ≤ te) ⊎ (c ≡ never)) (sym (C.times v l))
       (⊎_elim ◌⊎◌.inr (λ w. ◌⊎◌.inl w.1) (account_time_lem ts q te s v))
 
   same_supporters : {xs : List ℕ}
-      → CoreTimesAre d f g (frame_of q s te lo) xs
+      → CoreTimesAre (table_of d f g) (frame_of q s te lo) xs
       → (c u : ℕ) → supporters ts (account_time ts q te s) s c u ≤ supporters ts (estimate xs) s c u
   unfolding supporters
   same_supporters {xs} C c u =
@@ -82,7 +82,7 @@ module _ (d f g : List ℕ) (q : Query) (s te lo : ℕ) (S : Setting (table_of d
       }))
 
   -- after a peel nobody is known to have a supporter to spare
-  pub slack_ones : {xs sp : List ℕ} → CoreTimesAre d f g (frame_of q s te lo) xs → length sp ≡ 4096
+  pub slack_ones : {xs sp : List ℕ} → CoreTimesAre (table_of d f g) (frame_of q s te lo) xs → length sp ≡ 4096
       → ((u : ℕ) → u < 4096 → get_or sp u 0 ≡ 1) → Slack ts q s xs sp
   slack_ones {xs} {sp} C l ones =
       record {
@@ -97,7 +97,7 @@ module _ (d f g : List ℕ) (q : Query) (s te lo : ℕ) (S : Setting (table_of d
 
   -- the rows dated s have left
   module _ {next : ℕ} (S' : Setting (table_of d f g) q (s + 1) te next) (up : lo ≤ next) (within : next ≤ length d)
-      {xs sp₀ sp ws₀ ws : List ℕ} {r : ℕ} (C : CoreTimesAre d f g (frame_of q s te lo) xs)
+      {xs sp₀ sp ws₀ ws : List ℕ} {r : ℕ} (C : CoreTimesAre (table_of d f g) (frame_of q s te lo) xs)
       (P : Slack ts q s xs sp₀) (F : Leaving ts (estimate xs) lo next sp₀ sp) (Q : Queued 0 sp₀ ws₀ r sp ws) where
     backing_on : (c u j : ℕ) → next ≤ j → backing ts (estimate xs) lo c u j ≡ true
         → backing ts (estimate xs) next c u j ≡ true
@@ -157,7 +157,7 @@ module _ (d f g : List ℕ) (q : Query) (s te lo : ℕ) (S : Setting (table_of d
   pub settle_end : {xs₀ xs sp ws : List ℕ} {head tail r : ℕ}
       → Rising ts q te s xs₀ xs sp ws head tail r
       → tail ≤ head
-      → CoreTimesAre d f g (frame_of q s te lo) xs × Slack ts q s xs sp × Raised xs₀ xs ws r
+      → CoreTimesAre (table_of d f g) (frame_of q s te lo) xs × Slack ts q s xs sp × Raised xs₀ xs ws r
   settle_end {xs₀} {xs} {sp} {ws} {head} {tail} {r} Z out = (
     record {
       long = T.long;
@@ -237,8 +237,8 @@ all_raised l h =
 -- who has no core time at s has none at the day after it
 pub core_never : {d f g : List ℕ} {q : Query} {s te lo next : ℕ} {xs ys : List ℕ}
     → te < never
-    → CoreTimesAre d f g (frame_of q s te lo) xs
-    → CoreTimesAre d f g (frame_of q (s + 1) te next) ys
+    → CoreTimesAre (table_of d f g) (frame_of q s te lo) xs
+    → CoreTimesAre (table_of d f g) (frame_of q (s + 1) te next) ys
     → (v : ℕ) → estimate xs v ≡ never
     → estimate ys v ≡ never
 core_never {d} {f} {g} {q} {s} {te} {xs = xs} {ys = ys} fits C D v e =

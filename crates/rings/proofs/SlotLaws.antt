@@ -1,6 +1,6 @@
 -- The earlier row of each row's pair, found by chains of rows whose pairs have the same slot (src/pairs.rt).
 --     slot_is                                  what `slot_of` returns
---     Emptying, emptying_start, emptying_next, emptying_end    the loop of `clear_slots`
+--     emptied_part     what `clear_slots` leaves
 --     slot_hit, slot_gap                       the last row with a slot, and that no later one has it
 --     chain_start, chain_last, chain_next, chain_end       the loop of `chain_rows`
 --     pairing_start, Seeking, seek_start, seek_row, seek_place, seek_less, seek_found, seek_next, seek_none,
@@ -15,7 +15,9 @@ use mathlib.Core.Path.{◌≡◌, refl, sym, ◌∙◌, ap, subst}
 use mathlib.Core.Logic.{◌⊎◌, ⊎_elim}
 use mathlib.Core.Bool.{Bool, true, false, ◌&&◌}
 use mathlib.Core.List.{List}
-use lib.ListN.{length, get_or, set, length-set}
+use lib.ListN.{length, get_or, set, length-set, take, drop, replicate, length-replicate, get_or-replicate, get_or-append}
+use mathlib.Core.List.{◌++◌}
+use Rattle.std.proofs.lemmas.List.{length-take-le, length-drop, length-append, get_or-drop, get_or-append_right}
 use lib.Seq.{get_or-set_same, get_or-set_other}
 use lib.Dec.{leb, eqb}
 use borrow.Author.Tests.{leb-true, leb-false, eqb-true, eq-eqb, ne_eqb}
@@ -31,28 +33,19 @@ use Rattle.rings.proofs.PairLaws.{joins_ends, before_yes, before_no}
 
 -- ---- clear_slots
 
-pub record Emptying (h : ℕ) (sc₀ sc : List ℕ) : Type 0 where
-  pub long : length sc ≡ length sc₀
-  pub low : (p : ℕ) → p < h → get_or sc p 0 ≡ 0
-  pub high : (p : ℕ) → 8192 ≤ p → get_or sc p 0 ≡ get_or sc₀ p 0
-
-pub emptying_start : (sc : List ℕ) → Emptying 0 sc sc
-emptying_start sc = record { long = refl; low = λ p h. absurd (not-suc-le-zero h); high = λ p h. refl }
-
-pub emptying_next : {h : ℕ} {sc₀ sc sc' : List ℕ} → Emptying h sc₀ sc → h < 8192 → 8192 ≤ length sc₀
-    → sc' ≡ set sc h 0 → Emptying (h + 1) sc₀ sc'
-emptying_next {h} {sc₀} {sc} {sc'} E l n e =
+-- the first places are filled with 0
+pub emptied_part : {sc zeros : List ℕ} → 8192 ≤ length sc → zeros ≡ replicate (length (take 8192 sc)) 0
+    → Emptied sc (zeros ++ drop 8192 sc)
+emptied_part {sc} {zeros} many e =
+    let full : length (take 8192 sc) ≡ 8192 = length-take-le 8192 sc many in
+    let long : length zeros ≡ 8192 = ap length e ∙ (length-replicate _ 0 ∙ full) in
     record {
-      long = ap length e ∙ (length-set sc h 0 ∙ E.long);
-      low = λ p k.
-          ap (λ (x : List ℕ). get_or x p 0) e ∙ ⊎_elim
-          (λ y. ap (λ (c : ℕ). get_or (set sc h 0) c 0) y ∙ get_or-set_same sc h 0 0 (let m = E.long in omega arith))
-          (λ y. get_or-set_other sc h p 0 0 (λ z. omega arith) ∙ E.low p y) (eq-or-lt_of_le (omega arith));
-      high = λ p k. ap (λ (x : List ℕ). get_or x p 0) e ∙ (get_or-set_other sc h p 0 0 (λ y. omega arith) ∙ E.high p k);
+      long = length-append zeros (drop 8192 sc) ∙ (let n = length-drop 8192 sc in omega arith);
+      low = λ p l. get_or-append zeros (drop 8192 sc) 0 p (omega arith)
+          ∙ (ap (λ (x : List ℕ). get_or x p 0) e ∙ get_or-replicate (length (take 8192 sc)) p 0 0 (omega arith));
+      high = λ p l. get_or-append_right zeros (drop 8192 sc) 8192 p 0 long l
+          ∙ (get_or-drop 8192 sc (p - 8192) 0 ∙ ap (λ (i : ℕ). get_or sc i 0) (omega arith));
     }
-
-pub emptying_end : {h : ℕ} {sc₀ sc : List ℕ} → Emptying h sc₀ sc → 8192 ≤ h → Emptied sc₀ sc
-emptying_end E l = record { long = E.long; low = λ p k. E.low p (omega arith); high = E.high }
 
 -- ---- the last row with a slot
 

@@ -50,7 +50,7 @@ module _ {t : Table} {q : Query} {hi s lo : ℕ} {sc times slack counts : List �
   pub slack_long : length slack ≡ 4096
   slack_long = A.inside.slacks.long
 
-pub first_framed : {d f g : List ℕ} {p : Frame} {end : ℕ} → Sound d f g → FirstAsks d p end → Framed d f g p
+pub first_framed : {d f g : List ℕ} {p : Frame} {end : ℕ} → Sound d f g → FirstAsks d p end → Framed (table_of d f g) p
 first_framed S A = framed_of S A.some_k A.in_days A.starts
 
 -- ---- the least core time of the rows dated s
@@ -84,7 +84,7 @@ least_next {f} {lo} {j} {r} {time} {r'} o L et er =
     which (◌⊎◌.inr y) = let a = leb-false r time y in ◌⊎◌.inr (j, o, omega arith, omega arith)
 
 pub least_end : {d f s : List ℕ} {p : Frame} {j next r : ℕ}
-    → Framed d f s p
+    → Framed (table_of d f s) p
     → Split d (p.start + 1) next
     → j ≤ next
     → next ≤ j

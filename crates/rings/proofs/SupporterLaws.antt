@@ -293,7 +293,7 @@ pub record DroppingSupported (d f g scratch : List ℕ) (r : Frame) (xs : List �
   pub done : DroppedSupported (table_of d f g) (estimate xs) r.lo u b old new sp₀ sp
   pub queued : Queued tail sp₀ ws₀ end sp ws
 
-module _ (d f g scratch : List ℕ) (r : Frame) (R : ReadyPruned d f g scratch r) (xs : List ℕ)
+module _ (d f g scratch : List ℕ) (r : Frame) (R : ReadyPruned (table_of d f g) scratch r) (xs : List ℕ)
     (len : length xs ≡ 4096) {u : ℕ} (small : u < 4096)
     (E : Every (table_of d f g) (estimate xs) r.lo u scratch) (D : Days r.stop xs) (old new : ℕ)
     (en : new ≡ get_or xs u 0) (tail : ℕ) (sp₀ ws₀ : List ℕ) where

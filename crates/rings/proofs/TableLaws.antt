@@ -16,6 +16,7 @@ use mathlib.Core.List.{List}
 use lib.ListN.{length, get_or}
 use lib.Dec.{leb, ltb, eqb}
 use borrow.Author.Tests.{leb-true, ltb-true, ltb-false, eqb-true}
+use Rattle.std.specs.Prelude.{Ok, Err}
 use Rattle.rings.specs.Words.{◌and◌, ◌or◌, no, at, tabulate}
 use Rattle.rings.specs.Table.{table_of, day_of, first_of, second_of}
 use Rattle.rings.specs.Sound.{NeverFall, Sound}
@@ -24,8 +25,7 @@ use Rattle.rings.specs.TableCheck.{day_before, row_faults, row_check, table_chec
 use Rattle.rings.specs.declared.refusal.Refusal.{Refusal}
 use Rattle.rings.specs.declared.refusal.Refusal.TheVariants.{ColumnsDiffer, TooLarge, BadDay, BadAccounts}
 use Rattle.rings.specs.declared.refusal.Refusal.TheVariants.{DayFalls}
-use Rattle.rings.specs.declared.refusal.Verdict.{Verdict}
-use Rattle.rings.specs.declared.refusal.Verdict.TheVariants.{Accepted, Refused}
+use Rattle.rings.specs.Refusals.{Verdict}
 use Rattle.rings.proofs.WordLaws.{true_or_false, clash, and_l, and_r, or_l, or_r, not_no}
 use Rattle.rings.proofs.CheckLaws.{accepted_left, accepted_right, when_accepted, order_accepted, order_refused}
 use Rattle.rings.proofs.CheckLaws.{all_accepted}
@@ -33,7 +33,7 @@ use Rattle.rings.proofs.CheckLaws.{all_accepted}
 pub record Passed (d f s : List ℕ) (before j : ℕ) : Type 0 where
   pub inside : j ≤ length d
   pub day_before_lem : before ≡ day_before (table_of d f s) j
-  pub passed : (l : ℕ) → l < j → row_check (table_of d f s) l ≡ Accepted
+  pub passed : (l : ℕ) → l < j → row_check (table_of d f s) l ≡ Ok tt
 
 module _ (d f s : List ℕ) where
   pub pass_start : Passed d f s 0 0
@@ -47,7 +47,7 @@ module _ (d f s : List ℕ) where
   row_here before j p e = sym (rw (← p.day_before_lem) e)
 
   pub pass_next : (before j : ℕ) → Passed d f s before j → j < length d
-      → Accepted ≡ row_faults j before (get_or d j 0) (get_or f j 0) (get_or s j 0) → Passed d f s (get_or d j 0) (j + 1)
+      → Ok tt ≡ row_faults j before (get_or d j 0) (get_or f j 0) (get_or s j 0) → Passed d f s (get_or d j 0) (j + 1)
   unfolding day_before day_of at
   pass_next before j p l e =
       record {
@@ -55,27 +55,27 @@ module _ (d f s : List ℕ) where
         day_before_lem = ap (day_before (table_of d f s)) (sym (add-one j));
         passed = λ i h.
             ⊎_elim
-            (λ q. subst (λ (x : ℕ). row_check (table_of d f s) x ≡ Accepted) (sym q) (row_here before j p e))
+            (λ q. subst (λ (x : ℕ). row_check (table_of d f s) x ≡ Ok tt) (sym q) (row_here before j p e))
             (λ q. p.passed i q)
             (eq-or-lt_of_le (le_of_suc-le-suc (rw (add-one j) at h)));
       }
 
   pub pass_refused : (before j : ℕ) (r : Refusal) → Passed d f s before j → j < length d
-      → Refused r ≡ row_faults j before (get_or d j 0) (get_or f j 0) (get_or s j 0)
-      → Refused r ≡ in_order (tabulate (row_check (table_of d f s)) 0 (length d))
+      → Err r ≡ row_faults j before (get_or d j 0) (get_or f j 0) (get_or s j 0)
+      → Err r ≡ in_order (tabulate (row_check (table_of d f s)) 0 (length d))
   pass_refused before j r p l e =
       sym
       (order_refused (row_check (table_of d f s)) 0 (length d) j (omega arith) (omega arith)
       (λ i a b. p.passed i b) (row_here before j p e))
 
   pub pass_end : (before j : ℕ) → Passed d f s before j → length d ≤ j
-      → Accepted ≡ in_order (tabulate (row_check (table_of d f s)) 0 (length d))
+      → Ok tt ≡ in_order (tabulate (row_check (table_of d f s)) 0 (length d))
   pass_end before j p l =
       sym (order_accepted (row_check (table_of d f s)) 0 (length d) (λ i a b. p.passed i (omega arith)))
 
 -- ---- an accepted table
 
-faults_none : (j before day a b : ℕ) → row_faults j before day a b ≡ Accepted
+faults_none : (j before day a b : ℕ) → row_faults j before day a b ≡ Ok tt
     → (1 ≤ day) × (day ≤ 1024) × (a < b) × (b ≤ 4095) × (before ≤ day)
 unfolding row_faults
 faults_none j before day a b e =
@@ -101,13 +101,13 @@ faults_none j before day a b e =
     right_false : (x y : Bool) → x or y ≡ false → y ≡ false
     right_false x y h = ⊎_elim (λ z. clash (or_r x y z) h) (λ z. z) (true_or_false y)
 
-row_sound : (d f s : List ℕ) (j : ℕ) → row_check (table_of d f s) j ≡ Accepted
+row_sound : (d f s : List ℕ) (j : ℕ) → row_check (table_of d f s) j ≡ Ok tt
     → (1 ≤ get_or d j 0) × (get_or d j 0 ≤ 1024) × (get_or f j 0 < get_or s j 0) × (get_or s j 0 ≤ 4095)
     × (day_before (table_of d f s) j ≤ get_or d j 0)
 unfolding row_check day_of first_of second_of at
 row_sound d f s j e = faults_none j (day_before (table_of d f s) j) (get_or d j 0) (get_or f j 0) (get_or s j 0) e
 
-pub table_sound : (d f s : List ℕ) → table_check (table_of d f s) ≡ Accepted → Sound d f s
+pub table_sound : (d f s : List ℕ) → table_check (table_of d f s) ≡ Ok tt → Sound d f s
 unfolding table_check day_before day_of at
 table_sound d f s e =
     let b = no (eqb (length f) (length d) and eqb (length s) (length d)) in
@@ -126,7 +126,7 @@ table_sound d f s e =
       rising = record { next = λ j l. (row e₃ (suc j) l).4 };
     }
   where
-    row : in_order (tabulate (row_check (table_of d f s)) 0 (length d)) ≡ Accepted → (j : ℕ) → j < length d
+    row : in_order (tabulate (row_check (table_of d f s)) 0 (length d)) ≡ Ok tt → (j : ℕ) → j < length d
         → (1 ≤ get_or d j 0) × (get_or d j 0 ≤ 1024) × (get_or f j 0 < get_or s j 0) × (get_or s j 0 ≤ 4095)
         × (day_before (table_of d f s) j ≤ get_or d j 0)
     row h j l = row_sound d f s j (all_accepted (row_check (table_of d f s)) 0 (length d) h j (omega arith) (omega arith))

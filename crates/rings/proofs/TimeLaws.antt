@@ -23,15 +23,15 @@ use Rattle.rings.proofs.RankLaws.{first_small, second_small}
 use Rattle.rings.proofs.LeadLaws.{counts_here, open_is, day_opens, row_opens}
 use Rattle.rings.proofs.CoreTimeLaws.{row_before, row_after}
 
-module _ (d f s : List ℕ) (q : Frame) {end : ℕ} {x : List ℕ} (K : TimesKnown d f s q end x) {j : ℕ}
+module _ (d f s : List ℕ) (q : Frame) {end : ℕ} {x : List ℕ} (K : TimesKnown (table_of d f s) q end x) {j : ℕ}
     (b : j < length d) where
-  R : Framed d f s q
+  R : Framed (table_of d f s) q
   R = K.framed
 
   Sp : Span d q.stop q.lo end
   Sp = K.span
 
-  C : CoreTimesAre d f s q x
+  C : CoreTimesAre (table_of d f s) q x
   C = K.times_are
 
   a_small : get_or f j 0 < 4096
@@ -103,7 +103,7 @@ fill_end g {j} {n} {m₀} {m} F e h =
     (λ i l. let a = F.long in
     F.done i (omega arith) ∙ sym (get_d_tabulate g 0 n i 0 (omega arith) ∙ ap g (zero-add i)))
 
-pub accounts_are : {d f s : List ℕ} {q : Frame} {x : List ℕ} → CoreTimesAre d f s q x
+pub accounts_are : {d f s : List ℕ} {q : Frame} {x : List ℕ} → CoreTimesAre (table_of d f s) q x
     → x ≡ tabulate (account_time (table_of d f s) q.query q.stop q.start) 0 4096
 accounts_are {d} {f} {s} {q} {x} C =
     fill_end (account_time (table_of d f s) q.query q.stop q.start) {j = 4096} {m₀ = x}

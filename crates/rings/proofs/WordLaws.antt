@@ -1,6 +1,7 @@
 -- Laws of the words of specs/Words.antt. Everything above uses these and opens no word itself.
 --     true_or_false, same_or, clash     a truth value is one or the other; equal or not; not both
 --     and_i, and_l, and_r, or_l, or_r, or_e, no_i, not_no, no_e, same_truth     truth values
+--     all_two, all_three, all_four     tests that code joins by &
 --     some_i, some_e, some_none, Witness, every_i, every_e     a number that has p; each number has it
 --     suc_if_yes, suc_if_no     the definition, by cases
 --     count_le, count_mono, count_less, count_same, count_none, count_pos, count_some     how many numbers have p
@@ -14,7 +15,7 @@ use native.Mathlib.Nat.{zero-add}
 use native.Mathlib.Omega.{arith}
 use mathlib.Core.Path.{◌≡◌, refl, sym, ◌∙◌, ap, subst}
 use mathlib.Core.Logic.{◌⊎◌, ⊎_elim}
-use mathlib.Core.Bool.{Bool, true, false, true≢false}
+use mathlib.Core.Bool.{Bool, true, false, true≢false, ◌&&◌}
 use mathlib.Core.List.{List}
 use lib.ListN.{length, get_or, get_or-eq_default}
 use lib.Seq.{ext_get_or}
@@ -47,6 +48,21 @@ pub and_r : (a b : Bool) → a and b ≡ true → b ≡ true
 unfolding ◌and◌
 and_r true b h = h
 and_r false b h = clash refl (sym h)
+
+pub all_two : (a b : Bool) → (a && b) ≡ (a and b)
+unfolding ◌and◌
+all_two true b = refl
+all_two false b = refl
+
+pub all_three : (a b c : Bool) → ((a && b) && c) ≡ (a and b and c)
+unfolding ◌and◌
+all_three true b c = all_two b c
+all_three false b c = refl
+
+pub all_four : (a b c d : Bool) → (((a && b) && c) && d) ≡ (a and b and c and d)
+unfolding ◌and◌
+all_four true b c d = all_three b c d
+all_four false b c d = refl
 
 pub or_l : (a b : Bool) → a ≡ true → a or b ≡ true
 unfolding ◌or◌

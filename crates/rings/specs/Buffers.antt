@@ -6,11 +6,9 @@
 --     cleared_if b x      x, cleared where b holds
 --     scratch_on r x      the scratch x after the refusal r
 --     verdict_scratch v x, counted_scratch c x    the scratch x at exit, by the answer
-use Rattle.std.specs.Prelude.{ℕ, Bool, true, false, List, ◌++◌, map, length, drop, replicate}
-use Rattle.rings.specs.Refusals.{behind_scratch}
+use Rattle.std.specs.Prelude.{ℕ, Bool, true, false, List, ◌++◌, map, length, drop, replicate, Ok, Err}
+use Rattle.rings.specs.Refusals.{behind_scratch, Verdict, Counted}
 use Rattle.rings.specs.declared.refusal.Refusal.{Refusal}
-use Rattle.rings.specs.declared.refusal.Verdict.{Verdict}
-use Rattle.rings.specs.declared.refusal.Counted.{Counted}
 
 -- 01: "marks 1 or 0 for each row"
 unfoldable pub mark : Bool → ℕ
@@ -37,9 +35,9 @@ scratch_on r scratch = cleared_if (behind_scratch r) scratch
 
 -- 01: "After success the scratch is all 0"
 unfoldable pub verdict_scratch : Verdict → List ℕ → List ℕ
-verdict_scratch Verdict.Accepted scratch = cleared scratch
-verdict_scratch (Verdict.Refused r) scratch = scratch_on r scratch
+verdict_scratch (Ok _) scratch = cleared scratch
+verdict_scratch (Err r) scratch = scratch_on r scratch
 
 unfoldable pub counted_scratch : Counted → List ℕ → List ℕ
-counted_scratch (Counted.Count n) scratch = cleared scratch
-counted_scratch (Counted.Refused r) scratch = scratch_on r scratch
+counted_scratch (Ok n) scratch = cleared scratch
+counted_scratch (Err r) scratch = scratch_on r scratch

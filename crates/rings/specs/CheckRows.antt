@@ -6,7 +6,7 @@
 --     CheckRows, check_rows_hold      the table, a field for each row, and the theorem
 --     says n p                        the report of a refusal: number n, place p
 --     CallNumbers, call_numbers_hold  01's numbers 1 to 10 and 14 as the calls give them, and 02's 15: a table of a row each, and the theorem
-use Rattle.std.specs.Prelude.{ℕ, ◌≡◌, refl, true, [], ◌∷◌, length, replicate, ltb, eqb}
+use Rattle.std.specs.Prelude.{ℕ, ◌≡◌, refl, true, [], ◌∷◌, length, replicate, ltb, eqb, Ok, Err}
 use Rattle.rings.specs.Table.{Table}
 use Rattle.rings.specs.CoreTimes.{row_time}
 use Rattle.rings.specs.Refusals.{Report, refused, verdict_report, counted_report}
@@ -21,8 +21,6 @@ use Rattle.rings.specs.declared.Query.{Query}
 use Rattle.rings.specs.declared.refusal.Refusal.TheVariants.{ColumnsDiffer, TooLarge, BadDay, BadAccounts}
 use Rattle.rings.specs.declared.refusal.Refusal.TheVariants.{BadK, BadRange, BadLength, Scratch, NoRoom}
 use Rattle.rings.specs.declared.refusal.Refusal.TheVariants.{BadEntry, NotInRing}
-use Rattle.rings.specs.declared.refusal.Verdict.TheVariants.{Accepted, Refused}
-use Rattle.rings.specs.declared.refusal.Counted.{Counted}
 
 abbrev row : ℕ → ℕ → ℕ → Table
 row d a b = record { days = d ∷ []; first = a ∷ []; second = b ∷ [] }
@@ -41,66 +39,66 @@ two_entries j s e j' s' e' = record { rows = j ∷ j' ∷ []; starts = s ∷ s' 
 
 pub record CheckRows : Type 0 where
   -- "Day 1,024 and account 4,095 pass; day 0, day 1,025 and account 4,096 are refused"
-  pub limits : table_check (row 1024 0 4095) ≡ Accepted
-  pub day_0 : table_check (row 0 0 1) ≡ Refused (BadDay 0)
-  pub day_1025 : table_check (row 1025 0 1) ≡ Refused (BadDay 0)
-  pub account_4096 : table_check (row 1 0 4096) ≡ Refused (BadAccounts 0)
-  pub own_account : table_check (row 1 7 7) ≡ Refused (BadAccounts 0)
-  pub no_rows : table_check (record { days = []; first = []; second = [] }) ≡ Accepted
+  pub limits : table_check (row 1024 0 4095) ≡ Ok tt
+  pub day_0 : table_check (row 0 0 1) ≡ Err (BadDay 0)
+  pub day_1025 : table_check (row 1025 0 1) ≡ Err (BadDay 0)
+  pub account_4096 : table_check (row 1 0 4096) ≡ Err (BadAccounts 0)
+  pub own_account : table_check (row 1 7 7) ≡ Err (BadAccounts 0)
+  pub no_rows : table_check (record { days = []; first = []; second = [] }) ≡ Ok tt
   -- equal rows may stand twice
-  pub twice : table_check (record { days = 3 ∷ 3 ∷ []; first = 1 ∷ 1 ∷ []; second = 2 ∷ 2 ∷ [] }) ≡ Accepted
+  pub twice : table_check (record { days = 3 ∷ 3 ∷ []; first = 1 ∷ 1 ∷ []; second = 2 ∷ 2 ∷ [] }) ≡ Ok tt
   -- 1, then 2, before a row's fault; the lowest faulty row, by its first fault
   pub too_many_rows : (t : Table)
       → eqb (length t.first) (length t.days) ≡ true
       → eqb (length t.second) (length t.days) ≡ true
       → ltb 16384 (length t.days) ≡ true
-      → table_check t ≡ Refused TooLarge
-  pub lengths_first : table_check (record { days = 0 ∷ []; first = 1 ∷ []; second = [] }) ≡ Refused ColumnsDiffer
-  pub lowest_row : table_check (record { days = 1 ∷ 2 ∷ 0 ∷ []; first = 1 ∷ 2 ∷ 1 ∷ []; second = 2 ∷ 1 ∷ 2 ∷ [] }) ≡ Refused (BadAccounts 1)
-  pub day_before_accounts : table_check (record { days = 1 ∷ 0 ∷ []; first = 1 ∷ 2 ∷ []; second = 2 ∷ 2 ∷ [] }) ≡ Refused (BadDay 1)
-  pub accounts_before_order : table_check (record { days = 2 ∷ 1 ∷ []; first = 1 ∷ 2 ∷ []; second = 2 ∷ 2 ∷ [] }) ≡ Refused (BadAccounts 1)
+      → table_check t ≡ Err TooLarge
+  pub lengths_first : table_check (record { days = 0 ∷ []; first = 1 ∷ []; second = [] }) ≡ Err ColumnsDiffer
+  pub lowest_row : table_check (record { days = 1 ∷ 2 ∷ 0 ∷ []; first = 1 ∷ 2 ∷ 1 ∷ []; second = 2 ∷ 1 ∷ 2 ∷ [] }) ≡ Err (BadAccounts 1)
+  pub day_before_accounts : table_check (record { days = 1 ∷ 0 ∷ []; first = 1 ∷ 2 ∷ []; second = 2 ∷ 2 ∷ [] }) ≡ Err (BadDay 1)
+  pub accounts_before_order : table_check (record { days = 2 ∷ 1 ∷ []; first = 1 ∷ 2 ∷ []; second = 2 ∷ 2 ∷ [] }) ≡ Err (BadAccounts 1)
   -- Window ring: 6, 7, 8, 9 one after the other
-  pub table_first : ring_answer (row 0 0 1) (ask 0) 2 1 0 0 ≡ Counted.Refused (BadDay 0)
-  pub ring_6 : ring_answer season (ask 4096) 2 1 0 0 ≡ Counted.Refused BadK
-  pub ring_7 : ring_answer season (ask 2) 2 1 0 0 ≡ Counted.Refused BadRange
-  pub ring_7_above : ring_answer season (ask 2) 1 1025 0 0 ≡ Counted.Refused BadRange
-  pub ring_8 : ring_answer season (ask 2) 1 2 5 0 ≡ Counted.Refused BadLength
-  pub ring_9 : ring_answer season (ask 2) 1 2 6 8215 ≡ Counted.Refused Scratch
-  pub ring_done : ring_answer season (ask 2) 1 2 6 8216 ≡ Counted.Count 3
+  pub table_first : ring_answer (row 0 0 1) (ask 0) 2 1 0 0 ≡ Err (BadDay 0)
+  pub ring_6 : ring_answer season (ask 4096) 2 1 0 0 ≡ Err BadK
+  pub ring_7 : ring_answer season (ask 2) 2 1 0 0 ≡ Err BadRange
+  pub ring_7_above : ring_answer season (ask 2) 1 1025 0 0 ≡ Err BadRange
+  pub ring_8 : ring_answer season (ask 2) 1 2 5 0 ≡ Err BadLength
+  pub ring_9 : ring_answer season (ask 2) 1 2 6 8215 ≡ Err Scratch
+  pub ring_done : ring_answer season (ask 2) 1 2 6 8216 ≡ Ok 3
   -- 9 keeps every buffer; success leaves the scratch 0, the whole of a longer one
   pub kept_marks : ring_marks (ring_answer season (ask 2) 1 2 6 8215) season (ask 2) 1 2 (replicate 6 9) ≡ replicate 6 9
   pub kept_scratch : counted_scratch (ring_answer season (ask 2) 1 2 6 3) (replicate 3 9) ≡ replicate 3 9
   pub whole_scratch : counted_scratch (ring_answer season (ask 2) 1 2 6 8300) (replicate 8300 9) ≡ replicate 8300 0
   -- Core times: 7 is about the range and the start; 8 about both columns
-  pub times_7_before : times_answer season (ask 2) 2 6 1 4096 6 8216 ≡ Refused BadRange
-  pub times_7_after : times_answer season (ask 2) 1 5 6 4096 6 8216 ≡ Refused BadRange
-  pub times_8_accounts : times_answer season (ask 2) 1 6 1 4095 6 8216 ≡ Refused BadLength
-  pub times_8_rows : times_answer season (ask 2) 1 6 1 4096 7 0 ≡ Refused BadLength
-  pub times_9 : times_answer season (ask 2) 1 6 1 4096 6 8215 ≡ Refused Scratch
-  pub times_kept : row_column (Refused Scratch) season (ask 2) 6 1 (replicate 6 9) ≡ replicate 6 9
+  pub times_7_before : times_answer season (ask 2) 2 6 1 4096 6 8216 ≡ Err BadRange
+  pub times_7_after : times_answer season (ask 2) 1 5 6 4096 6 8216 ≡ Err BadRange
+  pub times_8_accounts : times_answer season (ask 2) 1 6 1 4095 6 8216 ≡ Err BadLength
+  pub times_8_rows : times_answer season (ask 2) 1 6 1 4096 7 0 ≡ Err BadLength
+  pub times_9 : times_answer season (ask 2) 1 6 1 4096 6 8215 ≡ Err Scratch
+  pub times_kept : row_column (Err Scratch) season (ask 2) 6 1 (replicate 6 9) ≡ replicate 6 9
   pub times_scratch : verdict_scratch (times_answer season (ask 2) 1 6 1 4096 6 8215) (replicate 8215 9) ≡ replicate 8215 9
   -- Minimal windows: 8 before 9, 9 before 10
-  pub minimal_8 : minimal_answer season (ask 2) 1 6 7 7 8 0 ≡ Counted.Refused BadLength
-  pub minimal_9 : minimal_answer season (ask 2) 1 6 7 7 7 0 ≡ Counted.Refused Scratch
+  pub minimal_8 : minimal_answer season (ask 2) 1 6 7 7 8 0 ≡ Err BadLength
+  pub minimal_9 : minimal_answer season (ask 2) 1 6 7 7 7 0 ≡ Err Scratch
   -- 10 leaves the scratch 0
-  pub minimal_10 : minimal_answer season (ask 2) 1 6 7 7 7 8216 ≡ Counted.Refused NoRoom
+  pub minimal_10 : minimal_answer season (ask 2) 1 6 7 7 7 8216 ≡ Err NoRoom
   pub minimal_10_scratch : counted_scratch (minimal_answer season (ask 2) 1 6 7 7 7 8216) (replicate 8216 9) ≡ replicate 8216 0
   -- Recall: 8, then 14 at the first wrong entry, then 7
-  pub recall_8 : recall_answer season (entry 6 1 2) 2 1 5 ≡ Refused BadLength
-  pub recall_14_row : recall_answer season (entry 6 1 2) 2 1 6 ≡ Refused (BadEntry 0)
-  pub recall_14_start : recall_answer season (entry 0 0 2) 1 6 6 ≡ Refused (BadEntry 0)
-  pub recall_14_day : recall_answer season (entry 3 1 3) 1 6 6 ≡ Refused (BadEntry 0)
-  pub recall_14_end : recall_answer season (entry 0 1 1025) 1 6 6 ≡ Refused (BadEntry 0)
-  pub recall_14_falling : recall_answer season (two_entries 1 1 2 0 1 2) 1 6 6 ≡ Refused (BadEntry 1)
-  pub recall_14_same_start : recall_answer season (two_entries 1 1 2 1 1 4) 1 6 6 ≡ Refused (BadEntry 1)
-  pub recall_14_same_end : recall_answer season (two_entries 1 1 4 1 2 4) 1 6 6 ≡ Refused (BadEntry 1)
-  pub recall_7 : recall_answer season (two_entries 1 1 2 1 2 4) 2 1 6 ≡ Refused BadRange
+  pub recall_8 : recall_answer season (entry 6 1 2) 2 1 5 ≡ Err BadLength
+  pub recall_14_row : recall_answer season (entry 6 1 2) 2 1 6 ≡ Err (BadEntry 0)
+  pub recall_14_start : recall_answer season (entry 0 0 2) 1 6 6 ≡ Err (BadEntry 0)
+  pub recall_14_day : recall_answer season (entry 3 1 3) 1 6 6 ≡ Err (BadEntry 0)
+  pub recall_14_end : recall_answer season (entry 0 1 1025) 1 6 6 ≡ Err (BadEntry 0)
+  pub recall_14_falling : recall_answer season (two_entries 1 1 2 0 1 2) 1 6 6 ≡ Err (BadEntry 1)
+  pub recall_14_same_start : recall_answer season (two_entries 1 1 2 1 1 4) 1 6 6 ≡ Err (BadEntry 1)
+  pub recall_14_same_end : recall_answer season (two_entries 1 1 4 1 2 4) 1 6 6 ≡ Err (BadEntry 1)
+  pub recall_7 : recall_answer season (two_entries 1 1 2 1 2 4) 2 1 6 ≡ Err BadRange
   pub recall_empty_list : recall_marks
       (recall_answer season (record { rows = []; starts = []; ends = [] }) 1 6 6) season
       (record { rows = []; starts = []; ends = [] }) 1 6 (replicate 6 9)
       ≡ replicate 6 0
   -- Mistake: "counting rows as neighbours". Two rows of one pair, k = 2
-  pub one_neighbour : ring_answer (record { days = 1 ∷ 2 ∷ []; first = 1 ∷ 1 ∷ []; second = 2 ∷ 2 ∷ [] }) (ask 2) 1 2 2 8200 ≡ Counted.Count 0
+  pub one_neighbour : ring_answer (record { days = 1 ∷ 2 ∷ []; first = 1 ∷ 1 ∷ []; second = 2 ∷ 2 ∷ [] }) (ask 2) 1 2 2 8200 ≡ Ok 0
   -- Mistake: "a row's time from its accounts alone: row 3 at start 1 would have 2"
   pub own_day : row_time season (ask 2) 6 1 3 ≡ 4
 

@@ -6,34 +6,32 @@
 --     query_check q       6
 --     range_check s e     7, of a window and of a range
 --     scratch_check rows n    9, for a table of so many rows and a scratch of n numbers
-use Rattle.std.specs.Prelude.{ℕ, ◌+◌, ◌*◌, Bool, true, false, List, [], ◌∷◌, leb, ltb}
+use Rattle.std.specs.Prelude.{ℕ, ◌+◌, ◌*◌, Bool, true, false, List, [], ◌∷◌, leb, ltb, Ok, Err}
 use Rattle.rings.specs.Words.{◌and◌, no}
 use Rattle.rings.specs.declared.Query.{Query}
 use Rattle.rings.specs.declared.refusal.Refusal.{Refusal}
 use Rattle.rings.specs.declared.refusal.Refusal.TheVariants.{BadK, BadRange, Scratch}
-use Rattle.rings.specs.declared.refusal.Verdict.{Verdict}
-use Rattle.rings.specs.declared.refusal.Verdict.TheVariants.{Accepted, Refused}
-use Rattle.rings.specs.declared.refusal.Counted.{Counted}
+use Rattle.rings.specs.Refusals.{Verdict, Counted}
 
 infix 20 ◌when◌
 infixr 15 ◌then◌
 -- 01's "7: not .." reads `BadRange when no ..`
 unfoldable pub ◌when◌ : Refusal → Bool → Verdict
-r when true = Refused r
-r when false = Accepted
+r when true = Err r
+r when false = Ok tt
 
 -- 01: "Checks run in the order written"
 unfoldable pub ◌then◌ : Verdict → Verdict → Verdict
-Accepted then w = w
-Refused r then w = Refused r
+Ok _ then w = w
+Err r then w = Err r
 
 unfoldable pub in_order : List Verdict → Verdict
-in_order [] = Accepted
+in_order [] = Ok tt
 in_order (v ∷ vs) = v then in_order vs
 
 unfoldable pub counted : Verdict → ℕ → Counted
-counted Accepted n = Counted.Count n
-counted (Refused r) n = Counted.Refused r
+counted (Ok _) n = Ok n
+counted (Err r) n = Err r
 
 -- 01: "6: k outside 1 to 4,095"
 unfoldable pub query_check : Query → Verdict

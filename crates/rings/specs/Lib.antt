@@ -8,6 +8,7 @@ pub mod Checks
 pub mod Buffers
 pub mod TableCheck
 pub mod Sound
+pub mod Payments
 pub mod WindowRingCall
 pub mod CoreTimesCall
 pub mod MinimalWindowsCall

@@ -8,7 +8,7 @@
 --     entry_check t c i  14 at entry i
 --     recall_answer      the answer: what stops the call, in order
 --     recall_marks       the marks at exit
-use Rattle.std.specs.Prelude.{ℕ, zero, suc, Bool, true, List, length, leb, ltb, eqb}
+use Rattle.std.specs.Prelude.{ℕ, zero, suc, Bool, true, List, length, leb, ltb, eqb, Ok, Err}
 use Rattle.rings.specs.Words.{◌and◌, ◌or◌, no, at, tabulate}
 use Rattle.rings.specs.Table.{Table, size, day_of}
 use Rattle.rings.specs.Windows.{Entry, entries, recalled}
@@ -16,7 +16,7 @@ use Rattle.rings.specs.Checks.{◌when◌, ◌then◌, in_order, range_check}
 use Rattle.rings.specs.Buffers.{marks}
 use Rattle.rings.specs.TableCheck.{table_check}
 use Rattle.rings.specs.declared.refusal.Refusal.TheVariants.{BadLength, BadEntry}
-use Rattle.rings.specs.declared.refusal.Verdict.{Verdict}
+use Rattle.rings.specs.Refusals.{Verdict}
 
 pub record Columns : Type 0 where
   pub rows : List ℕ
@@ -55,5 +55,5 @@ recall_answer t c s e mark_places =
 
 -- 01: "marks 1 each row with a listed window inside [s, e], 0 every other"
 unfoldable pub recall_marks : Verdict → Table → Columns → ℕ → ℕ → List ℕ → List ℕ
-recall_marks Verdict.Accepted t c s e old = marks (tabulate (recalled (entries c.rows c.starts c.ends) s e) 0 (size t))
-recall_marks (Verdict.Refused r) t c s e old = old
+recall_marks (Ok _) t c s e old = marks (tabulate (recalled (entries c.rows c.starts c.ends) s e) 0 (size t))
+recall_marks (Err r) t c s e old = old

@@ -3,21 +3,18 @@
 --     number_of r         its number
 --     place_number p, place_of r     a place as a number; the place of a refusal
 --     behind_scratch r    its check stands behind 9
---     told_of r           number and place, as the code hands them on
+--     Verdict, Counted   what is answered where nothing or a number is found: Ok, or the refusal
 --     Report             what a call tells its caller in numbers: the refusal's number (0 for none), its place, and the count (0 on a refusal)
 --     done n, refused r  the reports of a success and of a refusal
 --     verdict_report v    the report of Table check, Core times and Recall
 --     counted_report c    the report of Window ring and Minimal windows
-use Rattle.std.specs.Prelude.{ℕ, Bool, true, false}
+use Rattle.std.specs.Prelude.{ℕ, Bool, true, false, Result, Ok, Err, ⊤}
 use Rattle.rings.specs.declared.refusal.Refusal.{Refusal}
 use Rattle.rings.specs.declared.refusal.Refusal.TheVariants.{ColumnsDiffer, TooLarge, BadDay, BadAccounts}
 use Rattle.rings.specs.declared.refusal.Refusal.TheVariants.{DayFalls, BadK, BadRange, BadLength, Scratch}
 use Rattle.rings.specs.declared.refusal.Refusal.TheVariants.{NoRoom, BadEntry, NotInRing}
 use Rattle.rings.specs.declared.refusal.Place.{Place}
 use Rattle.rings.specs.declared.refusal.Place.TheVariants.{Nowhere, Row, Entry}
-use Rattle.rings.specs.declared.refusal.Told.{Told}
-use Rattle.rings.specs.declared.refusal.Verdict.{Verdict}
-use Rattle.rings.specs.declared.refusal.Counted.{Counted}
 
 -- 01: "A refusal is a number and a place: a row for 3, 4, 5; a list entry from 0 for 14; .. else 0"; "a check that stands behind 9"
 pub record Rule : Type 0 where
@@ -55,8 +52,13 @@ place_of r = place_number (rule_of r).place
 unfoldable pub behind_scratch : Refusal → Bool
 behind_scratch r = (rule_of r).is_behind_scratch
 
-unfoldable pub told_of : Refusal → Told
-told_of r = record { number = number_of r; place = (rule_of r).place }
+-- the answer of a list of checks, and of Table check, Core times and Recall
+abbrev pub Verdict : Type 0
+Verdict = Result ⊤ Refusal
+
+-- the answer of Window ring and Minimal windows
+abbrev pub Counted : Type 0
+Counted = Result ℕ Refusal
 
 pub record Report : Type 0 where
   pub number : ℕ
@@ -70,9 +72,9 @@ unfoldable pub refused : Refusal → Report
 refused r = record { number = number_of r; place = place_of r; count = 0 }
 
 unfoldable pub verdict_report : Verdict → Report
-verdict_report Verdict.Accepted = done 0
-verdict_report (Verdict.Refused r) = refused r
+verdict_report (Ok _) = done 0
+verdict_report (Err r) = refused r
 
 unfoldable pub counted_report : Counted → Report
-counted_report (Counted.Count n) = done n
-counted_report (Counted.Refused r) = refused r
+counted_report (Ok n) = done n
+counted_report (Err r) = refused r

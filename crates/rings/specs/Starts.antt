@@ -60,8 +60,8 @@ pub record Prepared (t : Table) (sc : List ℕ) : Type 0 where
   pub inside : Paired t sc
 
 pub record TimesAt (t : Table) (q : Query) (hi s lo : ℕ) (x : List ℕ) : Type 0 where
-  pub inside : Framed t.days t.first t.second (frame_of q s hi lo)
-      × CoreTimesAre t.days t.first t.second (frame_of q s hi lo) x
+  pub inside : Framed t (frame_of q s hi lo)
+      × CoreTimesAre t (frame_of q s hi lo) x
 
 pub record AtStart (t : Table) (q : Query) (hi s lo : ℕ) (sc times slack counts : List ℕ) : Type 0 where
   pub inside : Started t.days t.first t.second sc (frame_of q s hi lo) times slack counts

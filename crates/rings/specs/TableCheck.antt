@@ -8,7 +8,7 @@ use Rattle.rings.specs.Words.{◌and◌, ◌or◌, no, tabulate}
 use Rattle.rings.specs.Table.{Table, size, day_of, first_of, second_of}
 use Rattle.rings.specs.Checks.{◌when◌, ◌then◌, in_order}
 use Rattle.rings.specs.declared.refusal.Refusal.TheVariants.{ColumnsDiffer, TooLarge, BadDay, BadAccounts, DayFalls}
-use Rattle.rings.specs.declared.refusal.Verdict.{Verdict}
+use Rattle.rings.specs.Refusals.{Verdict}
 
 unfoldable pub day_before : Table → ℕ → ℕ
 day_before t zero = 0

@@ -8,71 +8,59 @@ ghost use Rattle.rings.specs.declared.refusal.Refusal.TheVariants.{BadLength, Ba
 
 use crate::Query;
 use crate::limits::{ADJACENCY, LAST_ACCOUNT, LAST_DAY};
-use crate::refusal::{Refusal, Verdict};
+use crate::refusal::Refusal;
 use crate::table::check_table;
 
 // 1 ≤ s ≤ e ≤ 1,024.
 pub fn is_window(s: u16, e: u16) -> bool
     ensures { result ≡ (leb 1 s and leb s e and leb e 1024) }
 {
-    if s < 1 {
-        return false;
-    }
-    if e < s {
-        return false;
-    }
-    e <= LAST_DAY
+    (1 <= s) & (s <= e) & (e <= LAST_DAY)
 }
 
 // 1 ≤ Ts ≤ s ≤ Te ≤ 1,024.
 pub(crate) fn is_start(ts: u16, s: u16, te: u16) -> bool
     ensures { result ≡ (leb 1 ts and leb ts s and leb s te and leb te 1024) }
 {
-    if ts < 1 {
-        return false;
-    }
-    if s < ts {
-        return false;
-    }
-    if te < s {
-        return false;
-    }
-    te <= LAST_DAY
+    (1 <= ts) & (ts <= s) & (s <= te) & (te <= LAST_DAY)
 }
 
 // Two pairs of lengths are equal.
 pub fn are_equal(a: usize, b: usize, c: usize, d: usize) -> bool
     ensures { result ≡ (eqb a b and eqb c d) }
 {
-    if a != b {
-        return false;
-    }
-    c == d
+    (a == b) & (c == d)
 }
 
 // 6, 7, 8, 9 on numbers alone.
-fn check_numbers(rows: usize, query: Query, window: bool, lengths: bool, scratch: usize) -> Verdict
+fn check_numbers(
+    rows: usize,
+    query: Query,
+    window: bool,
+    lengths: bool,
+    scratch: usize,
+) -> Result<(), Refusal>
     requires { rows ≤ 16384 }
     ensures { result ≡ (
         query_check query then BadRange when no window then BadLength when no lengths then scratch_check rows scratch) }
 {
     let k = query.k;
     if k < 1 {
-        return Verdict::Refused(Refusal::BadK);
+        return Err(Refusal::BadK);
     }
     if LAST_ACCOUNT < k {
-        return Verdict::Refused(Refusal::BadK);
+        return Err(Refusal::BadK);
     }
     if !window {
-        return Verdict::Refused(Refusal::BadRange);
+        return Err(Refusal::BadRange);
     }
     if !lengths {
-        return Verdict::Refused(Refusal::BadLength);
+        return Err(Refusal::BadLength);
     }
     if scratch < ADJACENCY + 4 * rows {
-        return Verdict::Refused(Refusal::Scratch);
+        return Err(Refusal::Scratch);
     }
-    Verdict::Accepted
+    Ok(())
 }
 
 // The table, then 6, 7, 8, 9.
@@ -84,14 +72,11 @@ pub fn check_call(
     window: bool,
     lengths: bool,
     scratch: usize,
-) -> Verdict
+) -> Result<(), Refusal>
     ensures { let t = table_of days.now first.now second.now in
         result ≡ (table_check t then query_check query then BadRange when no window then BadLength when no lengths
         then scratch_check (size t) scratch) }
 {
-    let found = check_table(days, first, second);
-    match found {
-        Verdict::Refused(r) => Verdict::Refused(r),
-        Verdict::Accepted => check_numbers(days.len(), query, window, lengths, scratch),
-    }
+    check_table(days, first, second)?;
+    check_numbers(days.len(), query, window, lengths, scratch)
 }

@@ -1,6 +1,5 @@
 // Choices without a branch: what a processor cannot foresee is better computed.
 ghost use Rattle.std.specs.Prelude.{◌≡◌};
-ghost use Prim.Native.Nat.{min};
 ghost use Rattle.rings.specs.Choice.{Picked};
 
 // 1 where the test holds, else 0.
@@ -15,18 +14,4 @@ pub fn pick(test: bool, x: u16, y: u16) -> u16
     ensures { Picked test x y result }
 {
     if test { x } else { y }
-}
-
-// The lesser of two numbers.
-pub fn lesser(a: u16, b: u16) -> u16
-    ensures { result ≡ min a b }
-{
-    if a < b { a } else { b }
-}
-
-// The greater of two numbers.
-pub fn greater(a: u16, b: u16) -> u16
-    ensures { result ≡ Prim.Native.Nat.max a b }
-{
-    if a < b { b } else { a }
 }

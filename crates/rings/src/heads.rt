@@ -1,12 +1,13 @@
 // The head of each account: where a walk over its rows begins in the adjacency. At first that is its first row;
 // from start to start it passes the rows that leave.
 ghost use Rattle.std.specs.Prelude.{◌≡◌};
-ghost use Rattle.rings.specs.Table.{table_of};
+ghost use Rattle.rings.specs.Payments.{table};
 ghost use Rattle.rings.specs.Sound.{Sound};
 ghost use Rattle.rings.specs.Inner.Adjacency.{Adjacency, AdjacencyAtSomeDay, HeadInside, head_passed, HeadsAt};
 ghost use Rattle.rings.specs.Inner.Adjacency.{HeadsMoved, PrunedInside, Passing, Leaving, HeadsPassed};
 
 use crate::limits::{ACCOUNTS, ADJACENCY};
+use crate::payments::Payments;
 use crate::slices::{entry, put};
 
 // The head of u passes a row.
@@ -20,43 +21,36 @@ fn pass_row(scratch: &mut [u16], u: usize)
 
 // The heads go on from day s, whose first row is lo, to a later day, whose first row is next.
 pub(crate) fn move_heads(
-    days: &[u16],
-    first: &[u16],
-    second: &[u16],
+    payments: Payments<'_>,
     scratch: &mut [u16],
     s: u16,
     day: u16,
     lo: usize,
     next: usize,
 )
-    requires { HeadsAt days.now first.now second.now scratch.old s day lo next }
-    ensures { let t = table_of days.now first.now second.now in
+    requires { HeadsAt (table payments) scratch.old s day lo next }
+    ensures { let t = table payments.entry in
         HeadsMoved t day scratch.old scratch.new }
 {
-    let mut j = lo;
-    while j < next {
-        let a = entry(first, j);
-        let b = entry(second, j);
+    for j in lo..next {
+        let a = entry(payments.first, j);
+        let b = entry(payments.second, j);
         pass_row(scratch, a);
         pass_row(scratch, b);
-        j += 1;
     }
 }
 
 // The heads go back to the first rows: each account's entries begin where those of the account before it end.
-pub(crate) fn reset_heads(days: &[u16], first: &[u16], second: &[u16], scratch: &mut [u16])
-    requires sound { Sound days.now first.now second.now }
-    requires adjacency_at_some_day { AdjacencyAtSomeDay (table_of days.now first.now second.now) scratch.old }
-    ensures { let t = table_of days.now first.now second.now in
+pub(crate) fn reset_heads(payments: Payments<'_>, scratch: &mut [u16])
+    requires { AdjacencyAtSomeDay (table payments) scratch.old }
+    ensures { let t = table payments.entry in
         Adjacency t 0 scratch.new }
 {
     let mut from = 0;
-    let mut u = 0;
-    while u < ACCOUNTS {
+    for u in 0..ACCOUNTS {
         let end = entry(scratch, u);
         put(scratch, ACCOUNTS + u, from);
         from = end;
-        u += 1;
     }
 }
 
@@ -76,24 +70,15 @@ fn pass_head(scratch: &mut [u16], u: usize, j: usize)
 }
 
 // The rows from lo to next leave: the heads pass those that stand in the adjacency.
-pub(crate) fn pass_heads(
-    days: &[u16],
-    first: &[u16],
-    second: &[u16],
-    scratch: &mut [u16],
-    lo: usize,
-    next: usize,
-)
-    requires { Leaving days.now first.now second.now scratch.old lo next }
-    ensures { let t = table_of days.now first.now second.now in
+pub(crate) fn pass_heads(payments: Payments<'_>, scratch: &mut [u16], lo: usize, next: usize)
+    requires { Leaving (table payments) scratch.old lo next }
+    ensures { let t = table payments.entry in
         HeadsPassed t lo scratch.old next scratch.new }
 {
-    let mut row = lo;
-    while row < next {
-        let a = entry(first, row);
-        let b = entry(second, row);
+    for row in lo..next {
+        let a = entry(payments.first, row);
+        let b = entry(payments.second, row);
         pass_head(scratch, a, row);
         pass_head(scratch, b, row);
-        row += 1;
     }
 }

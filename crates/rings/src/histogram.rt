@@ -1,13 +1,14 @@
 // Day counts: how many rows have each day as their time. Listing keeps them up as times rise; 1,025 numbers, by day.
 ghost use Rattle.std.specs.Prelude.{◌≡◌, true, false, ◌+◌, length};
-ghost use Rattle.rings.specs.Table.{table_of};
+ghost use Rattle.rings.specs.Payments.{table};
 ghost use Rattle.rings.specs.Inner.Counting.{CountsBy, WhereCounted, Timed, Adding, Removing, Taking, Moving};
 ghost use Rattle.rings.specs.Inner.Counting.{AddAsks, RemoveAsks, TakeAsks, MoveAsks, CountAsks, DropAsks};
 
 use crate::choice::{one, pick};
 use crate::frame::Frame;
 use crate::limits::NEVER;
-use crate::slices::{clear, wide};
+use crate::payments::Payments;
+use crate::slices::wide;
 use crate::times::row_time;
 
 // m rows more with this time, if it is a day.
@@ -36,19 +37,18 @@ pub(crate) fn drop_count(counts: &mut [u16], time: u16)
 
 // Where days are counted and the test holds: one row fewer with this time, and one more of m that are still to be
 // counted. A sum and no branch on the test: whether a row's time moves no processor foresees.
-pub(crate) fn take_from_histogram(
-    counting: bool,
+pub(crate) fn take_from_histogram<const COUNTING: bool>(
     counts: &mut [u16],
     test: bool,
     time: u16,
     m: u16,
 ) -> u16
-    requires { counting ≡ true → TakeAsks test time m counts.old }
-    ensures where_counted { WhereCounted counting (Taking test time m counts.old counts.new result)
+    requires { COUNTING ≡ true → TakeAsks test time m counts.old }
+    ensures where_counted { WhereCounted COUNTING (Taking test time m counts.old counts.new result)
         counts.old counts.new }
-    ensures value { counting ≡ false → result ≡ m }
+    ensures value { COUNTING ≡ false → result ≡ m }
 {
-    if !counting {
+    if !COUNTING {
         return m;
     }
     let more = one(test);
@@ -58,24 +58,29 @@ pub(crate) fn take_from_histogram(
 }
 
 // Where days are counted: the m rows that are still to be counted have this time.
-pub(crate) fn add_to_histogram(counting: bool, counts: &mut [u16], time: u16, m: u16)
-    requires { counting ≡ true → AddAsks m time counts.old }
-    ensures { WhereCounted counting (Adding m time counts.old counts.new)
+pub(crate) fn add_to_histogram<const COUNTING: bool>(counts: &mut [u16], time: u16, m: u16)
+    requires { COUNTING ≡ true → AddAsks m time counts.old }
+    ensures { WhereCounted COUNTING (Adding m time counts.old counts.new)
         counts.old counts.new }
 {
-    if !counting {
+    if !COUNTING {
         return;
     }
     add_count(counts, time, m);
 }
 
 // Where days are counted: m rows go from one day to another time.
-pub(crate) fn move_in_histogram(counting: bool, counts: &mut [u16], old: u16, new: u16, m: u16)
-    requires { counting ≡ true → MoveAsks m old new counts.old }
-    ensures { WhereCounted counting (Moving m old new counts.old counts.new)
+pub(crate) fn move_in_histogram<const COUNTING: bool>(
+    counts: &mut [u16],
+    old: u16,
+    new: u16,
+    m: u16,
+)
+    requires { COUNTING ≡ true → MoveAsks m old new counts.old }
+    ensures { WhereCounted COUNTING (Moving m old new counts.old counts.new)
         counts.old counts.new }
 {
-    if !counting {
+    if !COUNTING {
         return;
     }
     let e = wide(old);
@@ -85,48 +90,40 @@ pub(crate) fn move_in_histogram(counting: bool, counts: &mut [u16], old: u16, ne
 
 // The core times at s of all rows, from nothing.
 pub(crate) fn count_times(
-    days: &[u16],
-    first: &[u16],
-    second: &[u16],
+    payments: Payments<'_>,
     frame: Frame,
     end: usize,
     times: &[u16],
     counts: &mut [u16],
 )
-    requires count_asks { CountAsks days.now first.now second.now frame end times.now }
+    requires count_asks { CountAsks (table payments) frame end times.now }
     requires counts_len { length counts.old ≡ 1025 }
-    ensures { let t = table_of days.now first.now second.now in
-        Timed t frame.query frame.stop frame.start (length days.now) counts.new }
+    ensures { let t = table payments.entry in
+        Timed t frame.query frame.stop frame.start (length payments.entry.days.now) counts.new }
 {
-    clear(counts);
-    let mut j = frame.lo;
-    while j < end {
-        let time = row_time(days, first, second, frame, end, times, j);
+    counts.fill(0);
+    for j in frame.lo..end {
+        let time = row_time(payments, frame, end, times, j);
         add_count(counts, time, 1);
-        j += 1;
     }
 }
 
 // The rows of the first day leave: they have no time on the day after it.
 pub(crate) fn drop_rows(
-    days: &[u16],
-    first: &[u16],
-    second: &[u16],
+    payments: Payments<'_>,
     frame: Frame,
     next: usize,
     end: usize,
     times: &[u16],
     counts: &mut [u16],
 )
-    requires count_asks { CountAsks days.now first.now second.now frame end times.now }
-    requires drop_asks { DropAsks days.now first.now second.now frame next counts.old }
-    ensures { CountsBy days.now first.now second.now
+    requires count_asks { CountAsks (table payments) frame end times.now }
+    requires drop_asks { DropAsks (table payments) frame next counts.old }
+    ensures { CountsBy (table payments.entry)
         (frame.start + 1) frame.stop times.now counts.new }
 {
-    let mut j = frame.lo;
-    while j < next {
-        let time = row_time(days, first, second, frame, end, times, j);
+    for j in frame.lo..next {
+        let time = row_time(payments, frame, end, times, j);
         drop_count(counts, time);
-        j += 1;
     }
 }

@@ -1,11 +1,12 @@
 // One step of a walk over the rows of an account, for every loop that makes such a walk: what stands at a place of
 // the adjacency.
 ghost use Rattle.std.specs.Prelude.{◌≡◌, ◌+◌, get_or};
-ghost use Rattle.rings.specs.Table.{table_of};
+ghost use Rattle.rings.specs.Payments.{table};
 ghost use Rattle.rings.specs.Inner.Incident.{PlaceStands, RowStands, RowRead};
 
 use crate::limits::ADJACENCY;
 use crate::pairs::other;
+use crate::payments::Payments;
 use crate::slices::entry;
 
 // A row as a walk over the rows of one of its accounts meets it: the row, its day, its other account,
@@ -31,23 +32,21 @@ pub(crate) fn day_at(days: &[u16], scratch: &[u16], p: usize) -> u16
 // The row of u that stands at place p of the adjacency. It is inlined: a loop that uses some of the fields reads no
 // more than these.
 pub(crate) fn row_at(
-    days: &[u16],
-    first: &[u16],
-    second: &[u16],
+    payments: Payments<'_>,
     scratch: &[u16],
     lo: usize,
     u: usize,
     p: usize,
 ) -> Incident
-    requires { RowStands days.now first.now second.now scratch.now u p }
-    ensures { let t = table_of days.now first.now second.now in
+    requires { RowStands (table payments) scratch.now u p }
+    ensures { let t = table payments.entry in
         RowRead t scratch.now lo u p result }
 {
-    let n = days.len();
+    let n = payments.days.len();
     let row = entry(scratch, ADJACENCY + p);
-    let day = days[row];
-    let a = entry(first, row);
-    let b = entry(second, row);
+    let day = payments.days[row];
+    let a = entry(payments.first, row);
+    let b = entry(payments.second, row);
     let v = other(a, b, u);
     let earlier = entry(scratch, ADJACENCY + 2 * n + row);
     Incident {

@@ -1,7 +1,8 @@
 // The limits of document 01 and the places of the scratch, by name. Definitions of specs/ state them; the proofs tie
 // the two.
 
-// No core time: the number that stands for never.
+// No core time: the number that stands for never, and no Option: the columns of the C interface hold it, and the
+// greatest of times is found without a test for it.
 pub(crate) const NEVER: u16 = 65535;
 
 // Days are 1 to this, and so are the windows and ranges of a query.

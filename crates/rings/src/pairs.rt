@@ -4,12 +4,14 @@
 // as slots,
 // and those of the earlier rows as chains: so the earlier rows come before the adjacency.
 ghost use Rattle.std.specs.Prelude.{◌≡◌, ◌&&◌, ◌+◌, ◌*◌, ◌≤◌, length, get_or, eqb};
-ghost use Rattle.rings.specs.Table.{table_of, size};
+ghost use Rattle.rings.specs.Payments.{table};
+ghost use Rattle.rings.specs.Table.{size};
 ghost use Rattle.rings.specs.Sound.{Sound};
 ghost use Rattle.rings.specs.Inner.Adjacency.{AccountEnds, AccountPair, SlotFound, InColumns, Emptied, Chained, Pairing, Paired, pick_other};
 ghost use Rattle.rings.specs.Inner.Peeling.{EarlierStands, leads_by};
 
 use crate::limits::ADJACENCY;
+use crate::payments::Payments;
 use crate::slices::{entry, put};
 
 // A prime that spreads the pairs over the slots.
@@ -47,53 +49,43 @@ pub(crate) fn clear_slots(scratch: &mut [u16])
     requires { 8192 ≤ length scratch.old }
     ensures { Emptied scratch.old scratch.new }
 {
-    let mut h = 0;
-    while h < ADJACENCY {
-        put(scratch, h, 0);
-        h += 1;
-    }
+    scratch[..ADJACENCY].fill(0);
 }
 
 // Each row with the row before it whose pair has the same slot.
-fn chain_rows(days: &[u16], first: &[u16], second: &[u16], scratch: &mut [u16])
-    requires sound { Sound days.now first.now second.now }
-    requires chained { Chained (table_of days.now first.now second.now) 0 scratch.old }
-    ensures { let t = table_of days.now first.now second.now in
+fn chain_rows(payments: Payments<'_>, scratch: &mut [u16])
+    requires { Chained (table payments) 0 scratch.old }
+    ensures { let t = table payments.entry in
         Chained t (size t) scratch.new }
 {
-    let n = days.len();
-    let mut j = 0;
-    while j < n {
-        let a = entry(first, j);
-        let b = entry(second, j);
+    let n = payments.days.len();
+    for j in 0..n {
+        let a = entry(payments.first, j);
+        let b = entry(payments.second, j);
         let h = slot_of(a, b);
         let last = entry(scratch, h);
         put(scratch, ADJACENCY + 2 * n + j, last);
         put(scratch, h, j + 1);
-        j += 1;
     }
 }
 
 // The earlier row of each row's pair. The rows of its chain are searched, and the search is left when one of the pair
-// is found.
+// is found: by a label, as 01 asks.
 // From the last row on, so that the chains of the rows before it are still there.
-fn find_pairs(days: &[u16], first: &[u16], second: &[u16], scratch: &mut [u16])
-    requires sound { Sound days.now first.now second.now }
-    requires pairing { let t = table_of days.now first.now second.now in Pairing t (size t) scratch.old }
-    ensures { let t = table_of days.now first.now second.now in
+fn find_pairs(payments: Payments<'_>, scratch: &mut [u16])
+    requires { let t = table payments in Pairing t (size t) scratch.old }
+    ensures { let t = table payments.entry in
         Pairing t 0 scratch.new }
 {
-    let n = days.len();
-    let mut left = n;
-    'rows: while 0 < left {
-        let j = left - 1;
-        let a = entry(first, j);
-        let b = entry(second, j);
+    let n = payments.days.len();
+    'rows: for j in (0..n).rev() {
+        let a = entry(payments.first, j);
+        let b = entry(payments.second, j);
         let mut p = entry(scratch, ADJACENCY + 2 * n + j);
-        left = j;
+        // a `while`, as it goes from row to row by what each one's place holds
         while 0 < p {
             let i = p - 1;
-            if is_pair(first, second, i, a, b) {
+            if is_pair(payments.first, payments.second, i, a, b) {
                 put(scratch, ADJACENCY + 2 * n + j, p);
                 continue 'rows;
             }
@@ -104,15 +96,14 @@ fn find_pairs(days: &[u16], first: &[u16], second: &[u16], scratch: &mut [u16])
 }
 
 // The earlier rows of an accepted table, in a scratch of any contents.
-pub(crate) fn pair_rows(days: &[u16], first: &[u16], second: &[u16], scratch: &mut [u16])
-    requires sound { Sound days.now first.now second.now }
-    requires days_in_bounds { 8192 + 4 * length days.now ≤ length scratch.old }
-    ensures { let t = table_of days.now first.now second.now in
+pub(crate) fn pair_rows(payments: Payments<'_>, scratch: &mut [u16])
+    requires { 8192 + 4 * length payments.days.now ≤ length scratch.old }
+    ensures { let t = table payments.entry in
         Paired t scratch.new }
 {
     clear_slots(scratch);
-    chain_rows(days, first, second, scratch);
-    find_pairs(days, first, second, scratch);
+    chain_rows(payments, scratch);
+    find_pairs(payments, scratch);
 }
 
 // Row j is the first of its pair from row lo on: it brings a new neighbour.

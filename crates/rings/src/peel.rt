@@ -4,8 +4,8 @@
 // removed and is still to be walked.
 // Each account is walked once, from its head on, and each row leaves once, so the work is linear in the rows of the
 // window.
-ghost use Rattle.std.specs.Prelude.{◌-◌};
-ghost use Rattle.rings.specs.Table.{table_of};
+ghost use Rattle.std.specs.Prelude.{◌+◌};
+ghost use Rattle.rings.specs.Payments.{table};
 ghost use Rattle.rings.specs.Inner.Peeling.{PeelBuffers, Droppable, DroppedNeighbour, Ready, Span, NeighbourCounts, CoreTimesAre, all_rows};
 ghost use Rattle.rings.specs.Inner.Peeling.{PeelStateOf, Continues, HeadWaits, HeadWalked, QueueEmpty, RowRemoval, RowsRemovedTo, RowRemovable};
 
@@ -13,7 +13,8 @@ use crate::frame::Frame;
 use crate::incident::row_at;
 use crate::limits::{ACCOUNTS, NEVER};
 use crate::pairs::leads;
-use crate::slices::{clear, entry, put};
+use crate::payments::Payments;
+use crate::slices::{entry, put};
 
 // How far the removal has come: the day that is the core time of who is removed now, the end of the rows that have
 // not left,
@@ -55,9 +56,7 @@ fn drop_neighbour(
 // The rows of the account at the head of the queue: by each leading row that has not left the other account loses a
 // neighbour.
 fn remove_account(
-    days: &[u16],
-    first: &[u16],
-    second: &[u16],
+    payments: Payments<'_>,
     scratch: &[u16],
     frame: Frame,
     removal: Removal,
@@ -65,17 +64,17 @@ fn remove_account(
     left: &mut [u16],
     queue: &mut [u16],
 ) -> Removal
-    requires ready { Ready days.now first.now second.now scratch.now frame }
-    requires head_waits { HeadWaits days.now first.now second.now frame removal times.old left.old queue.old }
-    ensures { HeadWalked days.now first.now second.now frame removal result
+    requires ready { Ready (table payments) scratch.now frame }
+    requires head_waits { HeadWaits (table payments) frame removal times.old left.old queue.old }
+    ensures { HeadWalked (table payments.entry) frame removal result
         times.new left.new queue.new }
 {
     let u = entry(queue, removal.head);
     let end = entry(scratch, u);
-    let mut p = entry(scratch, ACCOUNTS + u);
+    let head = entry(scratch, ACCOUNTS + u);
     let mut tail = removal.tail;
-    while p < end {
-        let here = row_at(days, first, second, scratch, frame.lo, u, p);
+    for p in head..end {
+        let here = row_at(payments, scratch, frame.lo, u, p);
         let j = here.row;
         if removal.end <= j {
             return Removal {
@@ -85,11 +84,9 @@ fn remove_account(
                 tail: tail,
             };
         }
-        p += 1;
         if (frame.lo <= j) & here.leads {
             let v = here.other;
             tail = drop_neighbour(frame.query.k, removal.day, tail, v, times, left, queue);
-            continue;
         }
     }
     Removal {
@@ -100,11 +97,9 @@ fn remove_account(
     }
 }
 
-// Who waits is walked, until nobody does.
+// Who waits is walked, until nobody does. A `while`, as the queue grows on the way.
 fn remove_queued(
-    days: &[u16],
-    first: &[u16],
-    second: &[u16],
+    payments: Payments<'_>,
     scratch: &[u16],
     frame: Frame,
     removal: Removal,
@@ -112,46 +107,40 @@ fn remove_queued(
     left: &mut [u16],
     queue: &mut [u16],
 ) -> Removal
-    requires ready { Ready days.now first.now second.now scratch.now frame }
-    requires peel_state_of { PeelStateOf days.now first.now second.now frame 4096 removal times.old left.old queue.old }
-    ensures { QueueEmpty days.now first.now second.now frame removal result
+    requires ready { Ready (table payments) scratch.now frame }
+    requires peel_state_of { PeelStateOf (table payments) frame 4096 removal times.old left.old queue.old }
+    ensures { QueueEmpty (table payments.entry) frame removal result
         times.new left.new queue.new }
 {
     let mut state = removal;
     while state.head < state.tail {
-        state = remove_account(
-            days, first, second, scratch, frame, state, times, left, queue,
-        );
+        state = remove_account(payments, scratch, frame, state, times, left, queue);
     }
     state
 }
 
-// The last of the rows that have not left, the one before `end`, leaves: the new end of the queue. Who falls by it
-// has its day.
+// Row j, the last of the rows that have not left, leaves: the new end of the queue. Who falls by it has its day.
 // The two numbers go in and one comes back: this is done for each row, and a struct would go through memory.
 fn remove_row(
-    days: &[u16],
-    first: &[u16],
-    second: &[u16],
+    payments: Payments<'_>,
     scratch: &[u16],
     frame: Frame,
-    end: usize,
+    j: usize,
     tail: usize,
     times: &mut [u16],
     left: &mut [u16],
     queue: &mut [u16],
 ) -> usize
-    requires ready { Ready days.now first.now second.now scratch.now frame }
-    requires row_removable { RowRemovable days.now first.now second.now frame end tail times.old left.old queue.old }
-    ensures { RowsRemovedTo days.now first.now second.now frame (end - 1) result
+    requires ready { Ready (table payments) scratch.now frame }
+    requires row_removable { RowRemovable (table payments) frame (j + 1) tail times.old left.old queue.old }
+    ensures { RowsRemovedTo (table payments.entry) frame j result
         times.new left.new queue.new }
 {
-    let n = days.len();
-    let j = end - 1;
-    let e = days[j];
+    let n = payments.days.len();
+    let e = payments.days[j];
     if leads(scratch, n, frame.lo, j) {
-        let a = entry(first, j);
-        let b = entry(second, j);
+        let a = entry(payments.first, j);
+        let b = entry(payments.second, j);
         if entry(times, a) != 0 {
             return tail;
         }
@@ -166,9 +155,7 @@ fn remove_row(
             head: tail,
             tail: two,
         };
-        let idle = remove_queued(
-            days, first, second, scratch, frame, removed, times, left, queue,
-        );
+        let idle = remove_queued(payments, scratch, frame, removed, times, left, queue);
         return idle.tail;
     }
     tail
@@ -176,9 +163,7 @@ fn remove_row(
 
 // The rows leave, from the last on: who is removed meanwhile has the day of the leaving row for its core time.
 fn remove_rows_from_the_end(
-    days: &[u16],
-    first: &[u16],
-    second: &[u16],
+    payments: Payments<'_>,
     scratch: &[u16],
     frame: Frame,
     removal: Removal,
@@ -186,58 +171,46 @@ fn remove_rows_from_the_end(
     left: &mut [u16],
     queue: &mut [u16],
 )
-    requires ready { Ready days.now first.now second.now scratch.now frame }
-    requires row_removal { RowRemoval days.now first.now second.now frame removal times.old left.old queue.old }
-    ensures { CoreTimesAre days.now first.now second.now frame times.new }
+    requires ready { Ready (table payments) scratch.now frame }
+    requires row_removal { RowRemoval (table payments) frame removal times.old left.old queue.old }
+    ensures { CoreTimesAre (table payments.entry) frame times.new }
 {
-    let mut end = removal.end;
     let mut tail = removal.tail;
-    while frame.lo < end {
-        tail = remove_row(
-            days, first, second, scratch, frame, end, tail, times, left, queue,
-        );
-        end -= 1;
+    for j in (frame.lo..removal.end).rev() {
+        tail = remove_row(payments, scratch, frame, j, tail, times, left, queue);
     }
 }
 
 // How many neighbours each account has in the rows from lo to end.
 fn count_neighbours(
-    days: &[u16],
-    first: &[u16],
-    second: &[u16],
+    payments: Payments<'_>,
     scratch: &[u16],
     frame: Frame,
     end: usize,
     left: &mut [u16],
 )
-    requires ready { Ready days.now first.now second.now scratch.now frame }
-    requires span { Span days.now frame.stop frame.lo end }
-    requires neighbour_counts { NeighbourCounts (table_of days.now first.now second.now) frame.lo frame.lo left.old }
-    ensures { let t = table_of days.now first.now second.now in
+    requires ready { Ready (table payments) scratch.now frame }
+    requires span { Span payments.days.now frame.stop frame.lo end }
+    requires neighbour_counts { NeighbourCounts (table payments) frame.lo frame.lo left.old }
+    ensures { let t = table payments.entry in
         NeighbourCounts t frame.lo end left.new }
 {
-    let n = days.len();
-    let mut j = frame.lo;
-    while j < end {
+    let n = payments.days.len();
+    for j in frame.lo..end {
         if leads(scratch, n, frame.lo, j) {
-            let a = entry(first, j);
-            let b = entry(second, j);
+            let a = entry(payments.first, j);
+            let b = entry(payments.second, j);
             let x = entry(left, a);
             put(left, a, x + 1);
             let y = entry(left, b);
             put(left, b, y + 1);
-            j += 1;
-            continue;
         }
-        j += 1;
     }
 }
 
 // Who has fewer than k neighbours to begin with is removed, with no core time.
 fn queue_low_degree(
-    days: &[u16],
-    first: &[u16],
-    second: &[u16],
+    payments: Payments<'_>,
     scratch: &[u16],
     frame: Frame,
     end: usize,
@@ -245,22 +218,18 @@ fn queue_low_degree(
     left: &mut [u16],
     queue: &mut [u16],
 ) -> Removal
-    requires ready { Ready days.now first.now second.now scratch.now frame }
-    requires peel_state_of { PeelStateOf days.now first.now second.now frame 0 (all_rows end) times.old left.old queue.old }
-    ensures { Continues days.now first.now second.now frame (all_rows end) result
+    requires ready { Ready (table payments) scratch.now frame }
+    requires peel_state_of { PeelStateOf (table payments) frame 0 (all_rows end) times.old left.old queue.old }
+    ensures { Continues (table payments.entry) frame (all_rows end) result
         times.new left.new queue.new }
 {
-    let mut u = 0;
     let mut tail = 0;
-    while u < ACCOUNTS {
+    for u in 0..ACCOUNTS {
         if left[u] < frame.query.k {
             put(times, u, NEVER as usize);
             put(queue, tail, u);
             tail += 1;
-            u += 1;
-            continue;
         }
-        u += 1;
     }
     Removal {
         day: NEVER,
@@ -272,9 +241,7 @@ fn queue_low_degree(
 
 // The ring of the whole window: who has not been removed when nobody waits is met in it.
 pub(crate) fn core(
-    days: &[u16],
-    first: &[u16],
-    second: &[u16],
+    payments: Payments<'_>,
     scratch: &[u16],
     frame: Frame,
     end: usize,
@@ -282,24 +249,22 @@ pub(crate) fn core(
     left: &mut [u16],
     queue: &mut [u16],
 ) -> Removal
-    requires ready { Ready days.now first.now second.now scratch.now frame }
-    requires span { Span days.now frame.stop frame.lo end }
+    requires ready { Ready (table payments) scratch.now frame }
+    requires span { Span payments.days.now frame.stop frame.lo end }
     requires peel_buffers { PeelBuffers times.old left.old queue.old }
-    ensures { QueueEmpty days.now first.now second.now frame (all_rows end) result
+    ensures { QueueEmpty (table payments.entry) frame (all_rows end) result
         times.new left.new queue.new }
 {
-    clear(times);
-    clear(left);
-    count_neighbours(days, first, second, scratch, frame, end, left);
-    let low = queue_low_degree(days, first, second, scratch, frame, end, times, left, queue);
-    remove_queued(days, first, second, scratch, frame, low, times, left, queue)
+    times.fill(0);
+    left.fill(0);
+    count_neighbours(payments, scratch, frame, end, left);
+    let low = queue_low_degree(payments, scratch, frame, end, times, left, queue);
+    remove_queued(payments, scratch, frame, low, times, left, queue)
 }
 
 // The core times of all accounts at one start.
 pub(crate) fn peel(
-    days: &[u16],
-    first: &[u16],
-    second: &[u16],
+    payments: Payments<'_>,
     scratch: &[u16],
     frame: Frame,
     end: usize,
@@ -307,13 +272,11 @@ pub(crate) fn peel(
     left: &mut [u16],
     queue: &mut [u16],
 )
-    requires ready { Ready days.now first.now second.now scratch.now frame }
-    requires span { Span days.now frame.stop frame.lo end }
+    requires ready { Ready (table payments) scratch.now frame }
+    requires span { Span payments.days.now frame.stop frame.lo end }
     requires peel_buffers { PeelBuffers times.old left.old queue.old }
-    ensures { CoreTimesAre days.now first.now second.now frame times.new }
+    ensures { CoreTimesAre (table payments.entry) frame times.new }
 {
-    let ring = core(days, first, second, scratch, frame, end, times, left, queue);
-    remove_rows_from_the_end(
-        days, first, second, scratch, frame, ring, times, left, queue,
-    );
+    let ring = core(payments, scratch, frame, end, times, left, queue);
+    remove_rows_from_the_end(payments, scratch, frame, ring, times, left, queue);
 }

@@ -2,7 +2,7 @@
 //     check_recall     the checks, in their order
 //     mark_entries     the marks of an accepted list
 //     recall           the call
-ghost use Rattle.std.specs.Prelude.{◌≡◌, length, replicate, eqb};
+ghost use Rattle.std.specs.Prelude.{◌≡◌, length, eqb};
 ghost use Rattle.rings.specs.Words.{◌and◌, no, at, tabulate};
 ghost use Rattle.rings.specs.Table.{table_of};
 ghost use Rattle.rings.specs.Checks.{◌when◌, in_order, range_check};
@@ -10,8 +10,8 @@ ghost use Rattle.rings.specs.RecallCall.{columns_of, entry_check, recall_answer,
 ghost use Rattle.rings.specs.Inner.Recalling.{entry_of, dated, judged, EqualLists, Markable, marks_of};
 ghost use Rattle.rings.specs.declared.refusal.Refusal.TheVariants.{BadLength};
 
-use crate::limits::LAST_DAY;
-use crate::refusal::{Refusal, Verdict};
+use crate::checks::{are_equal, is_window};
+use crate::refusal::Refusal;
 use crate::slices::entry;
 use crate::table::check_table;
 
@@ -19,35 +19,31 @@ use crate::table::check_table;
 const LAST_END: usize = 1024;
 
 // 8: three list columns of one length, and a mark for each row.
-fn check_lengths(rows: usize, starts: usize, ends: usize, places: usize, n: usize) -> Verdict
+fn check_lengths(
+    rows: usize,
+    starts: usize,
+    ends: usize,
+    places: usize,
+    n: usize,
+) -> Result<(), Refusal>
     ensures { result ≡ (BadLength when no (eqb starts rows and eqb ends rows and eqb places n)) }
 {
-    if starts != rows {
-        return Verdict::Refused(Refusal::BadLength);
+    if (starts == rows) & are_equal(ends, rows, places, n) {
+        Ok(())
+    } else {
+        Err(Refusal::BadLength)
     }
-    if ends != rows {
-        return Verdict::Refused(Refusal::BadLength);
-    }
-    if places != n {
-        return Verdict::Refused(Refusal::BadLength);
-    }
-    Verdict::Accepted
 }
 
 // 7: a window.
-fn check_window(s: u16, e: u16) -> Verdict
+fn check_window(s: u16, e: u16) -> Result<(), Refusal>
     ensures { result ≡ range_check s e }
 {
-    if s < 1 {
-        return Verdict::Refused(Refusal::BadRange);
+    if is_window(s, e) {
+        Ok(())
+    } else {
+        Err(Refusal::BadRange)
     }
-    if e < s {
-        return Verdict::Refused(Refusal::BadRange);
-    }
-    if LAST_DAY < e {
-        return Verdict::Refused(Refusal::BadRange);
-    }
-    Verdict::Accepted
 }
 
 // The day of a row, 0 for a row that is not in the table.
@@ -71,44 +67,44 @@ fn check_entry(
     row: usize,
     start: usize,
     end: usize,
-) -> Verdict
+) -> Result<(), Refusal>
     ensures { result ≡ judged j n day (entry_of lastrow laststart lastend) (entry_of row start end) }
 {
     if n <= row {
-        return Verdict::Refused(Refusal::BadEntry(j));
+        return Err(Refusal::BadEntry(j));
     }
     if start < 1 {
-        return Verdict::Refused(Refusal::BadEntry(j));
+        return Err(Refusal::BadEntry(j));
     }
     if day < start {
-        return Verdict::Refused(Refusal::BadEntry(j));
+        return Err(Refusal::BadEntry(j));
     }
     if end < day {
-        return Verdict::Refused(Refusal::BadEntry(j));
+        return Err(Refusal::BadEntry(j));
     }
     if LAST_END < end {
-        return Verdict::Refused(Refusal::BadEntry(j));
+        return Err(Refusal::BadEntry(j));
     }
     if j == 0 {
-        return Verdict::Accepted;
+        return Ok(());
     }
     if lastrow < row {
-        return Verdict::Accepted;
+        return Ok(());
     }
     if lastrow != row {
-        return Verdict::Refused(Refusal::BadEntry(j));
+        return Err(Refusal::BadEntry(j));
     }
     if start <= laststart {
-        return Verdict::Refused(Refusal::BadEntry(j));
+        return Err(Refusal::BadEntry(j));
     }
     if end <= lastend {
-        return Verdict::Refused(Refusal::BadEntry(j));
+        return Err(Refusal::BadEntry(j));
     }
-    Verdict::Accepted
+    Ok(())
 }
 
 // The first bad entry decides.
-fn check_entries(days: &[u16], rows: &[u16], starts: &[u16], ends: &[u16]) -> Verdict
+fn check_entries(days: &[u16], rows: &[u16], starts: &[u16], ends: &[u16]) -> Result<(), Refusal>
     requires { EqualLists (columns_of rows.now starts.now ends.now) }
     ensures { let c = columns_of rows.now starts.now ends.now in
         result ≡ in_order (tabulate (entry_check (dated days.now) c) 0 (length c.rows)) }
@@ -116,13 +112,12 @@ fn check_entries(days: &[u16], rows: &[u16], starts: &[u16], ends: &[u16]) -> Ve
     let mut lastrow = 0;
     let mut laststart = 0;
     let mut lastend = 0;
-    let mut j = 0;
-    while j < rows.len() {
+    for j in 0..rows.len() {
         let row = entry(rows, j);
         let start = entry(starts, j);
         let end = entry(ends, j);
         let day = day_at(days, row);
-        let found = check_entry(
+        check_entry(
             j,
             days.len(),
             day,
@@ -132,20 +127,12 @@ fn check_entries(days: &[u16], rows: &[u16], starts: &[u16], ends: &[u16]) -> Ve
             row,
             start,
             end,
-        );
-        match found {
-            Verdict::Refused(r) => {
-                return Verdict::Refused(r);
-            }
-            Verdict::Accepted => {
-                lastrow = row;
-                laststart = start;
-                lastend = end;
-                j += 1;
-            }
-        }
+        )?;
+        lastrow = row;
+        laststart = start;
+        lastend = end;
     }
-    Verdict::Accepted
+    Ok(())
 }
 
 // The checks in their order: the table, 8, 14, 7.
@@ -159,41 +146,15 @@ fn check_recall(
     s: u16,
     e: u16,
     places: usize,
-) -> Verdict
+) -> Result<(), Refusal>
     ensures { let t = table_of days.now first.now second.now in
         let c = columns_of rows.now starts.now ends.now in
         result ≡ recall_answer t c s e places }
 {
-    match check_table(days, first, second) {
-        Verdict::Refused(r) => {
-            return Verdict::Refused(r);
-        }
-        Verdict::Accepted => {}
-    }
-    match check_lengths(rows.len(), starts.len(), ends.len(), places, days.len()) {
-        Verdict::Refused(r) => {
-            return Verdict::Refused(r);
-        }
-        Verdict::Accepted => {}
-    }
-    match check_entries(days, rows, starts, ends) {
-        Verdict::Refused(r) => {
-            return Verdict::Refused(r);
-        }
-        Verdict::Accepted => {}
-    }
+    check_table(days, first, second)?;
+    check_lengths(rows.len(), starts.len(), ends.len(), places, days.len())?;
+    check_entries(days, rows, starts, ends)?;
     check_window(s, e)
-}
-
-// All marks are 0.
-pub fn clear_marks(marks: &mut [u8])
-    ensures { marks.new ≡ replicate (length marks.old) 0 }
-{
-    let mut i = 0;
-    while i < marks.len() {
-        marks[i] = 0;
-        i += 1;
-    }
 }
 
 // Each entry with a window inside [s, e] marks its row.
@@ -202,20 +163,13 @@ fn mark_entries(rows: &[u16], starts: &[u16], ends: &[u16], s: usize, e: usize, 
     ensures { let c = columns_of rows.now starts.now ends.now in
         marks.new ≡ marks_of c s e (length marks.old) }
 {
-    let mut next = 0;
-    while next < rows.len() {
-        let i = next;
-        next = i + 1;
+    for i in 0..rows.len() {
         let row = entry(rows, i);
         let start = entry(starts, i);
         let end = entry(ends, i);
-        if start < s {
-            continue;
+        if s <= start && end <= e {
+            marks[row] = 1;
         }
-        if e < end {
-            continue;
-        }
-        marks[row] = 1;
     }
 }
 
@@ -230,7 +184,7 @@ pub fn recall(
     s: u16,
     e: u16,
     marks: &mut [u8],
-) -> Verdict
+) -> Result<(), Refusal>
     ensures result_value { let t = table_of days.now first.now second.now in
         let c = columns_of rows.now starts.now ends.now in
         result ≡ recall_answer t c s e (length marks.old) }
@@ -238,15 +192,8 @@ pub fn recall(
         let c = columns_of rows.now starts.now ends.now in
         marks.new ≡ recall_marks result t c s e marks.old }
 {
-    let found = check_recall(days, first, second, rows, starts, ends, s, e, marks.len());
-    match found {
-        Verdict::Refused(r) => {
-            return Verdict::Refused(r);
-        }
-        Verdict::Accepted => {
-            clear_marks(marks);
-            mark_entries(rows, starts, ends, s as usize, e as usize, marks);
-            return Verdict::Accepted;
-        }
-    }
+    check_recall(days, first, second, rows, starts, ends, s, e, marks.len())?;
+    marks.fill(0);
+    mark_entries(rows, starts, ends, s as usize, e as usize, marks);
+    Ok(())
 }

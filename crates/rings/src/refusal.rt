@@ -1,9 +1,9 @@
-// The answers of the calls, and why a call refuses.
+// Why a call refuses.
 ghost use Rattle.std.specs.Prelude.{◌≡◌};
-ghost use Rattle.rings.specs.Refusals.{told_of};
+ghost use Rattle.rings.specs.Refusals.{number_of, rule_of};
 
-// Why a call refuses: document 01's refusals, and 02's from 15 on, each with its place where it has one. specs/Refusals.antt gives number
-// and place.
+// Why a call refuses: document 01's refusals, and 02's from 15 on, each with its place where it has one.
+// specs/Refusals.antt gives number and place.
 #[derive(Clone, Copy)]
 pub enum Refusal {
     // 1: column lengths differ.
@@ -32,20 +32,6 @@ pub enum Refusal {
     NotInRing,
 }
 
-// Table check, Core times, Recall; and every list of checks.
-#[derive(Clone, Copy)]
-pub enum Verdict {
-    Accepted,
-    Refused(Refusal),
-}
-
-// Window ring, Minimal windows.
-#[derive(Clone, Copy)]
-pub enum Counted {
-    Count(usize),
-    Refused(Refusal),
-}
-
 // Where a refusal lies: nowhere, at a row of the table, or at an entry of a minimal-window list, both counted from 0.
 #[derive(Clone, Copy)]
 pub enum Place {
@@ -54,65 +40,37 @@ pub enum Place {
     Entry(usize),
 }
 
-// What a caller is told of a refusal: its number and its place.
-#[derive(Clone, Copy)]
-pub struct Told {
-    pub number: u32,
-    pub place: Place,
-}
-
 // Number and place of a refusal: a row for each, as in specs/Refusals.antt.
-pub fn tell(r: Refusal) -> Told
-    ensures { result ≡ told_of r }
-{
-    match r {
-        Refusal::ColumnsDiffer => Told {
-            number: 1,
-            place: Place::Nowhere,
-        },
-        Refusal::TooLarge => Told {
-            number: 2,
-            place: Place::Nowhere,
-        },
-        Refusal::BadDay(row) => Told {
-            number: 3,
-            place: Place::Row(row),
-        },
-        Refusal::BadAccounts(row) => Told {
-            number: 4,
-            place: Place::Row(row),
-        },
-        Refusal::DayFalls(row) => Told {
-            number: 5,
-            place: Place::Row(row),
-        },
-        Refusal::BadK => Told {
-            number: 6,
-            place: Place::Nowhere,
-        },
-        Refusal::BadRange => Told {
-            number: 7,
-            place: Place::Nowhere,
-        },
-        Refusal::BadLength => Told {
-            number: 8,
-            place: Place::Nowhere,
-        },
-        Refusal::Scratch => Told {
-            number: 9,
-            place: Place::Nowhere,
-        },
-        Refusal::NoRoom => Told {
-            number: 10,
-            place: Place::Nowhere,
-        },
-        Refusal::BadEntry(entry) => Told {
-            number: 14,
-            place: Place::Entry(entry),
-        },
-        Refusal::NotInRing => Told {
-            number: 15,
-            place: Place::Nowhere,
-        },
+impl Refusal {
+    // Its number: the C interface and the printed line have no word for it.
+    #[tactic(auto, unfolding(crate::specs::Refusals::number_of))]
+    pub fn number(self) -> u32
+        ensures { result ≡ number_of self }
+    {
+        match self {
+            Refusal::ColumnsDiffer => 1,
+            Refusal::TooLarge => 2,
+            Refusal::BadDay(_) => 3,
+            Refusal::BadAccounts(_) => 4,
+            Refusal::DayFalls(_) => 5,
+            Refusal::BadK => 6,
+            Refusal::BadRange => 7,
+            Refusal::BadLength => 8,
+            Refusal::Scratch => 9,
+            Refusal::NoRoom => 10,
+            Refusal::BadEntry(_) => 14,
+            Refusal::NotInRing => 15,
+        }
+    }
+
+    // Where it lies.
+    pub fn place(self) -> Place
+        ensures { result ≡ (rule_of self).place }
+    {
+        match self {
+            Refusal::BadDay(j) | Refusal::BadAccounts(j) | Refusal::DayFalls(j) => Place::Row(j),
+            Refusal::BadEntry(entry) => Place::Entry(entry),
+            _ => Place::Nowhere,
+        }
     }
 }

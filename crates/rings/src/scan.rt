@@ -1,16 +1,17 @@
 // A scan of an account: the first day, from its time on, on which it has k supporters, by walks over its rows in the
 // adjacency.
 ghost use Rattle.std.specs.Prelude.{◌≡◌, true, false, ◌+◌, ◌≤◌, ◌<◌, length, get_or};
-ghost use Rattle.rings.specs.Table.{table_of};
+ghost use Rattle.rings.specs.Payments.{table};
 ghost use Rattle.rings.specs.CoreTimes.{never};
 ghost use Rattle.rings.specs.Sound.{Sound};
 ghost use Rattle.rings.specs.Inner.Adjacency.{PrunedAdjacency, Reading};
 ghost use Rattle.rings.specs.Inner.Settling.{ScanOver, RowNoted, ScanOn, RoomBehind, Scanned, ScannedForRise, ScanFrom, SlackAbove, FoundDayIs};
 
-use crate::choice::{greater, one, pick};
+use crate::choice::{one, pick};
 use crate::frame::Frame;
 use crate::incident::{day_at, row_at};
 use crate::limits::{ACCOUNTS, ADJACENCY, NEVER};
+use crate::payments::Payments;
 use crate::slices::{entry, put, wide};
 
 // A scan of an account's rows: where they begin in the adjacency, the day that is asked about, and the rows that may
@@ -52,12 +53,12 @@ pub struct RiseScan {
     pub walked: usize,
 }
 
-// What a scan finds: the account's time, its spare supporters, counted from 1, and the rows that it passed; or that
-// it gave up.
+// What a scan finds: the account's time, its spare supporters, counted from 1, and the rows that it passed.
 #[derive(Clone, Copy)]
-pub enum FoundDay {
-    Found { time: u16, left: u16, walked: usize },
-    GaveUp,
+pub struct FoundDay {
+    pub time: u16,
+    pub left: u16,
+    pub walked: usize,
 }
 
 // A row dated on this day, and all later ones, can change nothing: they support on no day up to c, and either enough
@@ -98,37 +99,33 @@ fn note_row(z: u16, leading: bool, c: u16, count: u16, above: u16, more: u16) ->
 
 // The rows of u on day c. They stand in rising order: the walk stops at the first that can change nothing.
 fn scan_on_day(
-    days: &[u16],
-    first: &[u16],
-    second: &[u16],
+    payments: Payments<'_>,
     scratch: &[u16],
     frame: Frame,
     times: &[u16],
     scan: Scan,
 ) -> DayScan
-    requires { ScanOn days.now first.now second.now scratch.now frame times.now scan }
-    ensures { let t = table_of days.now first.now second.now in
+    requires { ScanOn (table payments) scratch.now frame times.now scan }
+    ensures { let t = table payments.entry in
         Scanned t frame times.now scan result.count result.above result.more result.walked }
 {
     let last = entry(scratch, scan.account);
-    let mut p = scan.from;
     let mut count = 0;
     let mut above = NEVER;
     let mut more = 0;
-    while p < last {
-        let day = day_at(days, scratch, p);
+    for p in scan.from..last {
+        let day = day_at(payments.days, scratch, p);
         if is_over(day, scan.day, frame.stop, above, frame.query.k, count) {
             return DayScan {
-                count: count,
-                above: above,
-                more: more,
+                count,
+                above,
+                more,
                 walked: p - scan.from,
             };
         }
-        let here = row_at(days, first, second, scratch, frame.lo, scan.account, p);
-        p += 1;
+        let here = row_at(payments, scratch, frame.lo, scan.account, p);
         let v = here.other;
-        let z = greater(times[v], here.day);
+        let z = times[v].max(here.day);
         let noted = note_row(
             pick(here.leads, z, NEVER),
             true,
@@ -142,10 +139,10 @@ fn scan_on_day(
         more = noted.more;
     }
     DayScan {
-        count: count,
-        above: above,
-        more: more,
-        walked: p - scan.from,
+        count,
+        above,
+        more,
+        walked: last - scan.from,
     }
 }
 
@@ -154,9 +151,7 @@ fn scan_on_day(
 // c, and who loses it are those of its supporters who have the time c. These are listed behind the queue, which has
 // room for one for each row: each is written, and the end moves on behind those who lose it, without a branch.
 pub(crate) fn scan_for_rise(
-    days: &[u16],
-    first: &[u16],
-    second: &[u16],
+    payments: Payments<'_>,
     scratch: &[u16],
     frame: Frame,
     times: &[u16],
@@ -164,51 +159,49 @@ pub(crate) fn scan_for_rise(
     tail: usize,
     queue: &mut [u16],
 ) -> RiseScan
-    requires scan_on { ScanOn days.now first.now second.now scratch.now frame times.now scan }
+    requires scan_on { ScanOn (table payments) scratch.now frame times.now scan }
     requires room_behind { RoomBehind scratch.now scan tail queue.old }
-    ensures { let t = table_of days.now first.now second.now in
+    ensures { let t = table payments.entry in
         ScannedForRise t frame times.now scan tail queue.old queue.new result }
 {
     let last = entry(scratch, scan.account);
-    let mut p = scan.from;
     let mut count = 0;
     let mut above = NEVER;
     let mut more = 0;
     let mut moved = 0;
     let mut end = tail;
-    while p < last {
-        let day = day_at(days, scratch, p);
+    for p in scan.from..last {
+        let day = day_at(payments.days, scratch, p);
         if is_over(day, scan.day, frame.stop, above, frame.query.k, count) {
             return RiseScan {
-                count: count,
-                above: above,
-                more: more,
-                moved: moved,
-                end: end,
+                count,
+                above,
+                more,
+                moved,
+                end,
                 walked: p - scan.from,
             };
         }
-        let here = row_at(days, first, second, scratch, frame.lo, scan.account, p);
-        p += 1;
+        let here = row_at(payments, scratch, frame.lo, scan.account, p);
         let v = here.other;
         let x = times[v];
-        let z = greater(x, here.day);
+        let z = x.max(here.day);
         let within = z <= scan.day;
         put(queue, end, v);
         end += wide(one(within & here.leads & (x == scan.day)));
-        moved = moved + one(within);
+        moved += one(within);
         let noted = note_row(z, here.leads, scan.day, count, above, more);
         count = noted.count;
         above = noted.above;
         more = noted.more;
     }
     RiseScan {
-        count: count,
-        above: above,
-        more: more,
-        moved: moved,
-        end: end,
-        walked: p - scan.from,
+        count,
+        above,
+        more,
+        moved,
+        end,
+        walked: last - scan.from,
     }
 }
 
@@ -230,85 +223,70 @@ pub(crate) fn slack_above(above: u16, both: u16, k: u16) -> u16
 // The first day from the time of the account on with k supporters, or never, where it is known that no day before the
 // scan's has them. It gives up when it has passed more rows than the budget allows.
 pub(crate) fn find_day(
-    days: &[u16],
-    first: &[u16],
-    second: &[u16],
+    payments: Payments<'_>,
     scratch: &[u16],
     frame: Frame,
     times: &[u16],
     scan: Scan,
-) -> FoundDay
-    requires { ScanFrom days.now first.now second.now scratch.now frame times.now scan }
-    ensures { let t = table_of days.now first.now second.now in
+) -> Option<FoundDay>
+    requires { ScanFrom (table payments) scratch.now frame times.now scan }
+    ensures { let t = table payments.entry in
         FoundDayIs result t frame times.now scan }
 {
     let mut walked: usize = 0;
     let mut c = scan.day;
+    // No range counts c: it jumps from day to day, each the least later one on which one more may support.
     while c < NEVER {
         if scan.budget < walked {
-            return FoundDay::GaveUp;
+            return None;
         }
-        let here = Scan {
-            account: scan.account,
-            from: scan.from,
-            day: c,
-            budget: scan.budget,
-        };
-        let outcome = scan_on_day(days, first, second, scratch, frame, times, here);
-        walked = walked + outcome.walked;
+        let here = Scan { day: c, ..scan };
+        let outcome = scan_on_day(payments, scratch, frame, times, here);
+        walked += outcome.walked;
         if frame.query.k <= outcome.count {
-            return FoundDay::Found {
+            return Some(FoundDay {
                 time: c,
                 left: outcome.count + 1 - frame.query.k,
-                walked: walked,
-            };
+                walked,
+            });
         }
         c = outcome.above;
         if c == NEVER {
-            return FoundDay::Found {
+            return Some(FoundDay {
                 time: c,
                 left: 1,
-                walked: walked,
-            };
+                walked,
+            });
         }
         let both = outcome.count + outcome.more;
         if frame.query.k <= both {
-            return FoundDay::Found {
+            return Some(FoundDay {
                 time: c,
                 left: both + 1 - frame.query.k,
-                walked: walked,
-            };
+                walked,
+            });
         }
     }
-    FoundDay::Found {
+    Some(FoundDay {
         time: c,
         left: 1,
-        walked: walked,
-    }
+        walked,
+    })
 }
 
 // Where the rows of u from lo on begin in the adjacency: at its head, which has passed those that left. The search
 // makes it sure, so no walk asks for it row by row.
-pub(crate) fn first_from(
-    days: &[u16],
-    first: &[u16],
-    second: &[u16],
-    scratch: &[u16],
-    u: usize,
-    lo: usize,
-) -> usize
-    requires sound { Sound days.now first.now second.now }
-    requires pruned_adjacency { PrunedAdjacency (table_of days.now first.now second.now) scratch.now × (u < 4096) }
+pub(crate) fn first_from(payments: Payments<'_>, scratch: &[u16], u: usize, lo: usize) -> usize
+    requires { PrunedAdjacency (table payments) scratch.now × (u < 4096) }
     ensures { Reading scratch.now u lo result }
 {
     let last = entry(scratch, u);
-    let mut p = entry(scratch, ACCOUNTS + u);
-    while p < last {
+    let head = entry(scratch, ACCOUNTS + u);
+    for p in head..last {
         let j = entry(scratch, ADJACENCY + p);
         if lo <= j {
             return p;
         }
-        p += 1;
     }
-    p
+    last
 }

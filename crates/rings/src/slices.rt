@@ -1,5 +1,5 @@
-// Single numbers of a lent slice: read as an index, stored, and all of a slice set to 0.
-ghost use Rattle.std.specs.Prelude.{◌≡◌, ◌<◌, length, get_or, set, replicate};
+// Single numbers of a lent slice: read as an index, and stored.
+ghost use Rattle.std.specs.Prelude.{◌≡◌, ◌<◌, length, get_or, set};
 ghost use Rattle.rings.specs.Inner.Adjacency.{Storable};
 
 // A 16-bit number as an index.
@@ -23,15 +23,4 @@ pub(crate) fn put(s: &mut [u16], i: usize, n: usize)
     ensures { s.new ≡ set s.old i n }
 {
     s[i] = n as u16;
-}
-
-// All of a slice is 0.
-pub fn clear(s: &mut [u16])
-    ensures { s.new ≡ replicate (length s.old) 0 }
-{
-    let mut i = 0;
-    while i < s.len() {
-        s[i] = 0;
-        i += 1;
-    }
 }

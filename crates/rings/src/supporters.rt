@@ -2,19 +2,17 @@
 // slack: of each account one more than the supporters that it can lose before it must be scanned, at least; 0 while
 // it waits for a scan.
 ghost use Rattle.std.specs.Prelude.{◌≡◌, true, ◌&&◌, ℕ, ◌+◌, ◌≤◌, ◌<◌, length, get_or, leb, ltb};
-ghost use Rattle.rings.specs.Table.{table_of};
+ghost use Rattle.rings.specs.Payments.{table};
 ghost use Rattle.rings.specs.Inner.Settling.{DropAsks, DroppedSupporter, ListedAsks, DroppedList};
 ghost use Rattle.rings.specs.Inner.Worklist.{arrays, RiseAsks, RiseLeft};
 
-use crate::choice::{greater, lesser, one};
+use crate::choice::one;
 use crate::frame::Frame;
 use crate::histogram::{add_to_histogram, take_from_histogram};
 use crate::incident::row_at;
 use crate::limits::QUEUE;
+use crate::payments::Payments;
 use crate::slices::{entry, put, wide};
-
-// Where a queue's end is asked for and it has no place left: one more than it has places.
-pub(crate) const FULL: usize = QUEUE + 1;
 
 // An account whose time is z had a supporter with the time old by a row of this day, and has it no more when that has
 // the time new.
@@ -65,22 +63,18 @@ pub(crate) fn drop_listed_supporters(
     ensures { DroppedList tail upto slack.old queue.old slack.new queue.new result }
 {
     let mut end = tail;
-    let mut p = tail;
-    while p < upto {
+    for p in tail..upto {
         let v = entry(queue, p);
         end = drop_supporter(slack, queue, end, v, true);
-        p += 1;
     }
     end
 }
 
 // A rise takes a supporter from each account that was supported till now. A row dated on the new time or later, or
 // behind the range, takes none. Where days are counted, each row whose time moves with it is taken off its day, and
-// all of them are counted on the new one at the end. FULL says that the queue has no place left.
-pub(crate) fn drop_supported(
-    days: &[u16],
-    first: &[u16],
-    second: &[u16],
+// all of them are counted on the new one at the end. None says that the queue has no place left.
+pub(crate) fn drop_supported<const COUNTING: bool>(
+    payments: Payments<'_>,
     scratch: &[u16],
     frame: Frame,
     times: &[u16],
@@ -88,40 +82,37 @@ pub(crate) fn drop_supported(
     tail: usize,
     slack: &mut [u16],
     queue: &mut [u16],
-    counting: bool,
     counts: &mut [u16],
-) -> usize
+) -> Option<usize>
     requires { let lent = arrays times.now slack.old queue.old counts.old in
-        RiseAsks days.now first.now second.now scratch.now frame rise counting lent }
-    ensures { let t = table_of days.now first.now second.now in
+        RiseAsks (table payments) scratch.now frame rise COUNTING tail lent }
+    ensures { let t = table payments.entry in
         let lent = arrays times.now slack.old queue.old counts.old in
         let left = arrays times.now slack.new queue.new counts.new in
-        RiseLeft t frame rise counting tail lent left result }
+        RiseLeft t frame rise COUNTING tail lent left result }
 {
     let last = entry(scratch, rise.account);
-    let until = lesser(rise.new, frame.stop + 1);
-    let mut p = rise.from;
+    let until = rise.new.min(frame.stop + 1);
     let mut end = tail;
     let mut moved = 0;
-    while p < last {
-        let here = row_at(days, first, second, scratch, frame.lo, rise.account, p);
+    for p in rise.from..last {
+        let here = row_at(payments, scratch, frame.lo, rise.account, p);
         if until <= here.day {
-            add_to_histogram(counting, counts, rise.new, moved);
-            return end;
+            add_to_histogram::<COUNTING>(counts, rise.new, moved);
+            return Some(end);
         }
         if QUEUE <= end {
-            return FULL;
+            return None;
         }
-        p += 1;
         let v = here.other;
         let z = times[v];
-        let own = greater(rise.old, here.day);
+        let own = rise.old.max(here.day);
         let moves = z < rise.new;
         let loses = (own <= z) & moves;
         end = drop_supporter(slack, queue, end, v, here.leads & loses);
-        let time = greater(own, z);
-        moved = take_from_histogram(counting, counts, moves, time, moved);
+        let time = own.max(z);
+        moved = take_from_histogram::<COUNTING>(counts, moves, time, moved);
     }
-    add_to_histogram(counting, counts, rise.new, moved);
-    end
+    add_to_histogram::<COUNTING>(counts, rise.new, moved);
+    Some(end)
 }

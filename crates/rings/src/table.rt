@@ -7,65 +7,56 @@ ghost use Rattle.rings.specs.Checks.{in_order};
 ghost use Rattle.rings.specs.TableCheck.{row_faults, row_check, table_check};
 
 use crate::limits::{LAST_ACCOUNT, LAST_DAY, ROWS};
-use crate::refusal::{Refusal, Verdict};
+use crate::refusal::Refusal;
 
 // The faults of one row, in their order.
-fn check_row(j: usize, before: u16, day: u16, a: u16, b: u16) -> Verdict
+fn check_row(j: usize, before: u16, day: u16, a: u16, b: u16) -> Result<(), Refusal>
     ensures { result ≡ row_faults j before day a b }
 {
     if day < 1 {
-        return Verdict::Refused(Refusal::BadDay(j));
+        return Err(Refusal::BadDay(j));
     }
     if LAST_DAY < day {
-        return Verdict::Refused(Refusal::BadDay(j));
+        return Err(Refusal::BadDay(j));
     }
     if LAST_ACCOUNT < b {
-        return Verdict::Refused(Refusal::BadAccounts(j));
+        return Err(Refusal::BadAccounts(j));
     }
     if b <= a {
-        return Verdict::Refused(Refusal::BadAccounts(j));
+        return Err(Refusal::BadAccounts(j));
     }
     if day < before {
-        return Verdict::Refused(Refusal::DayFalls(j));
+        return Err(Refusal::DayFalls(j));
     }
-    Verdict::Accepted
+    Ok(())
 }
 
 // The lowest faulty row decides.
-fn check_rows(days: &[u16], first: &[u16], second: &[u16]) -> Verdict
+fn check_rows(days: &[u16], first: &[u16], second: &[u16]) -> Result<(), Refusal>
     requires { EqualColumns days.now first.now second.now }
     ensures { let t = table_of days.now first.now second.now in
         result ≡ in_order (tabulate (row_check t) 0 (size t)) }
 {
     let mut before: u16 = 0;
-    let mut j = 0;
-    while j < days.len() {
+    for j in 0..days.len() {
         let day = days[j];
-        let found = check_row(j, before, day, first[j], second[j]);
-        match found {
-            Verdict::Refused(r) => {
-                return Verdict::Refused(r);
-            }
-            Verdict::Accepted => {
-                before = day;
-                j += 1;
-            }
-        }
+        check_row(j, before, day, first[j], second[j])?;
+        before = day;
     }
-    Verdict::Accepted
+    Ok(())
 }
 
-pub fn check_table(days: &[u16], first: &[u16], second: &[u16]) -> Verdict
+pub fn check_table(days: &[u16], first: &[u16], second: &[u16]) -> Result<(), Refusal>
     ensures { result ≡ table_check (table_of days.now first.now second.now) }
 {
     if first.len() != days.len() {
-        return Verdict::Refused(Refusal::ColumnsDiffer);
+        return Err(Refusal::ColumnsDiffer);
     }
     if second.len() != days.len() {
-        return Verdict::Refused(Refusal::ColumnsDiffer);
+        return Err(Refusal::ColumnsDiffer);
     }
     if ROWS < days.len() {
-        return Verdict::Refused(Refusal::TooLarge);
+        return Err(Refusal::TooLarge);
     }
     check_rows(days, first, second)
 }
@@ -75,17 +66,7 @@ pub fn rows_before(days: &[u16], day: u16) -> usize
     requires { NeverFall days.now }
     ensures { Split days.now day result }
 {
-    let mut low = 0;
-    let mut high = days.len();
-    while low < high {
-        let middle = low + (high - low) / 2;
-        if days[middle] < day {
-            low = middle + 1;
-            continue;
-        }
-        high = middle;
-    }
-    low
+    days.partition_point(|&d| d < day)
 }
 
 // The rows before the day after s, from the rows before s on.
@@ -94,12 +75,10 @@ pub fn rows_through(days: &[u16], s: u16, lo: usize) -> usize
     requires split { Split days.now s lo }
     ensures { Split days.now (s + 1) result }
 {
-    let mut r = lo;
-    while r < days.len() {
+    for r in lo..days.len() {
         if s < days[r] {
             return r;
         }
-        r += 1;
     }
-    r
+    days.len()
 }

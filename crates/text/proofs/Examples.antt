@@ -14,49 +14,48 @@ use Rattle.text.specs.Decimal.{field_of, numeral_of, unblank, is_numeral, leads_
 use Rattle.text.specs.Line.{lines_of, prepend, is_whole, judged, field_at, line_as, step_as, row_of, query_of}
 use Rattle.text.specs.Table.{judged_from, table_read_of, days_of}
 use Rattle.text.specs.Print.{printed, column_of, listing_line, refused_line}
-use Rattle.text.specs.declared.decimal.Field.TheVariants.{Number, Large, Broken}
-use Rattle.text.specs.declared.lines.QueryRead.TheVariants.{Query}
-use Rattle.text.specs.declared.table.TableRead.TheVariants.{Rows}
+use Rattle.std.specs.Prelude.{Ok, Err}
+use Rattle.text.specs.declared.decimal.FieldError.TheVariants.{Broken, Large}
 
 -- ---- fields
 
-zero_field : field_of largest (32 ∷ 32 ∷ 32 ∷ 32 ∷ 48 ∷ []) ≡ Number 0
+zero_field : field_of largest (32 ∷ 32 ∷ 32 ∷ 32 ∷ 48 ∷ []) ≡ Ok 0
 unfolding field_of numeral_of unblank is_numeral leads_well all_digits is_digit value
 zero_field = refl
 
-largest_field : field_of largest (32 ∷ 54 ∷ 53 ∷ 53 ∷ 51 ∷ 53 ∷ []) ≡ Number 65535
+largest_field : field_of largest (32 ∷ 54 ∷ 53 ∷ 53 ∷ 51 ∷ 53 ∷ []) ≡ Ok 65535
 unfolding field_of numeral_of unblank is_numeral leads_well all_digits is_digit value
 largest_field = refl
 
-large_field : field_of largest (32 ∷ 54 ∷ 53 ∷ 53 ∷ 51 ∷ 54 ∷ []) ≡ Large
+large_field : field_of largest (32 ∷ 54 ∷ 53 ∷ 53 ∷ 51 ∷ 54 ∷ []) ≡ Err Large
 unfolding field_of numeral_of unblank is_numeral leads_well all_digits is_digit value
 large_field = refl
 
-needless_zero : field_of largest (48 ∷ 54 ∷ 53 ∷ 53 ∷ 51 ∷ 54 ∷ []) ≡ Broken
+needless_zero : field_of largest (48 ∷ 54 ∷ 53 ∷ 53 ∷ 51 ∷ 54 ∷ []) ≡ Err Broken
 unfolding field_of numeral_of unblank is_numeral leads_well all_digits is_digit value
 needless_zero = refl
 
-two_zeros : field_of largest (48 ∷ 48 ∷ []) ≡ Broken
+two_zeros : field_of largest (48 ∷ 48 ∷ []) ≡ Err Broken
 unfolding field_of numeral_of unblank is_numeral leads_well all_digits is_digit value
 two_zeros = refl
 
-all_blank : field_of largest (32 ∷ 32 ∷ 32 ∷ 32 ∷ 32 ∷ []) ≡ Broken
+all_blank : field_of largest (32 ∷ 32 ∷ 32 ∷ 32 ∷ 32 ∷ []) ≡ Err Broken
 unfolding field_of numeral_of unblank is_numeral leads_well all_digits is_digit value
 all_blank = refl
 
-empty_field : field_of largest ([]) ≡ Broken
+empty_field : field_of largest ([]) ≡ Err Broken
 unfolding field_of numeral_of unblank is_numeral leads_well all_digits is_digit value
 empty_field = refl
 
-blank_behind : field_of largest (49 ∷ 50 ∷ 32 ∷ []) ≡ Broken
+blank_behind : field_of largest (49 ∷ 50 ∷ 32 ∷ []) ≡ Err Broken
 unfolding field_of numeral_of unblank is_numeral leads_well all_digits is_digit value
 blank_behind = refl
 
-two_numbers : field_of largest (49 ∷ 32 ∷ 32 ∷ 50 ∷ []) ≡ Broken
+two_numbers : field_of largest (49 ∷ 32 ∷ 32 ∷ 50 ∷ []) ≡ Err Broken
 unfolding field_of numeral_of unblank is_numeral leads_well all_digits is_digit value
 two_numbers = refl
 
-million : field_of largest (49 ∷ 48 ∷ 48 ∷ 48 ∷ 48 ∷ 48 ∷ 48 ∷ []) ≡ Large
+million : field_of largest (49 ∷ 48 ∷ 48 ∷ 48 ∷ 48 ∷ 48 ∷ 48 ∷ []) ≡ Err Large
 unfolding field_of numeral_of unblank is_numeral leads_well all_digits is_digit value
 million = refl
 
@@ -82,7 +81,7 @@ example =
     32 ∷ 32 ∷ 32 ∷ 32 ∷ 53 ∷ 32 ∷ 32 ∷ 32 ∷ 32 ∷ 32 ∷ 51 ∷ 32 ∷ 32 ∷ 32 ∷ 32 ∷ 32 ∷ 52 ∷ 10 ∷
     32 ∷ 32 ∷ 32 ∷ 32 ∷ 54 ∷ 32 ∷ 32 ∷ 32 ∷ 32 ∷ 32 ∷ 50 ∷ 32 ∷ 32 ∷ 32 ∷ 32 ∷ 32 ∷ 52 ∷ 10 ∷ []
 
-example_reads : table_read_of example 6 7 6 ≡ Rows 6
+example_reads : table_read_of example 6 7 6 ≡ Ok 6
 unfolding
     example table_read_of judged_from row_of line_as field_at judged is_whole lines_of prepend
     field_of numeral_of unblank is_numeral leads_well all_digits is_digit value
@@ -94,7 +93,7 @@ unfolding
     field_of numeral_of unblank is_numeral leads_well all_digits is_digit value
 example_days = refl
 
-example_query : query_of (32 ∷ 32 ∷ 32 ∷ 32 ∷ 50 ∷ 32 ∷ 32 ∷ 32 ∷ 32 ∷ 49 ∷ 32 ∷ 32 ∷ 32 ∷ 32 ∷ 54 ∷ 10 ∷ []) ≡ Query 2 1 6
+example_query : query_of (32 ∷ 32 ∷ 32 ∷ 32 ∷ 50 ∷ 32 ∷ 32 ∷ 32 ∷ 32 ∷ 49 ∷ 32 ∷ 32 ∷ 32 ∷ 32 ∷ 54 ∷ 10 ∷ []) ≡ Ok (record { k = 2; from = 1; to = 6 })
 unfolding query_of step_as line_as field_at judged is_whole lines_of prepend field_of numeral_of unblank is_numeral leads_well all_digits is_digit value
 example_query = refl
 

@@ -2,17 +2,11 @@
 --
 --   unblank_at       a list that starts with a blank, without its blanks
 --   unblank_past     a list that starts with another byte
---   unblank_yes      from position i on: a blank is passed
---   unblank_no       the first byte that is no blank
---   unblank_end      the end
---   BlanksPassed    the invariant of the loop that skips blanks
+--   is_mark         another byte than a blank
+--   blanks_end      where the first of these stands, or the end
 --   digit_yes        a byte from 48 to 57 is a digit
 --   digit_between    and a digit is one of these
---   digits_next      from position i on: a digit is passed
---   digits_low       a byte below 48
---   digits_high      a byte above 57
---   digits_end       the end
---   DigitsPassed    the invariant of the loop that tests digits
+--   digits_all       all digits, by the library's word
 --   numeral_none     no byte is no numeral
 --   numeral_one      one byte is one if it is a digit
 --   numeral_zero     more bytes that start with 0 are none
@@ -35,11 +29,12 @@
 --   tail_large       too many digits
 --   tail_high        a value above the limit
 --   tail_number      a value within it
+--   field_rules      a set of these lemmas
 -- Assumes nothing.
 use Prim.Native.Nat.{ℕ, zero, suc, ◌+◌, ◌-◌, ◌*◌, ◌^◌, ◌≤◌, ◌<◌}
 use mathlib.Core.Path.{◌≡◌, refl, sym, ap, ◌∙◌}
-use mathlib.Core.Bool.{true, false, cond, ◌&&◌, true≢false}
-use mathlib.Core.Logic.{◌≢◌}
+use mathlib.Core.Bool.{Bool, true, false, not, cond, ◌&&◌, true≢false}
+use mathlib.Core.Logic.{◌≢◌, ⊎_elim}
 use mathlib.Core.List.{List, [], ◌∷◌}
 use native.Mathlib.Nat.{pow-succ', pow-le-pow_right, mul-le-mul_right, le_of_eq, lt_of_lt_of_le, not-suc-le-zero, le_of_suc-le-suc}
 use native.Mathlib.Numerals.{add-one}
@@ -48,11 +43,14 @@ use lib.Arith.{digits_lt}
 use lib.Dec.{leb, ltb, eqb, lit<}
 use lib.ListN.{length, get_or, take, drop, length-drop}
 use lib.Seq.{drop-cons, drop-length, take_all}
-use borrow.Author.Tests.{leb-true, eq-eqb, ne_eqb, le-leb, lt-leb, lt-ltb}
+use borrow.Author.Tests.{ltb-false, leb-true, eq-eqb, ne_eqb, le-leb, lt-leb, lt-ltb}
+use Rattle.std.specs.Prelude.{Option, Ok, Err, position, unwrap_or}
+use Rattle.std.specs.Char.{is_ascii_digit}
+use Rattle.std.specs.List.{list_all, position_or_len}
 use Rattle.text.specs.Layout.{most_digits}
-use Rattle.text.specs.Decimal.{unblank, is_digit, all_digits, leads_well, is_numeral, value, numeral_of, field_of, FewDigits}
-use Rattle.text.specs.declared.decimal.Field.TheVariants.{Number, Large, Broken}
-use Rattle.text.proofs.Tests.{and_left, and_right, and_false, pick_true, pick_false}
+use Rattle.text.specs.Decimal.{unblank, is_digit, all_digits, leads_well, is_numeral, value, numeral_of, field_of, BlanksEnd, FewDigits}
+use Rattle.text.specs.declared.decimal.FieldError.TheVariants.{Broken, Large}
+use Rattle.text.proofs.Tests.{true_or_false, same_or_not, and_left, and_right, pick_true, pick_false}
 
 -- ---- blanks
 
@@ -66,24 +64,44 @@ unblank_at b bs e = unblank_cons b bs ∙ pick_true _ _ _ (eq-eqb _ _ e)
 pub unblank_past : (b : ℕ) (bs : List ℕ) → (b ≡ 32 → ⊥) → unblank (b ∷ bs) ≡ b ∷ bs
 unblank_past b bs e = unblank_cons b bs ∙ pick_false _ _ _ (ne_eqb _ _ e)
 
-pub unblank_yes : (f : List ℕ) (i : ℕ) → i < length f → get_or f i 0 ≡ 32 → unblank (drop i f) ≡ unblank (drop (i + 1) f)
-unblank_yes f i h e =
-    ap unblank (drop-cons f i 0 h) ∙ unblank_at _ _ e ∙ ap (λ (n : ℕ). unblank (drop n f)) (sym (add-one i))
+blank_more : (b : ℕ) (bs : List ℕ) {r : ℕ} → b ≡ 32 → BlanksEnd bs r → BlanksEnd (b ∷ bs) (1 + r)
+blank_more b bs {r} e d =
+    let next : 1 + r ≡ suc r = omega arith in
+    record {
+      within = omega (arith, d.within);
+      rest = ap (λ (n : ℕ). drop n (b ∷ bs)) next ∙ d.rest ∙ sym (unblank_at b bs e);
+    }
 
-pub unblank_no : (f : List ℕ) (i : ℕ) → i < length f → (get_or f i 0 ≡ 32 → ⊥) → drop i f ≡ unblank (drop i f)
-unblank_no f i h e =
-    drop-cons f i 0 h ∙ sym (ap unblank (drop-cons f i 0 h) ∙ unblank_past _ _ e)
+blank_none : (b : ℕ) (bs : List ℕ) → (b ≡ 32 → ⊥) → BlanksEnd (b ∷ bs) 0
+blank_none b bs e = record { within = omega arith; rest = sym (unblank_past b bs e) }
 
-pub unblank_end : (f : List ℕ) (i : ℕ) → i ≡ length f → drop i f ≡ unblank (drop i f)
+-- another byte than a blank
+abbrev pub is_mark : ℕ → Bool
+is_mark b = not (eqb b 32)
+
+blanks_before : (f : List ℕ) → BlanksEnd f (position_or_len is_mark f)
 unfolding unblank
-unblank_end f i e = rw (e, drop-length f)
+blanks_before [] = record { within = omega arith; rest = refl }
+blanks_before (b ∷ bs) =
+    ⊎_elim (λ e. rw (eq-eqb b 32 e) (blank_more b bs e (blanks_before bs))) (λ e. rw (ne_eqb b 32 e) (blank_none b bs e)) (same_or_not b 32)
 
--- through the loop that skips blanks: the first i bytes are blanks
-pub record BlanksPassed (f : List ℕ) (i : ℕ) : Type 0 where
-  pub within : i ≤ length f
-  pub rest : unblank (drop i f) ≡ unblank f
+-- the first such byte, or the end
+pub blanks_end : (f : List ℕ) {o : Option ℕ} {r : ℕ} → o ≡ position is_mark f → r ≡ unwrap_or o (length f) → BlanksEnd f r
+blanks_end f {o} {r} e q =
+    let k = position_or_len is_mark f in
+    let d : BlanksEnd f k = blanks_before f in
+    let is : r ≡ k =
+    ⊎_elim (λ t. q ∙ ap (λ (x : Option ℕ). unwrap_or x (length f)) (e ∙ pick_true _ _ _ t))
+    (λ t. q ∙ ap (λ (x : Option ℕ). unwrap_or x (length f)) (e ∙ pick_false _ _ _ t) ∙ omega (arith, d.within, ltb-false k (length f) t))
+    (true_or_false (ltb k (length f))) in
+    rw is d
 
 -- ---- digits
+
+pub digits_all : (f : List ℕ) → list_all is_ascii_digit f ≡ all_digits f
+unfolding all_digits is_digit
+digits_all [] = refl
+digits_all (b ∷ bs) = ap (λ (t : Bool). is_ascii_digit b && t) (digits_all bs)
 
 digits_cons : (f : List ℕ) (i : ℕ) → i < length f → all_digits (drop i f) ≡ (is_digit (get_or f i 0) && all_digits (drop (suc i) f))
 unfolding all_digits
@@ -96,27 +114,6 @@ digit_yes b l h = rw (le-leb 48 b l, le-leb b 57 h)
 pub digit_between : (b : ℕ) → is_digit b ≡ true → (48 ≤ b) × (b ≤ 57)
 unfolding is_digit
 digit_between b e = (leb-true 48 b (and_left (leb 48 b) (leb b 57) e), leb-true b 57 (and_right (leb 48 b) (leb b 57) e))
-
-pub digits_next : (f : List ℕ) (i : ℕ) → i < length f → 48 ≤ get_or f i 0 → get_or f i 0 ≤ 57
-    → all_digits (drop i f) ≡ all_digits (drop (i + 1) f)
-digits_next f i h l g = digits_cons f i h ∙ rw (digit_yes (get_or f i 0) l g, add-one)
-
-pub digits_low : (f : List ℕ) (i : ℕ) → i < length f → get_or f i 0 < 48 → all_digits (drop i f) ≡ false
-unfolding is_digit
-digits_low f i h l = digits_cons f i h ∙ rw (lt-leb 48 (get_or f i 0) l)
-
-pub digits_high : (f : List ℕ) (i : ℕ) → i < length f → 57 < get_or f i 0 → all_digits (drop i f) ≡ false
-unfolding is_digit
-digits_high f i h g = digits_cons f i h ∙ rw (lt-leb (get_or f i 0) 57 g, and_false (leb 48 (get_or f i 0)))
-
-pub digits_end : (f : List ℕ) (i : ℕ) → i ≡ length f → all_digits (drop i f) ≡ true
-unfolding all_digits
-digits_end f i e = rw (e, drop-length f)
-
--- through the loop that tests digits: the first i bytes are digits
-pub record DigitsPassed (f : List ℕ) (i : ℕ) : Type 0 where
-  pub within : i ≤ length f
-  pub rest : all_digits (drop i f) ≡ all_digits f
 
 -- ---- numerals
 
@@ -198,15 +195,15 @@ numeral_above (b ∷ bs) k e p h =
 -- ---- fields, for any limit
 
 module _ (limit : ℕ) (f : List ℕ) where
-  pub broken_field : is_numeral (unblank f) ≡ false → field_of limit f ≡ Broken
+  pub broken_field : is_numeral (unblank f) ≡ false → field_of limit f ≡ Err Broken
   unfolding field_of numeral_of
   broken_field e = pick_false _ _ _ e
 
-  pub large_field : is_numeral (unblank f) ≡ true → limit < value (unblank f) → field_of limit f ≡ Large
+  pub large_field : is_numeral (unblank f) ≡ true → limit < value (unblank f) → field_of limit f ≡ Err Large
   unfolding field_of numeral_of
   large_field e h = pick_true _ _ _ e ∙ pick_false _ _ _ (lt-leb _ _ h)
 
-  pub number_field : is_numeral (unblank f) ≡ true → value (unblank f) ≤ limit → field_of limit f ≡ Number (value (unblank f))
+  pub number_field : is_numeral (unblank f) ≡ true → value (unblank f) ≤ limit → field_of limit f ≡ Ok (value (unblank f))
   unfolding field_of numeral_of
   number_field e h = pick_true _ _ _ e ∙ pick_true _ _ _ (le-leb _ _ h)
 
@@ -222,19 +219,22 @@ module _ (limit : ℕ) (f : List ℕ) (r : ℕ) (e : drop r f ≡ unblank f) whe
   is_field : tail f r ≡ unblank f
   is_field = tail_is f r ∙ e
 
-  pub tail_broken : is_numeral (tail f r) ≡ false → Broken ≡ field_of limit f
+  pub tail_broken : is_numeral (tail f r) ≡ false → Err Broken ≡ field_of limit f
   tail_broken p = sym (broken_field limit f (rw is_field at p))
 
-  pub tail_large : (k : ℕ) → is_numeral (tail f r) ≡ true → 0 < k → k < length (tail f r) → limit < 10 ^ k → Large ≡ field_of limit f
+  pub tail_large : (k : ℕ) → is_numeral (tail f r) ≡ true → 0 < k → k < length (tail f r) → limit < 10 ^ k → Err Large ≡ field_of limit f
   tail_large k p z h l =
       let numeral : is_numeral (unblank f) ≡ true = rw is_field at p in
       let above : 10 ^ k ≤ value (unblank f) = numeral_above (unblank f) k numeral z (rw is_field at h) in
       sym (large_field limit f numeral (lt_of_lt_of_le l above))
 
-  pub tail_high : {n : ℕ} → is_numeral (tail f r) ≡ true → n ≡ value (tail f r) → limit < n → Large ≡ field_of limit f
+  pub tail_high : {n : ℕ} → is_numeral (tail f r) ≡ true → n ≡ value (tail f r) → limit < n → Err Large ≡ field_of limit f
   tail_high p v h = sym (large_field limit f (rw is_field at p) (rw (v ∙ ap value is_field) at h))
 
-  pub tail_number : {n : ℕ} → is_numeral (tail f r) ≡ true → n ≡ value (tail f r) → n ≤ limit → Number n ≡ field_of limit f
+  pub tail_number : {n : ℕ} → is_numeral (tail f r) ≡ true → n ≡ value (tail f r) → n ≤ limit → Ok n ≡ field_of limit f
   tail_number p v h =
       let is = v ∙ ap value is_field in
-      ap Number is ∙ sym (number_field limit f (rw is_field at p) (rw is at h))
+      ap Ok is ∙ sym (number_field limit f (rw is_field at p) (rw is at h))
+
+-- what reading a field rests on, besides
+pub ruleset field_rules = (tail_broken, numeral_digits)

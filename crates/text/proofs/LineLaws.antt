@@ -1,17 +1,14 @@
 -- What a line holds, and what the line reader finds, over plain lists.
 --
 --   part_of          a part of the first bytes is a part of the text
---   first_refuses    one of three fields is refused: the first
---   second_refuses   the second
---   third_decides    the third, or none
 --   step_none        what the first line holds: there is none
 --   step_first       the first line alone counts
 --   step_short       it is not whole
 --   step_whole       it is whole: its fields are the text's
 --   step_past        past the text there is no line
 --   whole_fits       a whole first line lies within the text
+--   first_rules      these of the first line, as a set of lemmas
 --   part_field       a field, as the part of the slice that the code takes
---   step_judged      the answer from three such fields
 --   step_within      the line at a place within the text
 --   next_start       where line n + 1 starts
 --   lines_from       where line n is reached, the lines from there on
@@ -21,7 +18,6 @@
 --   reached_next     from a line that is reached a step goes to one that is
 --   passed_fits      a row has the bytes of a line
 --   step_fits        so a step stays within the numbers
---   step_is          a step by its two parts
 --   step_found       what it finds
 --   step_line        the line reached then
 --   is_end           1 at the text's end, 0 at what a line holds
@@ -38,15 +34,14 @@ use native.Mathlib.Omega.{arith}
 use lib.ListN.{length, get_or, take, drop, length-drop}
 use lib.Seq.{take-take, drop-drop, drop-cons, drop-length}
 use Rattle.text.specs.Layout.{bytes_of, table_layout, line_bytes}
-use Rattle.text.specs.Decimal.{field_of, refuses, field_value}
+use Rattle.std.specs.Prelude.{Some, None, Ok, Err}
+use Rattle.text.specs.Decimal.{Field, field_of, field_value}
 use Rattle.text.specs.Line.{lines_of, first_line, is_whole, any_refuses, judged, field_at, line_as, step_as, step_at, passed, step_from}
-use Rattle.text.specs.Line.{line_at, Reached, line_number, row_of}
+use Rattle.text.specs.Line.{Line, Numbers, line_at, Reached, line_number, row_from, row_of}
 use Rattle.text.specs.declared.layout.Format.{Format}
 use Rattle.text.specs.declared.layout.Layout.{Layout}
-use Rattle.text.specs.declared.lines.Line.{Line}
-use Rattle.text.specs.declared.lines.Line.TheVariants.{Row, End, BadLine, BadField, BadNumber}
+use Rattle.text.specs.declared.lines.LineError.TheVariants.{BadLine, BadField, BadNumber}
 use Rattle.text.specs.declared.lines.Step.{Step}
-use Rattle.text.specs.declared.decimal.Field.{Field}
 use Rattle.text.proofs.FieldLaws.{tail, tail_is}
 use Rattle.text.proofs.Tests.{true_or_false, lt_or_le, pick_true, pick_false}
 use Rattle.text.proofs.SplitLaws.{first_length, lines_first, whole_size, whole_first}
@@ -59,21 +54,9 @@ part_of (suc a) b zero s h = let z : ⊥ = omega arith in absurd z
 part_of (suc a) b (suc n) [] h = refl
 part_of (suc a) b (suc n) (x ∷ s) h = part_of a b n s (omega arith)
 
--- ---- one of three fields is refused, by the first that is
-
-module _ (number : ℕ) (x y z : Field) where
-  pub first_refuses : refuses number x ≡ true → true ≡ any_refuses number x y z
-  first_refuses p = rw p
-
-  pub second_refuses : refuses number x ≡ false → refuses number y ≡ true → true ≡ any_refuses number x y z
-  second_refuses p q = rw (p, q)
-
-  pub third_decides : refuses number x ≡ false → refuses number y ≡ false → refuses number z ≡ any_refuses number x y z
-  third_decides p q = rw (p, q)
-
 -- ---- what the first line holds
 
-pub step_none : (y : Layout) (s : List ℕ) → length s ≡ 0 → step_as y (lines_of s) ≡ End
+pub step_none : (y : Layout) (s : List ℕ) → length s ≡ 0 → step_as y (lines_of s) ≡ Ok None
 unfolding step_as lines_of
 step_none y [] e = refl
 step_none y (x ∷ s) e = let z : ⊥ = omega arith in absurd z
@@ -82,7 +65,7 @@ pub step_first : (y : Layout) (s : List ℕ) → 0 < length s → step_as y (lin
 unfolding step_as
 step_first y s h = ap (step_as y) (lines_first s h)
 
-pub step_short : (y : Layout) (s : List ℕ) → 0 < length s → is_whole (bytes_of y) (first_line s) ≡ false → step_as y (lines_of s) ≡ BadLine
+pub step_short : (y : Layout) (s : List ℕ) → 0 < length s → is_whole (bytes_of y) (first_line s) ≡ false → step_as y (lines_of s) ≡ Err BadLine
 unfolding line_as
 step_short y s h e = step_first y s h ∙ pick_false _ _ _ e
 
@@ -104,12 +87,16 @@ step_whole y s h e =
     let part₃ = field_part y.third (a + b) (bytes_of y) s (omega arith) in
     step_first y s h ∙ pick_true _ _ _ e ∙ rw (whole_first s (bytes_of y) e, part₁, part₂, part₃)
 
-pub step_past : (text : List ℕ) (n : ℕ) → length text / line_bytes < n → step_at text n ≡ End
+pub step_past : (text : List ℕ) (n : ℕ) → length text / line_bytes < n → step_at text n ≡ Ok None
 unfolding step_at
-step_past text n h = step_none table_layout (drop (line_bytes * n) text) (length-drop (line_bytes * n) text ∙ omega arith)
+step_past text n h =
+    ap row_from (step_none table_layout (drop (line_bytes * n) text) (length-drop (line_bytes * n) text ∙ omega arith))
 
 pub whole_fits : (s : List ℕ) (n : ℕ) → is_whole n (first_line s) ≡ true → n ≤ length s
 whole_fits s n e = omega (arith, first_length s, whole_size n (first_line s) e)
+
+-- what reading the first line rests on
+pub ruleset first_rules = (step_none, step_short, step_whole, whole_fits)
 
 -- a field, as the part of the slice that the code takes
 pub part_field : (f : Format) (s : List ℕ) (from : ℕ) {x : Field}
@@ -117,16 +104,10 @@ pub part_field : (f : Format) (s : List ℕ) (from : ℕ) {x : Field}
 unfolding field_at
 part_field f s from q = let w : from + f.width - from ≡ f.width = omega arith in q ∙ rw w
 
--- the line's answer from the parts that the code takes
-pub step_judged : (y : Layout) (s : List ℕ) {a b c : Field} {r : Line} → 0 < length s → is_whole (bytes_of y) (first_line s) ≡ true
-    → a ≡ field_at y.first 0 s → b ≡ field_at y.second y.first.width s
-    → c ≡ field_at y.third (y.first.width + y.second.width) s
-    → r ≡ judged a b c → r ≡ step_as y (lines_of s)
-step_judged y s h e p q t j = j ∙ rw (p, q, t) (sym (step_whole y s h e))
-
-pub step_within : (text : List ℕ) (n : ℕ) {r : Line} → r ≡ step_as table_layout (lines_of (tail text (line_bytes * n))) → r ≡ step_at text n
+pub step_within : (text : List ℕ) (n : ℕ) {r : Line}
+    → r ≡ row_from (step_as table_layout (lines_of (tail text (line_bytes * n)))) → r ≡ step_at text n
 unfolding step_at
-step_within text n e = e ∙ ap (λ (s : List ℕ). step_as table_layout (lines_of s)) (tail_is text (line_bytes * n))
+step_within text n e = e ∙ ap (λ (s : List ℕ). row_from (step_as table_layout (lines_of s))) (tail_is text (line_bytes * n))
 
 -- ---- the line reader's place
 
@@ -165,9 +146,9 @@ lines_from text (suc n) h w = go (lines_from text n (omega arith) (record { each
 
 -- what the line reader finds there is what line n holds
 pub step_from_lem : (text : List ℕ) (n : ℕ) → n ≤ length (lines_of text) → Reached text n
-    → step_at text n ≡ step_as table_layout (drop n (lines_of text))
+    → step_at text n ≡ row_from (step_as table_layout (drop n (lines_of text)))
 unfolding step_at
-step_from_lem text n h w = ap (step_as table_layout) (lines_from text n h w)
+step_from_lem text n h w = ap (λ (ls : List (List ℕ)). row_from (step_as table_layout ls)) (lines_from text n h w)
 
 -- ---- a step of the line reader
 
@@ -175,7 +156,7 @@ no_lines : (s : List ℕ) → lines_of s ≡ [] → length s ≡ 0
 no_lines [] e = refl
 no_lines (x ∷ xs) e = let z : ⊥ = omega (arith, ap length (sym (lines_first (x ∷ xs) (omega arith)) ∙ e)) in absurd z
 
-none_left : (ls : List (List ℕ)) → length ls ≡ 0 → step_as table_layout ls ≡ End
+none_left : (ls : List (List ℕ)) → length ls ≡ 0 → step_as table_layout ls ≡ Ok None
 unfolding step_as
 none_left [] e = refl
 none_left (l ∷ ls) e = let z : ⊥ = omega arith in absurd z
@@ -188,8 +169,10 @@ past_line text n past h =
     let reached : Reached text m = record { each = λ i l k. h.each i (omega arith) k } in
     let rest : lines_of (drop (line_bytes * m) text) ≡ [] = lines_from text m (le_refl m) reached ∙ drop-length (lines_of text) in
     let size : length (drop (line_bytes * m) text) ≡ 0 = no_lines (drop (line_bytes * m) text) rest in
-    step_none table_layout (drop (line_bytes * n) text) (omega (arith, length-drop (line_bytes * n) text, length-drop (line_bytes * m) text))
-    ∙ sym (none_left (drop n (lines_of text)) (omega (arith, length-drop n (lines_of text))))
+    let here = step_none table_layout (drop (line_bytes * n) text)
+    (omega (arith, length-drop (line_bytes * n) text, length-drop (line_bytes * m) text)) in
+    let there = none_left (drop n (lines_of text)) (omega (arith, length-drop n (lines_of text))) in
+    ap row_from (here ∙ sym there)
 
 pub found_line : (text : List ℕ) (n : ℕ) → Reached text n → step_at text n ≡ line_at text n
 unfolding line_at
@@ -198,25 +181,23 @@ found_line text n h =
     (lt_or_le (length (lines_of text)) n)
 
 passed_most : (l : Line) → passed l ≤ 1
-passed_most (Row d a b) = omega arith
-passed_most End = omega arith
-passed_most BadLine = omega arith
-passed_most BadField = omega arith
-passed_most BadNumber = omega arith
+passed_most (Ok (Some row)) = omega arith
+passed_most (Ok None) = omega arith
+passed_most (Err e) = omega arith
 
-passed_whole : (l : List ℕ) → 0 < passed (line_as table_layout l) → is_whole line_bytes l ≡ true
-unfolding line_as
+passed_whole : (l : List ℕ) → 0 < passed (row_of l) → is_whole line_bytes l ≡ true
+unfolding row_of line_as
 passed_whole l h =
     ⊎_elim (λ t. t) (λ t. absurd (none (pick_false _ _ _ t))) (true_or_false (is_whole line_bytes l))
   where
-    none : line_as table_layout l ≡ BadLine → ⊥
-    none e = omega (arith, ap passed e)
+    none : line_as table_layout l ≡ Err BadLine → ⊥
+    none e = omega (arith, ap (λ (n : Numbers). passed (row_from n)) e)
 
 pub reached_first : (text : List ℕ) → Reached text 0
 reached_first text = record { each = λ i h. absurd (not-suc-le-zero h) }
 
 pub reached_next : (text : List ℕ) (n : ℕ) → Reached text n → Reached text (n + passed (step_at text n))
-unfolding line_at step_as
+unfolding line_at step_as row_of
 reached_next text n h = record {
   each = λ i l k. ⊎_elim (λ before. h.each i before k) (λ (here : n ≤ i). at_line i here l k) (lt_or_le i n);
 }
@@ -225,25 +206,20 @@ reached_next text n h = record {
         → is_whole line_bytes (get_or (lines_of text) i []) ≡ true
     at_line i here l k =
         let same : n ≡ i = omega (arith, passed_most (step_at text n)) in
-        let is : step_at text n ≡ line_as table_layout (get_or (lines_of text) n []) =
-        found_line text n h ∙ ap (step_as table_layout) (drop-cons (lines_of text) n [] (omega arith)) in
+        let is : step_at text n ≡ row_of (get_or (lines_of text) n []) =
+        found_line text n h ∙ ap (λ (ls : List (List ℕ)). row_from (step_as table_layout ls)) (drop-cons (lines_of text) n [] (omega arith)) in
         ap (λ (j : ℕ). is_whole line_bytes (get_or (lines_of text) j [])) (sym same)
         ∙ passed_whole (get_or (lines_of text) n []) (omega (arith, ap passed is))
 
-pub passed_fits : (s : List ℕ) → line_bytes * passed (step_as table_layout (lines_of s)) ≤ length s
-passed_fits [] = omega (arith, ap passed (step_none table_layout [] refl))
+pub passed_fits : (s : List ℕ) → line_bytes * passed (row_from (step_as table_layout (lines_of s))) ≤ length s
+passed_fits [] = omega (arith, ap (λ (n : Numbers). passed (row_from n)) (step_none table_layout [] refl))
 passed_fits (x ∷ xs) =
-    ⊎_elim (λ t. omega (arith, whole_fits (x ∷ xs) line_bytes t, passed_most (step_as table_layout (lines_of (x ∷ xs)))))
-    (λ t. omega (arith, ap passed (step_short table_layout (x ∷ xs) (omega arith) t))) (true_or_false (is_whole line_bytes (first_line (x ∷ xs))))
+    ⊎_elim (λ t. omega (arith, whole_fits (x ∷ xs) line_bytes t, passed_most (row_from (step_as table_layout (lines_of (x ∷ xs))))))
+    (λ t. omega (arith, ap (λ (n : Numbers). passed (row_from n)) (step_short table_layout (x ∷ xs) (omega arith) t))) (true_or_false (is_whole line_bytes (first_line (x ∷ xs))))
 
 pub step_fits : (text : List ℕ) (n m : ℕ) → n < m → length text < m → n + passed (step_at text n) < m
 unfolding step_at
 step_fits text n m h l = omega (arith, passed_fits (drop (line_bytes * n) text), length-drop (line_bytes * n) text)
-
-pub step_is : (text : List ℕ) (n : ℕ) {l : Line} {m : ℕ} → l ≡ step_at text n → m ≡ n + passed l
-    → ◌≡◌ {A = Step} (record { found = l; line = m }) (step_from text n)
-unfolding step_from
-step_is text n e q = rw (q, e)
 
 module _ (text : List ℕ) (n : ℕ) {s : Step} (is : s ≡ step_from text n) where
   pub step_found : s.found ≡ step_at text n
@@ -258,28 +234,31 @@ module _ (text : List ℕ) (n : ℕ) {s : Step} (is : s ≡ step_from text n) wh
 
 -- 1 at the end, 0 at what a line holds
 abbrev pub is_end : Line → ℕ
-is_end (Row d a b) = 0
-is_end End = 1
-is_end BadLine = 0
-is_end BadField = 0
-is_end BadNumber = 0
+is_end (Ok (Some row)) = 0
+is_end (Ok None) = 1
+is_end (Err e) = 0
 
-judged_is : (broken large : Bool) (d a b : ℕ) → is_end (cond broken BadField (cond large BadNumber (Row d a b))) ≡ 0
-judged_is true large d a b = refl
-judged_is false true d a b = refl
-judged_is false false d a b = refl
+Holds : Numbers → Type 0
+Holds n = is_end (row_from n) ≡ 0
 
-line_is : (whole : Bool) (r : Line) → is_end r ≡ 0 → is_end (cond whole r BadLine) ≡ 0
-line_is true r e = e
-line_is false r e = refl
+judged_is : (broken large : Bool) (n : ℕ × ℕ × ℕ) → Holds (cond broken (Err BadField) (cond large (Err BadNumber) (Ok (Some n))))
+unfolding Holds
+judged_is true large n = refl
+judged_is false true n = refl
+judged_is false false n = refl
 
-fields_are : (x y z : Field) → is_end (judged x y z) ≡ 0
+line_is : (whole : Bool) (n : Numbers) → Holds n → Holds (cond whole n (Err BadLine))
+unfolding Holds
+line_is true n e = e
+line_is false n e = refl
+
+fields_are : (x y z : Field) → Holds (judged x y z)
 unfolding judged
 fields_are x y z =
-    let broken = any_refuses (line_number BadField) x y z in
-    let large = any_refuses (line_number BadNumber) x y z in
-    judged_is broken large (field_value x) (field_value y) (field_value z)
+    let broken = any_refuses (line_number (Err BadField)) x y z in
+    let large = any_refuses (line_number (Err BadNumber)) x y z in
+    judged_is broken large (field_value x, field_value y, field_value z)
 
 pub never_end : (l : List ℕ) → is_end (row_of l) ≡ 0
-unfolding row_of line_as
+unfolding row_of line_as Holds
 never_end l = line_is (is_whole line_bytes l) _ (fields_are _ _ _)

@@ -5,25 +5,24 @@
 --   pasting_more    after a turn
 --   pasting_on      the same where the next number is told
 --   pasting_all     at its end
---   pasting_next    the next place is as it was
 --   pasted_length   the buffer keeps its length
 --   pasted_start    written from the start
---   pasted_at       what stands at a written place
---   pasted_over     written over in its whole length
+--   part_pasted     written into a part of it
 --   pasted_pasted   two pieces, one behind the other, are their join
 --   Pieces          through calls that write one piece behind the other: what stands so far
 --   piece_first     the first piece
 --   piece_more      one more
 -- Assumes nothing.
-use Prim.Native.Nat.{ℕ, suc, ◌+◌, ◌≤◌, ◌<◌}
+use Prim.Native.Nat.{ℕ, ◌+◌, ◌-◌, ◌≤◌, ◌<◌}
 use mathlib.Core.Path.{◌≡◌, refl, sym, ap, subst, ◌∙◌}
-use mathlib.Core.List.{List, ◌∷◌, ◌++◌, append_assoc}
+use mathlib.Core.List.{List, ◌++◌, append_assoc}
 use native.Mathlib.Nat.{zero-add, add_assoc}
 use native.Mathlib.Numerals.{add-one}
 use native.Mathlib.Omega.{arith}
-use lib.ListN.{length, get_or, take, drop, set, length-set, length-append, get_or-append}
-use lib.Seq.{paste, paste-zero, paste-suc, length-paste, length_paste_head, take-length, length-take-le, take_at, drop_at, drop-drop}
-use lib.Seq.{drop-cons, get_or_at, get_or-append-add}
+use lib.ListN.{length, get_or, take, drop, set, length-set, length-append}
+use lib.Seq.{paste, paste-zero, paste-suc, length-paste, take-length, length-take-le, take_at, drop_at, drop-drop}
+use borrow.Rule.Slice.PartMut.{put_mid}
+use Rattle.std.proofs.lemmas.Slice.{put_mid-paste}
 use Rattle.text.specs.Print.{pasted, WrittenAt}
 
 -- ---- one element a turn
@@ -62,15 +61,6 @@ pasting_all {s} {d} {now} {at} {c} {j} p h =
     let e : j ≡ length s = omega arith in
     p.is ∙ rw (e, take-length s)
 
--- the next place is as it was
-pub pasting_next : {s d now : List ℕ} {at c j : ℕ} → Pasting s d now at c j → j < c → get_or now (at + j) 0 ≡ get_or d (at + j) 0
-pasting_next {s} {d} {now} {at} {c} {j} p h =
-    let front : List ℕ = take at d ++ take j s in
-    let size : length front ≡ at + j = length_paste_head d at s j (omega arith) (omega arith) in
-    let behind : drop (at + j) d ≡ get_or d (at + j) 0 ∷ drop (suc (at + j)) d = drop-cons d (at + j) 0 (omega arith) in
-    ap (λ (l : List ℕ). get_or l (at + j) 0) (p.is ∙ ap (λ (l : List ℕ). front ++ l) behind)
-    ∙ get_or_at front (get_or d (at + j) 0) (drop (suc (at + j)) d) 0 (at + j) size
-
 -- ---- the whole
 
 pub pasted_length : (d : List ℕ) (at : ℕ) (s : List ℕ) → at + length s ≤ length d → length (pasted d at s) ≡ length d
@@ -83,30 +73,13 @@ pub pasted_start : (d s : List ℕ) (n : ℕ) → length s ≡ n → pasted d 0 
 unfolding pasted
 pasted_start d s n e = rw (e, zero-add n)
 
--- the written elements stand in their places
-pub pasted_at : (d : List ℕ) (at : ℕ) (s : List ℕ) (j : ℕ) → at + length s ≤ length d → j < length s
-    → get_or (pasted d at s) (at + j) 0 ≡ get_or s j 0
+-- what a part holds that was lent and written, in the whole
+pub part_pasted : (out part bytes : List ℕ) (at next : ℕ) → part ≡ bytes → next ≡ at + length bytes
+    → put_mid at (next - at) out part ≡ pasted out at bytes
 unfolding pasted
-pasted_at d at s j h l =
-    let head : length (take at d) ≡ at = length-take-le at d (omega arith) in
-    let size : length (take at d ++ s) ≡ at + length s = length-append (take at d) s ∙ ap (λ (k : ℕ). k + length s) head in
-    get_or-append (take at d ++ s) (drop (at + length s) d) 0 (at + j) (omega arith)
-    ∙ ap (λ (k : ℕ). get_or (take at d ++ s) (k + j) 0) (sym head) ∙ get_or-append-add (take at d) s j 0
-
--- what is written over in its whole length is as if it had never stood there
-pub pasted_over : (d : List ℕ) (at : ℕ) (s t : List ℕ) → length s ≡ length t → at + length s ≤ length d
-    → pasted (pasted d at s) at t ≡ pasted d at t
-unfolding pasted
-pasted_over d at s t e h =
-    let front : List ℕ = take at d ++ s in
-    let rest : List ℕ = drop (at + length s) d in
-    let head : length (take at d) ≡ at = length-take-le at d (omega arith) in
-    let size : length front ≡ at + length s = length-append (take at d) s ∙ ap (λ (k : ℕ). k + length s) head in
-    let a : take at (front ++ rest) ≡ take at d =
-    ap (take at) (append_assoc (take at d) s rest) ∙ take_at (take at d) (s ++ rest) at head in
-    let b : drop (at + length t) (front ++ rest) ≡ drop (at + length t) d =
-    ap (λ (k : ℕ). drop (at + k) (front ++ rest)) (sym e) ∙ drop_at front rest (at + length s) size ∙ ap (λ (k : ℕ). drop (at + k) d) e in
-    rw (a, b)
+part_pasted out part bytes at next e q =
+    put_mid-paste at (next - at) out part bytes (length bytes) e (omega arith) refl
+    ∙ ap (λ (t : List ℕ). take at out ++ t ++ drop (at + length bytes) out) (take-length bytes)
 
 -- two pieces, one behind the other, are their join
 pub pasted_pasted : (d : List ℕ) (at : ℕ) (s t : List ℕ) → at + length s ≤ length d

@@ -16,20 +16,19 @@ use native.Mathlib.Nat.{pow-succ', pow-le-pow_right, one-le-pow, mod-lt, mod-eq_
 use native.Mathlib.Omega.{arith}
 use lib.Arith.{mod-mul, digits_div, digits_mod}
 use lib.Dec.{eqb, lit<}
+use Rattle.std.specs.Prelude.{Some, None, Ok, Err}
 use lib.ListN.{length, get_or, take, drop, length-drop, take-append-drop}
 use lib.Seq.{drop-cons, drop-drop, drop-length, length-take-le}
 use borrow.Author.Tests.{eq-eqb, eqb-true}
 use Rattle.text.specs.Layout.{largest, day_width, account_width, line_bytes}
-use Rattle.text.specs.Decimal.{unblank, is_digit, all_digits, is_numeral, value, field_of, field_number, refuses, field_value}
-use Rattle.text.specs.Line.{prepend, lines_of, is_whole, line_number, any_refuses, judged, field_at, line_as, row_of, passed}
+use Rattle.text.specs.Decimal.{Field, unblank, is_digit, all_digits, is_numeral, value, field_of, field_number, refuses, field_value}
+use Rattle.text.specs.Line.{Line, prepend, lines_of, is_whole, any_refuses, judged, field_at, line_as, row_from, row_of, passed}
 use Rattle.text.specs.Table.{day_of, first_of, second_of, days_of, firsts_of, seconds_of, judged_from}
 use Rattle.text.specs.Print.{column_of, printed}
 use Rattle.text.specs.Writer.{table_line, table_lines, table_rows, table_text, one_length}
-use Rattle.text.specs.declared.decimal.Field.{Field}
-use Rattle.text.specs.declared.decimal.Field.TheVariants.{Number, Large, Broken}
-use Rattle.text.specs.declared.lines.Line.{Line}
-use Rattle.text.specs.declared.lines.Line.TheVariants.{Row, End, BadLine, BadField, BadNumber}
-use Rattle.text.specs.declared.table.TableRead.TheVariants.{Rows}
+use Rattle.text.specs.declared.decimal.FieldError.TheVariants.{Broken, Large}
+use Rattle.text.specs.declared.lines.LineError.TheVariants.{BadField, BadNumber}
+use Rattle.text.specs.declared.lines.Row.{Row}
 use Rattle.text.proofs.Tests.{true_or_false, lt_or_le, same_or_not, and_left, and_right, both_true, pick_true, pick_false, zero_not_one}
 use Rattle.text.proofs.FieldLaws.{unblank_at, unblank_past, digit_between, numeral_none, numeral_digits, numeral_above}
 use Rattle.text.proofs.FieldLaws.{value_below, broken_field, large_field, number_field}
@@ -127,7 +126,7 @@ numeral_field [] = no_field
 numeral_field (b ∷ bs) = ⊎_elim (blank_again b bs (numeral_field bs)) (digit_again b bs (numeral_field bs)) (same_or_not b 32)
 
 -- what a number's field is, by its cases
-pub field_again : (limit n : ℕ) (f : List ℕ) → field_of limit f ≡ Number n → printed (length f) n ≡ f
+pub field_again : (limit n : ℕ) (f : List ℕ) → field_of limit f ≡ Ok n → printed (length f) n ≡ f
 field_again limit n f e =
     ⊎_elim (λ t. ⊎_elim (large t) (within t) (lt_or_le limit (value (unblank f)))) broken (true_or_false (is_numeral (unblank f)))
   where
@@ -149,47 +148,46 @@ none_of true q r e = absurd (true≢false e)
 none_of false true r e = absurd (true≢false e)
 none_of false false r e = (refl, refl, e)
 
-number_only : (f : Field) → refuses (field_number Broken) f ≡ false → refuses (field_number Large) f ≡ false → f ≡ Number (field_value f)
-number_only (Number n) p q = refl
-number_only Large p q = absurd (true≢false q)
-number_only Broken p q = absurd (true≢false p)
+number_only : (f : Field) → refuses (field_number (Err Broken)) f ≡ false → refuses (field_number (Err Large)) f ≡ false
+    → f ≡ Ok (field_value f)
+number_only (Ok n) p q = refl
+number_only (Err Large) p q = absurd (true≢false q)
+number_only (Err Broken) p q = absurd (true≢false p)
 
-not_refused : (broken large : Bool) (p q r d a b : ℕ) → cond broken BadField (cond large BadNumber (Row p q r)) ≡ Row d a b
-    → (broken ≡ false) × (large ≡ false)
-not_refused true large p q r d a b e = let z : ⊥ = omega (arith, ap line_number e) in absurd z
-not_refused false true p q r d a b e = let z : ⊥ = omega (arith, ap line_number e) in absurd z
-not_refused false false p q r d a b e = (refl, refl)
+not_refused : (broken large : Bool) (n : ℕ × ℕ × ℕ) (row : Row)
+    → row_from (cond broken (Err BadField) (cond large (Err BadNumber) (Ok (Some n)))) ≡ Ok (Some row) → (broken ≡ false) × (large ≡ false)
+not_refused true large n row e = zero_not_one (ap passed e)
+not_refused false true n row e = zero_not_one (ap passed e)
+not_refused false false n row e = (refl, refl)
 
 -- where a line's answer is a row, each of its fields holds the row's number
-record Numbers (x y z : Field) (d a b : ℕ) : Type 0 where
-  day : x ≡ Number d
-  first : y ≡ Number a
-  second : z ≡ Number b
+record Numbered (x y z : Field) (row : Row) : Type 0 where
+  day : x ≡ Ok row.day
+  first : y ≡ Ok row.first
+  second : z ≡ Ok row.second
 
-numbers_of : (x y z : Field) (d a b : ℕ) → judged x y z ≡ Row d a b → Numbers x y z d a b
+numbers_of : (x y z : Field) (row : Row) → row_from (judged x y z) ≡ Ok (Some row) → Numbered x y z row
 unfolding judged
-numbers_of x y z d a b e =
-    let fine = not_refused (any_refuses (field_number Broken) x y z) (any_refuses (field_number Large) x y z) _ _ _ d a b e in
-    let row : Row (field_value x) (field_value y) (field_value z) ≡ Row d a b =
-    sym (pick_false _ _ _ fine.0 ∙ pick_false _ _ _ fine.1) ∙ e in
-    let broken = none_of (refuses (field_number Broken) x) (refuses (field_number Broken) y) (refuses (field_number Broken) z) fine.0 in
-    let large = none_of (refuses (field_number Large) x) (refuses (field_number Large) y) (refuses (field_number Large) z) fine.1 in
+numbers_of x y z row e =
+    let b = field_number (Err Broken) in
+    let l = field_number (Err Large) in
+    let fine = not_refused (any_refuses b x y z) (any_refuses l x y z) _ row e in
+    let is = sym (ap row_from (pick_false _ _ _ fine.0 ∙ pick_false _ _ _ fine.1)) ∙ e in
+    let broken = none_of (refuses b x) (refuses b y) (refuses b z) fine.0 in
+    let large = none_of (refuses l x) (refuses l y) (refuses l z) fine.1 in
     record {
-      day = number_only x broken.0 large.0 ∙ ap (λ (l : Line). Number (day_of l)) row;
-      first = number_only y broken.1 large.1 ∙ ap (λ (l : Line). Number (first_of l)) row;
-      second = number_only z broken.2 large.2 ∙ ap (λ (l : Line). Number (second_of l)) row;
+      day = number_only x broken.0 large.0 ∙ ap (λ (l : Line). Ok (day_of l)) is;
+      first = number_only y broken.1 large.1 ∙ ap (λ (l : Line). Ok (first_of l)) is;
+      second = number_only z broken.2 large.2 ∙ ap (λ (l : Line). Ok (second_of l)) is;
     }
 
-whole_of : (l : List ℕ) (d a b : ℕ) → row_of l ≡ Row d a b → is_whole line_bytes l ≡ true
+whole_of : (l : List ℕ) (row : Row) → row_of l ≡ Ok (Some row) → is_whole line_bytes l ≡ true
 unfolding row_of line_as
-whole_of l d a b e =
-    ⊎_elim (λ t. t) (λ t. absurd (bad (sym (pick_false _ _ _ t) ∙ e))) (true_or_false (is_whole line_bytes l))
-  where
-    bad : BadLine ≡ Row d a b → ⊥
-    bad q = omega (arith, ap line_number q)
+whole_of l row e =
+    ⊎_elim (λ t. t) (λ t. zero_not_one (ap passed (sym (ap row_from (pick_false _ _ _ t)) ∙ e))) (true_or_false (is_whole line_bytes l))
 
 -- a part of a line, of which a field holds a number
-part_again : (l : List ℕ) (from width n : ℕ) → from + width ≤ length l → field_of largest (take width (drop from l)) ≡ Number n
+part_again : (l : List ℕ) (from width n : ℕ) → from + width ≤ length l → field_of largest (take width (drop from l)) ≡ Ok n
     → printed width n ≡ take width (drop from l)
 part_again l from width n h e =
     let size : length (take width (drop from l)) ≡ width = length-take-le width (drop from l) (omega (arith, length-drop from l)) in
@@ -215,16 +213,16 @@ line_end l w =
     let none : drop 18 l ≡ [] = ap (λ (k : ℕ). drop k l) (sym size) ∙ drop-length l in
     drop-cons l 17 0 (omega arith) ∙ (λ i. last i ∷ none i)
 
-pub row_again : (l : List ℕ) (d a b : ℕ) → row_of l ≡ Row d a b → table_line d a b ≡ l
+pub row_again : (l : List ℕ) (row : Row) → row_of l ≡ Ok (Some row) → table_line row.day row.first row.second ≡ l
 unfolding row_of line_as field_at table_line
-row_again l d a b e =
-    let whole : is_whole line_bytes l ≡ true = whole_of l d a b e in
+row_again l row e =
+    let whole : is_whole line_bytes l ≡ true = whole_of l row e in
     let size : length l ≡ line_bytes = whole_size line_bytes l whole in
-    let so : Numbers (field_of largest (take 5 l)) (field_of largest (take 6 (drop 5 l))) (field_of largest (take 6 (drop 11 l))) d a b =
-    numbers_of _ _ _ d a b (sym (pick_true _ _ _ whole) ∙ e) in
-    let x = part_again l 0 day_width d (omega arith) so.day in
-    let y = part_again l day_width account_width a (omega arith) so.first in
-    let z = part_again l (day_width + account_width) account_width b (omega arith) so.second in
+    let so : Numbered (field_of largest (take 5 l)) (field_of largest (take 6 (drop 5 l))) (field_of largest (take 6 (drop 11 l))) row =
+    numbers_of _ _ _ row (sym (ap row_from (pick_true _ _ _ whole)) ∙ e) in
+    let x = part_again l 0 day_width row.day (omega arith) so.day in
+    let y = part_again l day_width account_width row.first (omega arith) so.first in
+    let z = part_again l (day_width + account_width) account_width row.second (omega arith) so.second in
     (λ i. x i ++ y i ++ z i ++ sym (line_end l whole) i) ∙ four_parts l day_width account_width account_width
 
 -- ---- a text
@@ -242,33 +240,31 @@ lines_join (b ∷ bs) =
     (λ e. ap flatten (lines_more b bs e) ∙ join_first b (lines_of bs) ∙ ap (λ (t : List ℕ). b ∷ t) (lines_join bs)) (same_or_not b 10)
 
 -- a line that is passed holds a row
-row_of_lem : (l : Line) → passed l ≡ 1 → l ≡ Row (day_of l) (first_of l) (second_of l)
-row_of_lem (Row d a b) e = refl
-row_of_lem End e = zero_not_one e
-row_of_lem BadLine e = zero_not_one e
-row_of_lem BadField e = zero_not_one e
-row_of_lem BadNumber e = zero_not_one e
+row_of_lem : (l : Line) → passed l ≡ 1 → l ≡ Ok (Some (record { day = day_of l; first = first_of l; second = second_of l }))
+row_of_lem (Ok (Some row)) e = refl
+row_of_lem (Ok None) e = zero_not_one e
+row_of_lem (Err f) e = zero_not_one e
 
 -- a number of each line's row
 abbrev column : (Line → ℕ) → List (List ℕ) → List ℕ
 column f ls = map (λ (l : List ℕ). f (row_of l)) ls
 
-pub rows_again : (n c : ℕ) (ls : List (List ℕ)) → judged_from n ls ≡ Rows c
+pub rows_again : (n c : ℕ) (ls : List (List ℕ)) → judged_from n ls ≡ Ok c
     → table_lines (table_rows (column day_of ls) (column first_of ls) (column second_of ls)) ≡ flatten ls
 unfolding judged_from table_lines table_rows flatten
 rows_again n c [] e = refl
 rows_again n c (l ∷ ls) e =
     let later = judged_from (n + 1) ls in
     let row = row_of_lem (row_of l) (row_passed (n + 1) c (row_of l) later (never_end l) e) in
-    let line = row_again l _ _ _ row in
+    let line = row_again l _ row in
     let others = rows_again (n + 1) c ls (rest_rows (n + 1) c (row_of l) later e) in
     λ i. line i ++ others i
 
-pub text_again : (text : List ℕ) (c : ℕ) → judged_from 0 (lines_of text) ≡ Rows c → table_text (columns_of text) ≡ text
+pub text_again : (text : List ℕ) (c : ℕ) → judged_from 0 (lines_of text) ≡ Ok c → table_text (columns_of text) ≡ text
 unfolding table_text days_of firsts_of seconds_of
 text_again text c e = rows_again 0 c (lines_of text) e ∙ lines_join text
 
-pub one_text : (text : List ℕ) (c : ℕ) → judged_from 0 (lines_of text) ≡ Rows c → one_length (columns_of text) ≡ true
+pub one_text : (text : List ℕ) (c : ℕ) → judged_from 0 (lines_of text) ≡ Ok c → one_length (columns_of text) ≡ true
 unfolding one_length days_of firsts_of seconds_of
 one_text text c e =
     let days = column_length text c e day_of in

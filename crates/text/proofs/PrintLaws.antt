@@ -3,25 +3,19 @@
 --   column_unit      a column, by the code's cases: the units
 --   column_blank     a blank
 --   column_digit     a digit
---   column_is_blank  the same by the code's test for a blank
---   column_is_digit  or a digit
 --   quotient_digit   a quotient is ten times the next one, and the digit
 --   below_power      a number of 16 bits is below 10 ^ 5
---   digit_place      so its digits have a place in the table
+--   fits_place       whether a number fits, by the code's cases: by its place value
+--   fits_wide        five columns or more
+--   column_stays     a column, by the code's test: the blank stays
+--   column_is_digit  a digit
+--   digit_place      which has its place in the table
 --   printed_length   a printed field has its width
 --   printed_at       and these columns
 --   blanks           so many blanks
 --   columns_none     through the loop that writes columns over them: at its start
---   columns_blank    the next place has its blank
 --   columns_more     after a turn
---   columns_long     the buffer keeps its length
---   columns_all      at its end
---   fits_none        whether a number fits, by the code's cases: no column
---   fits_place       by its place value
---   fits_wide        five columns or more
---   room_short       whether bytes fit, by the code's cases: the buffer is shorter than they are
---   room_left        or it is not
---   room_for         bytes that the test lets pass fit
+--   field_pasted     a field that was lent as a part of a buffer, in the whole
 --   puts_none        the answer of a call that writes: no room
 --   puts_all         all is written
 --   field_wide       of a call that writes a number: it does not fit
@@ -34,24 +28,26 @@
 --   refused_length   how long the line of a refusal is
 -- Assumes nothing.
 use Prim.Native.Nat.{ℕ, zero, suc, ◌+◌, ◌-◌, ◌*◌, ◌/◌, ◌%◌, ◌^◌, ◌≤◌, ◌<◌}
-use mathlib.Core.Path.{◌≡◌, refl, sym, ap, subst, ◌∙◌}
-use mathlib.Core.Bool.{Bool, true, false, not, ◌&&◌, true≢false}
+use mathlib.Core.Path.{◌≡◌, refl, sym, ap, ◌∙◌}
+use mathlib.Core.Bool.{Bool, true, false, true≢false}
 use mathlib.Core.Logic.{⊎_elim}
 use mathlib.Core.List.{List, [], ◌∷◌, ◌++◌}
-use native.Mathlib.Nat.{div-one, div-add-mod, div-div-eq-div-mul, pow-suc, pow-le-pow_right, not-suc-le-zero, le_of_suc-le-suc}
+use native.Mathlib.Nat.{zero-add, div-one, div-add-mod, div-div-eq-div-mul, pow-suc, pow-le-pow_right, not-suc-le-zero, le_of_suc-le-suc}
 use native.Mathlib.Numerals.{add-one}
 use native.Mathlib.Omega.{arith}
 use lib.Dec.{leb, ltb, lit<}
-use lib.ListN.{length, get_or, set, replicate, length-append, length-replicate, get_or-replicate}
-use borrow.Author.Tests.{lt-ltb, le-ltb, lt-leb, le-leb, leb-true, leb-false}
+use lib.Seq.{set-get_or}
+use lib.ListN.{length, get_or, set, replicate, length-append, length-replicate}
+use borrow.Author.Tests.{lt-ltb, le-ltb}
+use borrow.Rule.Slice.PartMut.{put_mid}
+use Rattle.std.specs.List.{between}
+use Rattle.std.specs.Prelude.{Option, Some, None}
+use Rattle.std.proofs.lemmas.List.Edits.{length-between}
 use Rattle.text.specs.Layout.{most_digits, day_width, rows_width, number_width, place_width, entry_bytes, refused_bytes}
 use Rattle.text.specs.Print.{column_of, printed, fits, pasted, put_of, field_put, listing_line, refused_line, BlankAt, WrittenAt, Puts}
 use Rattle.text.specs.Print.{PutsField}
-use Rattle.text.specs.declared.print.Put.{Put}
-use Rattle.text.specs.declared.print.Put.TheVariants.{Wrote, NoRoom}
-use Rattle.text.proofs.Tests.{true_or_false, lt_or_le, and_false, both_true, pick_true, pick_false, negated_true, negated_false}
-use Rattle.text.proofs.PasteLaws.{Pasting, pasting_none, pasting_more, pasting_next, pasting_all}
-use Rattle.text.proofs.PasteLaws.{pasted_length, pasted_at, pasted_over, Pieces, piece_first, piece_more}
+use Rattle.text.proofs.Tests.{lt_or_le, and_false, pick_true, pick_false}
+use Rattle.text.proofs.PasteLaws.{Pasting, pasting_none, pasting_more, part_pasted, Pieces, piece_first, piece_more}
 
 -- ---- columns
 
@@ -67,16 +63,6 @@ pub column_digit : (k n : ℕ) → 10 ^ k ≤ n → column_of k n ≡ 48 + n / 1
 unfolding column_of
 column_digit k n h = rw (le-ltb n (10 ^ k) h, and_false (ltb 0 k))
 
--- a column, by the code's test for a blank
-module _ (k n : ℕ) {b : Bool} (e : b ≡ (ltb 0 k && ltb n (10 ^ k))) where
-  pub column_is_blank : b ≡ true → column_of k n ≡ 32
-  unfolding column_of
-  column_is_blank t = pick_true _ _ _ (sym e ∙ t)
-
-  pub column_is_digit : b ≡ false → column_of k n ≡ 48 + n / 10 ^ k % 10
-  unfolding column_of
-  column_is_digit t = pick_false _ _ _ (sym e ∙ t)
-
 -- a quotient is ten times the next one, and the digit
 pub quotient_digit : (k n : ℕ) → 10 * (n / 10 ^ (k + 1)) + n / 10 ^ k % 10 ≡ n / 10 ^ k
 quotient_digit k n =
@@ -88,12 +74,31 @@ quotient_digit k n =
 pub below_power : (k n : ℕ) → most_digits ≤ k → n < 2 ^ 16 → n < 10 ^ k
 below_power k n h l = let m : 10 ^ most_digits ≤ 10 ^ k = pow-le-pow_right (lit< tt) h in omega arith
 
--- so where a digit stands the table of place values has its place
-pub digit_place : (k n : ℕ) {b : Bool} → b ≡ (ltb 0 k && ltb n (10 ^ k)) → b ≡ false → n < 2 ^ 16 → k < most_digits
-digit_place k n e t l = ⊎_elim (λ h. h) (λ h. absurd (none h)) (lt_or_le k most_digits)
-  where
-    none : most_digits ≤ k → ⊥
-    none h = true≢false (sym (both_true _ _ (lt-ltb 0 k (omega arith)) (lt-ltb n (10 ^ k) (below_power k n h l))) ∙ sym e ∙ t)
+-- ---- what fits
+
+pub fits_place : (width n : ℕ) → 0 < width → fits width n ≡ ltb n (10 ^ width)
+unfolding fits
+fits_place width n h = rw (lt-ltb 0 width h)
+
+pub fits_wide : (width n : ℕ) → most_digits ≤ width → n < 2 ^ 16 → fits width n ≡ true
+fits_wide width n h l = fits_place width n (omega arith) ∙ lt-ltb n (10 ^ width) (below_power width n h l)
+
+-- a column, by the code's test: a blank, where the number fits the columns behind it
+module _ (k n : ℕ) where
+  pub column_stays : {field : List ℕ} {at : ℕ} → BlankAt field at → true ≡ fits k n
+      → field ≡ set field at (column_of k n)
+  unfolding column_of fits
+  column_stays {field} {at} b t =
+      sym (ap (set field at) (pick_true _ _ _ (sym t) ∙ sym b.blank) ∙ set-get_or field at 0)
+
+  module _ (t : false ≡ fits k n) where
+    pub column_is_digit : column_of k n ≡ 48 + n / 10 ^ k % 10
+    unfolding column_of fits
+    column_is_digit = pick_false _ _ _ (sym t)
+
+    -- the table of place values has its place
+    pub digit_place : n < 2 ^ 16 → k < most_digits
+    digit_place l = ⊎_elim (λ h. h) (λ h. absurd (true≢false (sym (fits_wide k n h l) ∙ sym t))) (lt_or_le k most_digits)
 
 -- ---- printed fields
 
@@ -114,89 +119,52 @@ abbrev pub blanks : ℕ → List ℕ
 blanks width = replicate width 32
 
 -- through the loop that writes the columns of a number over blanks
-module _ (out : List ℕ) (at width n : ℕ) {blanked : List ℕ} (room : at + width ≤ length out)
-    (e : blanked ≡ pasted out at (blanks width)) where
+module _ (width n : ℕ) where
   size : length (blanks width) ≡ width
   size = length-replicate width 32
 
-  long : length blanked ≡ length out
-  long = ap length e ∙ pasted_length out at (blanks width) (omega (arith, size))
+  pub columns_none : {now : List ℕ} → now ≡ blanks width → Pasting (printed width n) (blanks width) now 0 width 0
+  columns_none e = rw (e) (pasting_none _ _ 0 width (printed_length width n) (omega (arith, size)))
 
-  pub columns_none : Pasting (printed width n) blanked blanked at width 0
-  columns_none = pasting_none _ _ _ _ (printed_length width n) (omega (arith, long))
+  pub columns_more : {now now' : List ℕ} {j k : ℕ} → Pasting (printed width n) (blanks width) now 0 width j → j < width
+      → k ≡ width - 1 - j → now' ≡ set now j (column_of k n)
+      → Pasting (printed width n) (blanks width) now' 0 width (j + 1)
+  columns_more {j = j} p h e w = rw (w, e) (pasting_more j _ p h (sym (zero-add j)) (sym (printed_at width n j h)))
 
-  module _ {now : List ℕ} {j : ℕ} (p : Pasting (printed width n) blanked now at width j) where
-    -- the next place has its blank
-    pub columns_blank : j < width → BlankAt now (at + j)
-    columns_blank h =
-        let before : get_or blanked (at + j) 0 ≡ 32 =
-        ap (λ (l : List ℕ). get_or l (at + j) 0) e ∙ pasted_at out at (blanks width) j (omega (arith, size)) (omega (arith, size))
-        ∙ get_or-replicate width j 32 0 h in
-        record { within = omega (arith, p.long, p.room); blank = pasting_next p h ∙ before }
-
-    pub columns_more : {now' : List ℕ} → j < width → now' ≡ set now (at + j) (column_of (width - 1 - j) n)
-        → Pasting (printed width n) blanked now' at width (j + 1)
-    columns_more h w =
-        subst (λ (l : List ℕ). Pasting (printed width n) blanked l at width (j + 1)) (sym w)
-        (pasting_more (at + j) _ p h refl (sym (printed_at width n j h)))
-
-    pub columns_long : length now ≡ length out
-    columns_long = p.long ∙ long
-
-    -- the field stands, as if there had been no blanks
-    pub columns_all : width ≤ j → now ≡ pasted out at (printed width n)
-    columns_all h =
-        pasting_all p h ∙ ap (λ (l : List ℕ). pasted l at (printed width n)) e
-        ∙ pasted_over out at (blanks width) (printed width n) (size ∙ sym (printed_length width n)) (omega (arith, size))
-
--- ---- what fits
-
-pub fits_none : (n : ℕ) → fits 0 n ≡ false
-unfolding fits
-fits_none n = refl
-
-pub fits_place : (width n : ℕ) → 0 < width → fits width n ≡ ltb n (10 ^ width)
-unfolding fits
-fits_place width n h = rw (lt-ltb 0 width h)
-
-pub fits_wide : (width n : ℕ) → most_digits ≤ width → n < 2 ^ 16 → fits width n ≡ true
-fits_wide width n h l = fits_place width n (omega arith) ∙ lt-ltb n (10 ^ width) (below_power width n h l)
-
-pub room_short : (len at size : ℕ) → len < size → leb (at + size) len ≡ false
-room_short len at size h = lt-leb (at + size) len (omega arith)
-
-pub room_left : (len at size : ℕ) → size ≤ len → leb (at + size) len ≡ leb at (len - size)
-room_left len at size h =
-    ⊎_elim (λ t. le-leb (at + size) len (omega (arith, leb-true at (len - size) t)) ∙ sym t)
-    (λ t. lt-leb (at + size) len (omega (arith, leb-false at (len - size) t)) ∙ sym t) (true_or_false (leb at (len - size)))
+-- the field is a part of a buffer
+pub field_pasted : (out part : List ℕ) (at width n : ℕ) → at + width ≤ length out
+    → part ≡ printed (length (between at (at + width) out)) n
+    → put_mid at (at + width - at) out part ≡ pasted out at (printed width n)
+field_pasted out part at width n h e =
+    let size : length (between at (at + width) out) ≡ width = omega (arith, length-between out at (at + width)) in
+    part_pasted out part (printed width n) at (at + width) (e ∙ ap (λ (w : ℕ). printed w n) size)
+    (ap (λ (w : ℕ). at + w) (sym (printed_length width n)))
 
 -- ---- the answer of a call that writes
 
-pub room_for : (len at size : ℕ) {b : Bool} → b ≡ leb (at + size) len → not b ≡ false → at + size ≤ len
-room_for len at size e t = leb-true (at + size) len (negated_false e t)
+module _ (out : List ℕ) (at : ℕ) (bytes : List ℕ) {size : ℕ} (e : length bytes ≡ size) where
+  -- the test, on the bytes themselves
+  tests : {b : Bool} → b ≡ leb (at + size) (length out) → leb (at + length bytes) (length out) ≡ b
+  tests t = rw (e) (sym t)
 
-module _ (out : List ℕ) (at : ℕ) (bytes : List ℕ) {size : ℕ} {b : Bool} (e : length bytes ≡ size) (q : b ≡ leb (at + size) (length out))
-  where
-    -- the test, on the bytes themselves
-    tests : b ≡ leb (at + length bytes) (length out)
-    tests = rw (e) q
+  pub puts_none : false ≡ leb (at + size) (length out) → Puts out at bytes None out
+  unfolding put_of
+  puts_none t = record { answers = sym (pick_false _ _ _ (tests t)); holds = refl }
 
-    pub puts_none : not b ≡ true → Puts out at bytes NoRoom out
-    unfolding put_of
-    puts_none t = record { answers = sym (pick_false _ _ _ (negated_true tests t)); holds = refl }
+  pub puts_all : {next : ℕ} {now : List ℕ} → true ≡ leb (at + size) (length out)
+      → WrittenAt out at size bytes next now → Puts out at bytes (Some next) now
+  unfolding put_of
+  puts_all t w = record { answers = rw (w.behind, ← e) (sym (pick_true _ _ _ (tests t))); holds = w.holds }
 
-    pub puts_all : {next : ℕ} {now : List ℕ} → not b ≡ false → WrittenAt out at size bytes next now → Puts out at bytes (Wrote next) now
-    unfolding put_of
-    puts_all t w = record { answers = rw (w.behind, ← e) (sym (pick_true _ _ _ (negated_false tests t))); holds = w.holds }
-
-module _ (out : List ℕ) (at width n : ℕ) {b : Bool} (e : b ≡ fits width n) where
-  pub field_wide : not b ≡ true → PutsField out at width n NoRoom out
+module _ (out : List ℕ) (at width n : ℕ) where
+  pub field_wide : false ≡ fits width n → PutsField out at width n None out
   unfolding field_put
-  field_wide t = record { answers = sym (pick_false _ _ _ (negated_true e t)); holds = refl }
+  field_wide t = record { answers = sym (pick_false _ _ _ (sym t)); holds = refl }
 
-  pub field_fits : {r : Put} {now : List ℕ} → not b ≡ false → Puts out at (printed width n) r now → PutsField out at width n r now
+  pub field_fits : {r : Option ℕ} {now : List ℕ} → true ≡ fits width n → Puts out at (printed width n) r now
+      → PutsField out at width n r now
   unfolding field_put
-  field_fits t p = record { answers = p.answers ∙ sym (pick_true _ _ _ (negated_false e t)); holds = p.holds }
+  field_fits t p = record { answers = p.answers ∙ sym (pick_true _ _ _ (sym t)); holds = p.holds }
 
 -- ---- lines, piece by piece
 

@@ -23,19 +23,17 @@ use native.Mathlib.Nat.{pow-succ', one-le-pow, not-suc-le-zero, one-mul, add-zer
 use native.Mathlib.Omega.{arith}
 use lib.Arith.{mod-mul}
 use lib.Dec.{ltb, lit<, lit≤}
+use Rattle.std.specs.Prelude.{Some, Ok, Err}
 use lib.ListN.{length, get_or, take, drop, length-append}
 use lib.Seq.{take_at, drop_at, get_or_at}
 use borrow.Author.Tests.{eq-eqb}
 use Rattle.text.specs.Layout.{largest, most_digits, day_width, account_width}
 use Rattle.text.specs.Decimal.{unblank, all_digits, is_numeral, value, field_of}
-use Rattle.text.specs.Line.{prepend, lines_of, is_whole, judged, field_at, line_as, row_of}
+use Rattle.text.specs.Line.{Line, prepend, lines_of, is_whole, judged, field_at, line_as, row_from, row_of}
 use Rattle.text.specs.Table.{day_of, first_of, second_of, days_of, firsts_of, seconds_of, fault_or, judged_from, Columns, columns}
 use Rattle.text.specs.Print.{column_of, printed}
 use Rattle.text.specs.Writer.{table_line, TableRow, table_lines, table_rows, table_text}
-use Rattle.text.specs.declared.decimal.Field.TheVariants.{Number, Large}
-use Rattle.text.specs.declared.lines.Line.{Line}
-use Rattle.text.specs.declared.lines.Line.TheVariants.{Row}
-use Rattle.text.specs.declared.table.TableRead.TheVariants.{Rows}
+use Rattle.text.specs.declared.decimal.FieldError.TheVariants.{Large}
 use Rattle.text.proofs.Tests.{lt_or_le, both_true, pick_true}
 use Rattle.text.proofs.FieldLaws.{unblank_at, unblank_past, digit_yes, numeral_one, numeral_more, number_field, large_field}
 use Rattle.text.proofs.SplitLaws.{lines_end, lines_more, prepend_cons}
@@ -121,18 +119,18 @@ numeral_back (suc (suc k)) n p h = go (numeral_back (suc k) n (omega arith)) (lt
 -- ---- for any limit and any width
 
 module _ (limit w n : ℕ) (p : 0 < w) (h : n < 10 ^ w) where
-  pub field_back : n ≤ limit → field_of limit (printed w n) ≡ Number n
+  pub field_back : n ≤ limit → field_of limit (printed w n) ≡ Ok n
   field_back l =
       let r : Numeral w n = numeral_back w n p h in
-      number_field limit (printed w n) r.numeral (rw r.sum l) ∙ ap Number r.sum
+      number_field limit (printed w n) r.numeral (rw r.sum l) ∙ ap Ok r.sum
 
-  pub large_back : limit < n → field_of limit (printed w n) ≡ Large
+  pub large_back : limit < n → field_of limit (printed w n) ≡ Err Large
   large_back l =
       let r : Numeral w n = numeral_back w n p h in
       large_field limit (printed w n) r.numeral (rw r.sum l)
 
 -- a number of 16 bits fits 5 columns and more
-pub wide_back : (w n : ℕ) → most_digits ≤ w → n < 2 ^ 16 → field_of largest (printed w n) ≡ Number n
+pub wide_back : (w n : ℕ) → most_digits ≤ w → n < 2 ^ 16 → field_of largest (printed w n) ≡ Ok n
 wide_back w n p h = field_back largest w n (omega arith) (below_power w n p h) (omega arith)
 
 -- ---- a line of a table
@@ -158,7 +156,7 @@ module _ (a b c : List ℕ) (rest : List ℕ) where
 
 -- a printed row reads back as its row
 pub row_back : (day first second : ℕ) → day < 2 ^ 16 → first < 2 ^ 16 → second < 2 ^ 16
-    → row_of (table_line day first second) ≡ Row day first second
+    → row_of (table_line day first second) ≡ Ok (Some (record { day = day; first = first; second = second }))
 unfolding row_of line_as field_at table_line judged
 row_back day first second p q r =
     let d : List ℕ = printed day_width day in
@@ -167,15 +165,15 @@ row_back day first second p q r =
     let l : List ℕ = d ++ f ++ s ++ 10 ∷ [] in
     let both : length (d ++ f) ≡ day_width + account_width = simp (length-append, printed_length) in
     let all : length (d ++ f ++ s) ≡ day_width + account_width + account_width = simp (length-append, printed_length) in
-    let x : field_of largest (take day_width l) ≡ Number day =
+    let x : field_of largest (take day_width l) ≡ Ok day =
     ap (field_of largest) (first_part d f s (10 ∷ []) day_width (printed_length day_width day)) ∙ wide_back day_width day (lit≤ tt) p in
-    let y : field_of largest (take account_width (drop day_width l)) ≡ Number first =
+    let y : field_of largest (take account_width (drop day_width l)) ≡ Ok first =
     ap (field_of largest) (second_part d f s (10 ∷ []) day_width account_width (printed_length day_width day) (printed_length account_width first))
     ∙ wide_back account_width first (lit≤ tt) q in
-    let z : field_of largest (take account_width (drop (day_width + account_width) l)) ≡ Number second =
+    let z : field_of largest (take account_width (drop (day_width + account_width) l)) ≡ Ok second =
     ap (field_of largest) (third_part d f s (10 ∷ []) (day_width + account_width) account_width both (printed_length account_width second))
     ∙ wide_back account_width second (lit≤ tt) r in
-    pick_true _ _ _ (line_whole (d ++ f ++ s) (day_width + account_width + account_width) all) ∙ rw (x, y, z)
+    ap row_from (pick_true _ _ _ (line_whole (d ++ f ++ s) (day_width + account_width + account_width) all)) ∙ rw (x, y, z)
 
 -- ---- a whole table
 
@@ -225,20 +223,20 @@ AllSmall [] = Unit {0}
 AllSmall (r ∷ rs) = Small r × AllSmall rs
 
 row_in : TableRow → Line
-row_in r = Row r.day r.first r.second
+row_in r = Ok (Some (record { day = r.day; first = r.first; second = r.second }))
 
 small_back : (r : TableRow) → Small r → row_of (table_line r.day r.first r.second) ≡ row_in r
 unfolding row_in
 small_back r s = row_back r.day r.first r.second s.day_fits s.first_fits s.second_fits
 
-judged_back : (n : ℕ) (rs : List TableRow) → AllSmall rs → judged_from n (lines_of (table_lines rs)) ≡ Rows (n + length rs)
+judged_back : (n : ℕ) (rs : List TableRow) → AllSmall rs → judged_from n (lines_of (table_lines rs)) ≡ Ok (n + length rs)
 unfolding judged_from table_lines lines_of row_in
-judged_back n [] a = ap Rows (sym (add-zero n))
+judged_back n [] a = ap Ok (sym (add-zero n))
 judged_back n (r ∷ rs) a =
     let e : n + 1 + length rs ≡ n + suc (length rs) = omega arith in
     ap (judged_from n) (row_lines r.day r.first r.second (table_lines rs))
     ∙ ap (λ (x : Line). fault_or (n + 1) x (judged_from (n + 1) (lines_of (table_lines rs)))) (small_back r a.0)
-    ∙ judged_back (n + 1) rs a.1 ∙ ap Rows e
+    ∙ judged_back (n + 1) rs a.1 ∙ ap Ok e
 
 column_back : (f : Line → ℕ) (rs : List TableRow) → AllSmall rs
     → map (λ (l : List ℕ). f (row_of l)) (lines_of (table_lines rs)) ≡ map (λ (r : TableRow). f (row_in r)) rs
@@ -251,8 +249,8 @@ column_back f (r ∷ rs) a =
 
 -- the lines of some rows read back as these rows
 module _ (rs : List TableRow) (a : AllSmall rs) where
-  pub table_back : judged_from 0 (lines_of (table_lines rs)) ≡ Rows (length rs)
-  table_back = judged_back 0 rs a ∙ ap Rows (zero-add (length rs))
+  pub table_back : judged_from 0 (lines_of (table_lines rs)) ≡ Ok (length rs)
+  table_back = judged_back 0 rs a ∙ ap Ok (zero-add (length rs))
 
   pub days_back : days_of (table_lines rs) ≡ map (λ (r : TableRow). r.day) rs
   unfolding days_of row_in
@@ -310,9 +308,9 @@ module _ (c : Columns) (same : SameLength c) (lent : Lent c) where
   small : AllSmall (rows_of c)
   small = rows_small c.days c.first c.second lent.days lent.first lent.second
 
-  pub text_rows : judged_from 0 (lines_of (table_text c)) ≡ Rows (length c.days)
+  pub text_rows : judged_from 0 (lines_of (table_text c)) ≡ Ok (length c.days)
   unfolding table_text
-  text_rows = table_back (rows_of c) small ∙ ap Rows (rows_length same)
+  text_rows = table_back (rows_of c) small ∙ ap Ok (rows_length same)
 
   pub text_columns : columns_of (table_text c) ≡ c
   unfolding table_text

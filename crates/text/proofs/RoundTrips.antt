@@ -17,14 +17,16 @@ use Prim.Native.Nat.{ℕ, ◌*◌, ◌≤◌, ◌<◌}
 use mathlib.Core.Path.{◌≡◌, refl, sym, ap, subst, ◌∙◌}
 use mathlib.Core.Bool.{true}
 use mathlib.Core.List.{List, ◌++◌}
+use Rattle.std.specs.Prelude.{Result, Ok, Err}
 use lib.ListN.{length, take, drop}
+use Rattle.std.specs.Prelude.{Result, Ok, Err}
 use Rattle.text.specs.Layout.{line_bytes}
 use Rattle.text.specs.Table.{Columns, columns, TableReads}
 use Rattle.text.specs.Writer.{one_length, TableWrites}
-use Rattle.text.specs.declared.table.TableRead.{TableRead}
-use Rattle.text.specs.declared.table.TableRead.TheVariants as read
-use Rattle.text.specs.declared.writer.TableWritten.{TableWritten}
-use Rattle.text.specs.declared.writer.TableWritten.TheVariants.{Text, NoRoom}
+use Rattle.text.specs.declared.table.ReadError.{ReadError}
+use Rattle.text.specs.declared.table.ReadError.TheVariants as read
+use Rattle.text.specs.declared.writer.WriteError.{WriteError}
+use Rattle.text.specs.declared.writer.WriteError.TheVariants.{NoRoom}
 use Rattle.text.proofs.TableLaws.{places, read_accepted, read_columns, read_rows, read_none}
 use Rattle.text.proofs.WriterLaws.{same_length, text_length, wrote_text, wrote_none, wrote_one, wrote_bytes}
 use Rattle.text.proofs.ReadBack.{Lent, text_rows, text_columns}
@@ -34,14 +36,14 @@ use Rattle.text.proofs.PrintBack.{one_text, text_again}
 
 pub record TextReturns (text : List ℕ) (rows : Columns) : Type 0 where
   -- "comes out again byte for byte"; bytes past the text are kept
-  pub again : (space after : List ℕ) (answer : TableWritten) → TableWrites rows space answer after → length text ≤ length space
-      → (answer ≡ Text (length text)) × (after ≡ text ++ drop (length text) space)
+  pub again : (space after : List ℕ) (answer : Result ℕ WriteError) → TableWrites rows space answer after → length text ≤ length space
+      → (answer ≡ Ok (length text)) × (after ≡ text ++ drop (length text) space)
   -- "10, with the output kept"
-  pub short : (space after : List ℕ) (answer : TableWritten) → TableWrites rows space answer after → length space < length text
-      → (answer ≡ NoRoom) × (after ≡ space)
+  pub short : (space after : List ℕ) (answer : Result ℕ WriteError) → TableWrites rows space answer after → length space < length text
+      → (answer ≡ Err NoRoom) × (after ≡ space)
 
 -- for every text that the reader accepts, whatever columns it was lent; a host hands on the n rows that it counts
-pub text_returns : (text : List ℕ) (old new : Columns) (n : ℕ) → TableReads text old (read.Rows n) new
+pub text_returns : (text : List ℕ) (old new : Columns) (n : ℕ) → TableReads text old (Ok n) new
     → TextReturns text (columns (take n new.days) (take n new.first) (take n new.second))
 text_returns text old new n r =
     let rows = read_accepted r in
@@ -58,15 +60,15 @@ with_rows c n old = columns (c.days ++ drop n old.days) (c.first ++ drop n old.f
 
 pub record ColumnsReturn (c : Columns) (n : ℕ) (text : List ℕ) : Type 0 where
   -- "read back as they were"; places past the rows are kept
-  pub again : (old new : Columns) (answer : TableRead) → TableReads text old answer new
-      → n ≤ places old → (answer ≡ read.Rows n) × (new ≡ with_rows c n old)
+  pub again : (old new : Columns) (answer : Result ℕ ReadError) → TableReads text old answer new
+      → n ≤ places old → (answer ≡ Ok n) × (new ≡ with_rows c n old)
   -- of such a text the reader refuses nothing but too few places: never 11, 12 or 13
-  pub short : (old new : Columns) (answer : TableRead) → TableReads text old answer new
-      → places old < n → (answer ≡ read.NoRoom) × (new ≡ old)
+  pub short : (old new : Columns) (answer : Result ℕ ReadError) → TableReads text old answer new
+      → places old < n → (answer ≡ Err read.NoRoom) × (new ≡ old)
 
 -- for all columns that the writer accepts, with every number of 16 bits, whatever text space it was lent; a host hands on the m
 -- bytes that it counts
-pub columns_return : (c : Columns) (space after : List ℕ) (m : ℕ) → Lent c → TableWrites c space (Text m) after
+pub columns_return : (c : Columns) (space after : List ℕ) (m : ℕ) → Lent c → TableWrites c space (Ok m) after
     → ColumnsReturn c (length c.days) (take m after)
 columns_return c space after m lent w =
     let same = same_length c (wrote_one w) in
@@ -84,16 +86,16 @@ columns_return c space after m lent w =
 
 -- "A single byte of text space too few is a 10."
 pub record ExactRoom (c : Columns) : Type 0 where
-  pub enough : (space after : List ℕ) (answer : TableWritten) → TableWrites c space answer after
-      → line_bytes * length c.days ≤ length space → answer ≡ Text (line_bytes * length c.days)
-  pub short : (space after : List ℕ) (answer : TableWritten) → TableWrites c space answer after
-      → length space < line_bytes * length c.days → answer ≡ NoRoom
+  pub enough : (space after : List ℕ) (answer : Result ℕ WriteError) → TableWrites c space answer after
+      → line_bytes * length c.days ≤ length space → answer ≡ Ok (line_bytes * length c.days)
+  pub short : (space after : List ℕ) (answer : Result ℕ WriteError) → TableWrites c space answer after
+      → length space < line_bytes * length c.days → answer ≡ Err NoRoom
 
 -- for any three columns of equal length
 pub exact_room : (c : Columns) → one_length c ≡ true → ExactRoom c
 exact_room c one =
     let size = text_length (same_length c one) in
     record {
-      enough = λ space after answer w h. (wrote_text one refl w (rw size h)).0 ∙ ap Text size;
+      enough = λ space after answer w h. (wrote_text one refl w (rw size h)).0 ∙ ap Ok size;
       short = λ space after answer w h. (wrote_none one refl w (rw size h)).0;
     }

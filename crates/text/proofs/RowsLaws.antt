@@ -3,92 +3,82 @@
 --   rows_count      it has as many lines as rows
 --   all_rows        counted from its start
 --   found_at        the reader finds each line in its place
---   line_on         a step passes one line
---   line_end        behind the last row the reader stays
---   on_row          where the reader moves there is a row
---   no_row_left     where it stays there is none left
+--   line_row        which is a row
 --   columns_of       its columns
 --   column_length   a column has as many numbers as there are rows
 --   Writing         through the loop that writes one row a turn: its invariant
 --   writing_none    at its start
---   writing_row     where the reader moves there is a row
+--   writing_row     there is a row at each line
 --   writing_more    after a turn
---   writing_all     at its end
 -- Assumes nothing.
-use Prim.Native.Nat.{ℕ, zero, suc, ◌+◌, ◌≤◌, ◌<◌}
+use Prim.Native.Nat.{ℕ, zero, suc, ◌+◌, ◌<◌}
 use mathlib.Core.Path.{◌≡◌, refl, sym, ap, ◌∙◌}
 use mathlib.Core.Bool.{true}
 use mathlib.Core.Logic.{⊎_elim}
 use mathlib.Core.List.{List, [], ◌∷◌, map}
 use native.Mathlib.Nat.{not-suc-le-zero, le_of_suc-le-suc}
 use native.Mathlib.Omega.{arith}
-use lib.ListN.{length, get_or, drop, set, length-map, get_or-map}
-use lib.Seq.{drop-cons, drop-length}
+use lib.ListN.{length, get_or, set, length-map, get_or-map}
+use lib.Seq.{drop-cons}
+use Rattle.std.specs.Prelude.{Some, None, Result, Ok, Err}
 use Rattle.text.specs.Layout.{table_layout, line_bytes}
-use Rattle.text.specs.Line.{lines_of, is_whole, line_as, step_as, row_of, step_at, passed, step_from, Reached}
+use Rattle.text.specs.Line.{Line, Numbers, lines_of, is_whole, line_as, step_as, row_from, row_of, step_at, passed, step_from, Reached}
 use Rattle.text.specs.Table.{day_of, first_of, second_of, days_of, firsts_of, seconds_of, fault_or, judged_from, Columns, columns, RowsFit}
-use Rattle.text.specs.Table.{RowsWritten}
-use Rattle.text.specs.declared.lines.Line.{Line}
-use Rattle.text.specs.declared.lines.Line.TheVariants as line
+use Rattle.text.specs.declared.lines.LineError.TheVariants as line
+use Rattle.text.specs.declared.lines.Row.{Row}
 use Rattle.text.specs.declared.lines.Step.{Step}
-use Rattle.text.specs.declared.table.TableRead.{TableRead}
-use Rattle.text.specs.declared.table.TableRead.TheVariants.{Rows, BadLine}
-use Rattle.text.proofs.Tests.{true_or_false, pick_false, zero_not_one, lt_or_le}
-use Rattle.text.proofs.LineLaws.{step_from_lem, step_found, step_line, is_end, never_end}
-use Rattle.text.proofs.PasteLaws.{Pasting, pasting_none, pasting_on, pasting_all, pasted_start}
+use Rattle.text.specs.declared.table.ReadError.{ReadError}
+use Rattle.text.proofs.Tests.{true_or_false, pick_false, zero_not_one}
+use Rattle.text.proofs.LineLaws.{step_from_lem, step_found, is_end, never_end}
+use Rattle.text.proofs.PasteLaws.{Pasting, pasting_none, pasting_on}
 
 -- ---- a text of rows alone
 
-no_rows : {A : Type 0} (n c : ℕ) → BadLine n ≡ Rows c → A
-no_rows n c e = zero_not_one (cc)
+no_rows : {A : Type 0} {x : ReadError} {c : ℕ} → ◌≡◌ {A = Result ℕ ReadError} (Err x) (Ok c) → A
+no_rows e = zero_not_one (cc)
 
-pub rest_rows : (n c : ℕ) (r : Line) (later : TableRead) → fault_or n r later ≡ Rows c → later ≡ Rows c
-rest_rows n c (line.Row d a b) later e = e
-rest_rows n c line.End later e = e
-rest_rows n c line.BadLine later e = no_rows n c e
-rest_rows n c line.BadField later e = zero_not_one (cc)
-rest_rows n c line.BadNumber later e = zero_not_one (cc)
+pub rest_rows : (n c : ℕ) (r : Line) (later : Result ℕ ReadError) → fault_or n r later ≡ Ok c → later ≡ Ok c
+rest_rows n c (Ok row) later e = e
+rest_rows n c (Err f) later e = no_rows e
 
-row_whole : (n c : ℕ) (l : List ℕ) (later : TableRead) → fault_or n (row_of l) later ≡ Rows c → is_whole line_bytes l ≡ true
+row_whole : (n c : ℕ) (l : List ℕ) (later : Result ℕ ReadError) → fault_or n (row_of l) later ≡ Ok c → is_whole line_bytes l ≡ true
 unfolding row_of line_as
 row_whole n c l later e =
-    ⊎_elim (λ t. t) (λ t. no_rows n c (ap (λ (x : Line). fault_or n x later) (sym (pick_false _ _ _ t)) ∙ e)) (true_or_false (is_whole line_bytes l))
+    ⊎_elim (λ t. t) (λ t. no_rows (ap (λ (x : Numbers). fault_or n (row_from x) later) (sym (pick_false _ _ _ t)) ∙ e)) (true_or_false (is_whole line_bytes l))
 
-pub rows_count : (n c : ℕ) (ls : List (List ℕ)) → judged_from n ls ≡ Rows c → c ≡ n + length ls
+pub rows_count : (n c : ℕ) (ls : List (List ℕ)) → judged_from n ls ≡ Ok c → c ≡ n + length ls
 unfolding judged_from
 rows_count n c [] e = let q : n ≡ c = cc in omega arith
 rows_count n c (l ∷ ls) e = omega (arith, rows_count (n + 1) c ls (rest_rows (n + 1) c (row_of l) (judged_from (n + 1) ls) e))
 
-pub all_rows : (c : ℕ) (ls : List (List ℕ)) → judged_from 0 ls ≡ Rows c → c ≡ length ls
+pub all_rows : (c : ℕ) (ls : List (List ℕ)) → judged_from 0 ls ≡ Ok c → c ≡ length ls
 all_rows c ls e = omega (arith, rows_count 0 c ls e)
 
 -- a line that is no row's length refuses
-rows_whole : (n c : ℕ) (ls : List (List ℕ)) → judged_from n ls ≡ Rows c → (i : ℕ) → i < length ls → is_whole line_bytes (get_or ls i []) ≡ true
+rows_whole : (n c : ℕ) (ls : List (List ℕ)) → judged_from n ls ≡ Ok c → (i : ℕ) → i < length ls → is_whole line_bytes (get_or ls i []) ≡ true
 unfolding judged_from
 rows_whole n c [] e i h = absurd (not-suc-le-zero h)
 rows_whole n c (l ∷ ls) e zero h = row_whole (n + 1) c l (judged_from (n + 1) ls) e
 rows_whole n c (l ∷ ls) e (suc i) h =
     rows_whole (n + 1) c ls (rest_rows (n + 1) c (row_of l) (judged_from (n + 1) ls) e) i (le_of_suc-le-suc h)
 
-pub row_passed : (n c : ℕ) (r : Line) (later : TableRead) → is_end r ≡ 0 → fault_or n r later ≡ Rows c → passed r ≡ 1
-row_passed n c (line.Row d a b) later z e = refl
-row_passed n c line.End later z e = sym z
-row_passed n c line.BadLine later z e = no_rows n c e
-row_passed n c line.BadField later z e = zero_not_one (cc)
-row_passed n c line.BadNumber later z e = zero_not_one (cc)
+pub row_passed : (n c : ℕ) (r : Line) (later : Result ℕ ReadError) → is_end r ≡ 0 → fault_or n r later ≡ Ok c → passed r ≡ 1
+row_passed n c (Ok (Some row)) later z e = refl
+row_passed n c (Ok None) later z e = sym z
+row_passed n c (Err f) later z e = no_rows e
 
-rows_passed : (n c : ℕ) (ls : List (List ℕ)) → judged_from n ls ≡ Rows c → (i : ℕ) → i < length ls → passed (row_of (get_or ls i [])) ≡ 1
+rows_passed : (n c : ℕ) (ls : List (List ℕ)) → judged_from n ls ≡ Ok c → (i : ℕ) → i < length ls → passed (row_of (get_or ls i [])) ≡ 1
 unfolding judged_from
 rows_passed n c [] e i h = absurd (not-suc-le-zero h)
 rows_passed n c (l ∷ ls) e zero h = row_passed (n + 1) c (row_of l) (judged_from (n + 1) ls) (never_end l) e
 rows_passed n c (l ∷ ls) e (suc i) h =
     rows_passed (n + 1) c ls (rest_rows (n + 1) c (row_of l) (judged_from (n + 1) ls) e) i (le_of_suc-le-suc h)
 
-no_bytes : row_of [] ≡ line.BadLine
+no_bytes : row_of [] ≡ Err line.BadLine
 unfolding row_of line_as is_whole
 no_bytes = refl
 
-module _ (text : List ℕ) (c : ℕ) (so : judged_from 0 (lines_of text) ≡ Rows c) where
+module _ (text : List ℕ) (c : ℕ) (so : judged_from 0 (lines_of text) ≡ Ok c) where
   -- every line can be reached
   reached : (n : ℕ) → Reached text n
   reached n = record { each = λ i l k. rows_whole 0 c (lines_of text) so i k }
@@ -100,29 +90,11 @@ module _ (text : List ℕ) (c : ℕ) (so : judged_from 0 (lines_of text) ≡ Row
   unfolding step_as row_of
   found_at i h =
       let k : i < length (lines_of text) = omega (arith, all) in
-      step_from_lem text i (omega arith) (reached i) ∙ ap (step_as table_layout) (drop-cons (lines_of text) i [] k)
+      step_from_lem text i (omega arith) (reached i) ∙ ap (λ (ls : List (List ℕ)). row_from (step_as table_layout ls)) (drop-cons (lines_of text) i [] k)
 
-  -- the line reached behind row i is that of row i + 1
-  pub line_on : (i : ℕ) → i < c → {s : Step} → s ≡ step_from text i → s.line ≡ i + 1
-  line_on i h {s} is =
-      let one : passed (row_of (get_or (lines_of text) i [])) ≡ 1 = rows_passed 0 c (lines_of text) so i (omega (arith, all)) in
-      step_line text i is ∙ ap (λ (k : ℕ). i + k) (ap passed (step_found text i is ∙ found_at i h) ∙ one)
-
-  -- behind the last row the reader stays
-  pub line_end : (i : ℕ) → i ≡ c → {s : Step} → s ≡ step_from text i → s.line ≡ i
-  unfolding step_as
-  line_end i h {s} is =
-      let none : drop i (lines_of text) ≡ [] = ap (λ (k : ℕ). drop k (lines_of text)) (h ∙ all) ∙ drop-length (lines_of text) in
-      let end : step_at text i ≡ line.End = step_from_lem text i (omega (arith, all)) (reached i) ∙ ap (step_as table_layout) none in
-      omega (arith, step_line text i is, ap passed (step_found text i is ∙ end))
-
-  -- where the reader moves there is a row
-  pub on_row : (i : ℕ) → i ≤ c → {s : Step} → s ≡ step_from text i → (s.line ≡ i → ⊥) → i < c
-  on_row i h is moved = ⊎_elim (λ l. l) (λ (l : c ≤ i). absurd (moved (line_end i (omega arith) is))) (lt_or_le i c)
-
-  -- and where it stays there is none left
-  pub no_row_left : (i : ℕ) → i ≤ c → {s : Step} → s ≡ step_from text i → s.line ≡ i → c ≤ i
-  no_row_left i h is e = ⊎_elim (λ (l : i < c). let z : ⊥ = omega (arith, line_on i l is) in absurd z) (λ l. l) (lt_or_le i c)
+  -- and it is a row
+  pub line_row : (i : ℕ) → i < c → {s : Step} → s ≡ step_from text i → passed s.found ≡ 1
+  line_row i h is = ap passed (step_found text i is ∙ found_at i h) ∙ rows_passed 0 c (lines_of text) so i (omega (arith, all))
 
   module _ (f : Line → ℕ) where
     -- a column of the text's rows
@@ -132,7 +104,7 @@ module _ (text : List ℕ) (c : ℕ) (so : judged_from 0 (lines_of text) ≡ Row
     pub column_length : length (map (λ (l : List ℕ). f (row_of l)) (lines_of text)) ≡ c
     column_length = length-map (lines_of text) (λ (l : List ℕ). f (row_of l)) ∙ sym all
 
-    module _ (z : f line.BadLine ≡ 0) (i : ℕ) (h : i < c) where
+    module _ (z : f (Err line.BadLine) ≡ 0) (i : ℕ) (h : i < c) where
       -- its number at a row is that of the line found there
       column_at : get_or column i 0 ≡ f (step_at text i)
       column_at =
@@ -163,32 +135,19 @@ module _ {text : List ℕ} {old : Columns} (fit : RowsFit text old) where
     second_hold = pasting_none _ _ _ _ (column_length text _ fit.rows second_of) (omega (arith, fit.second_fit));
   }
 
-  -- the reader at line i has moved: there is a row
-  pub writing_row : {now : Columns} {i : ℕ} {s : Step} → Writing text old now i → s ≡ step_from text i → (s.line ≡ i → ⊥)
-      → i < length (lines_of text)
-  writing_row {i = i} w is moved = on_row text _ fit.rows i w.days_hold.within is moved
+  -- the reader at line i finds a row
+  pub writing_row : {i : ℕ} {s : Step} → i < length (lines_of text) → s ≡ step_from text i → passed s.found ≡ 1
+  writing_row {i = i} h is = line_row text _ fit.rows i h is
 
-  -- its numbers are stored, and it goes on
-  pub writing_more : {now : Columns} {i x y z : ℕ} {s : Step} → Writing text old now i → i < length (lines_of text) → s ≡ step_from text i
-      → x ≡ day_of s.found → y ≡ first_of s.found → z ≡ second_of s.found
-      → Writing text old (columns (set now.days i x) (set now.first i y) (set now.second i z)) s.line
+  -- its numbers are stored
+  pub writing_more : {now : Columns} {i : ℕ} {s : Step} {row : Row} → Writing text old now i → i < length (lines_of text)
+      → s ≡ step_from text i → s.found ≡ Ok (Some row)
+      → Writing text old (columns (set now.days i row.day) (set now.first i row.first) (set now.second i row.second)) (i + 1)
   unfolding days_of firsts_of seconds_of
-  writing_more {i = i} w row is p q r =
+  writing_more {i = i} w h is e =
       let found = step_found text i is in
-      let on = line_on text _ fit.rows i row is in
       record {
-        days_hold = pasting_on _ _ on w.days_hold row (omega arith) (stored text _ fit.rows day_of refl i row found p);
-        first_hold = pasting_on _ _ on w.first_hold row (omega arith) (stored text _ fit.rows first_of refl i row found q);
-        second_hold = pasting_on _ _ on w.second_hold row (omega arith) (stored text _ fit.rows second_of refl i row found r);
-      }
-
-  -- the reader has stayed: all rows stand
-  pub writing_all : {now : Columns} {i : ℕ} {s : Step} → Writing text old now i → s ≡ step_from text i → s.line ≡ i
-      → RowsWritten text old now
-  writing_all {i = i} w is stayed =
-      let all = no_row_left text _ fit.rows i w.days_hold.within is stayed in
-      record {
-        days_hold = pasting_all w.days_hold all ∙ pasted_start _ _ _ w.days_hold.size;
-        first_hold = pasting_all w.first_hold all ∙ pasted_start _ _ _ w.first_hold.size;
-        second_hold = pasting_all w.second_hold all ∙ pasted_start _ _ _ w.second_hold.size;
+        days_hold = pasting_on _ _ refl w.days_hold h (omega arith) (stored text _ fit.rows day_of refl i h found (sym (ap day_of e)));
+        first_hold = pasting_on _ _ refl w.first_hold h (omega arith) (stored text _ fit.rows first_of refl i h found (sym (ap first_of e)));
+        second_hold = pasting_on _ _ refl w.second_hold h (omega arith) (stored text _ fit.rows second_of refl i h found (sym (ap second_of e)));
       }

@@ -14,19 +14,24 @@
 --   early_end      a byte 10 before the end
 --   unended_line   no byte 10 at the end
 --   whole_line     byte 10 at the end alone
---   NoEndPassed    the invariant of the loop that looks for byte 10
 --   line_ends      the byte at the end decides
+--   ended_early    the same by a search for byte 10 before the end: it is there
+--   ended_late     it is not
+--   whole_rules    these, as a set of lemmas
 --   whole_size     a whole line has its size
 --   whole_first    a whole first line is the text's first bytes
 -- Assumes nothing.
 use Prim.Native.Nat.{ℕ, zero, suc, ◌-◌, ◌≤◌, ◌<◌, suc-le-suc}
 use mathlib.Core.Path.{◌≡◌, refl, sym, ap, ◌∙◌}
-use mathlib.Core.Bool.{Bool, true, false, cond, ◌&&◌}
+use mathlib.Core.Bool.{Bool, true, false, cond, ◌&&◌, true≢false}
 use mathlib.Core.Logic.{⊎_elim}
 use mathlib.Core.List.{List, [], ◌∷◌}
 use native.Mathlib.Nat.{le_refl, le_of_suc-le-suc, not-suc-le-zero}
 use native.Mathlib.Omega.{arith}
 use lib.Dec.{eqb}
+use Rattle.std.specs.List.{list_any}
+use Rattle.std.proofs.lemmas.List.Folds.{Any-from_list_any, list_any_at}
+use Rattle.std.proofs.lemmas.List.{get_or_default}
 use lib.ListN.{length, get_or, take, drop}
 use lib.Seq.{length-take-le, get_or-take}
 use borrow.Author.Tests.{eq-eqb, ne_eqb, eqb-true}
@@ -145,18 +150,38 @@ whole_line s n p l h e =
     let end : get_or (first_line s) (n - 1) 0 ≡ 10 = ap (λ (x : List ℕ). get_or x (n - 1) 0) f ∙ get_or-take n s (n - 1) 0 (omega arith) ∙ e in
     both_true _ _ (eq-eqb _ _ size) (eq-eqb _ _ end)
 
--- through the loop that looks for byte 10: none of the first i bytes is one
-pub record NoEndPassed (s : List ℕ) (width last i : ℕ) : Type 0 where
-  pub within : i ≤ last
-  pub fits : width ≤ length s
-  pub none : (k : ℕ) → k < i → get_or s k 0 ≡ 10 → ⊥
-
 -- the byte at the end decides
 pub line_ends : (s : List ℕ) (n i : ℕ) → 0 < n → n ≤ length s → n - 1 ≤ i → ((k : ℕ) → k < i → get_or s k 0 ≡ 10 → ⊥)
     → is_whole n (first_line s) ≡ eqb (get_or s (n - 1) 0) 10
 line_ends s n i p l m h =
     ⊎_elim (λ e. whole_line s n p l (λ k q. h k (omega arith)) e ∙ sym (eq-eqb _ _ e))
     (λ e. unended_line s n p l e ∙ sym (ne_eqb _ _ e)) (same_or_not (get_or s (n - 1) 0) 10)
+
+module _ (s : List ℕ) (n : ℕ) (p : 0 < n) (l : n ≤ length s) where
+  -- byte 10 stands before the end
+  abbrev early : Bool
+  early = list_any (λ (b : ℕ). eqb b 10) (take (n - 1) s)
+
+  size : length (take (n - 1) s) ≡ n - 1
+  size = length-take-le (n - 1) s (omega arith)
+
+  pub ended_early : list_any (λ (b : ℕ). eqb b 10) (take (n - 1) s) ≡ true → is_whole n (first_line s) ≡ false
+  ended_early t =
+      let at = Any-from_list_any _ _ t in
+      let k : at.0 < n - 1 = omega (arith, at.2, size) in
+      early_end s n at.0 k l (sym (get_or-take (n - 1) s at.0 0 k) ∙ get_or_default _ _ 0 at.1 at.2 ∙ at.3 ∙ eqb-true _ _ at.4)
+
+  pub ended_late : list_any (λ (b : ℕ). eqb b 10) (take (n - 1) s) ≡ false → is_whole n (first_line s) ≡ eqb (get_or s (n - 1) 0) 10
+  ended_late t = line_ends s n (n - 1) p l (le_refl _) none
+    where
+      none : (k : ℕ) → k < n - 1 → get_or s k 0 ≡ 10 → ⊥
+      none k h e =
+          let found = list_any_at (λ (b : ℕ). eqb b 10) (take (n - 1) s) k 0 (omega (arith, size))
+          (eq-eqb _ _ (get_or-take (n - 1) s k 0 h ∙ e)) in
+          true≢false (sym found ∙ t)
+
+-- what the test for a whole line rests on
+pub ruleset whole_rules = (short_line, ended_early, ended_late)
 
 pub whole_size : (n : ℕ) (l : List ℕ) → is_whole n l ≡ true → length l ≡ n
 unfolding is_whole

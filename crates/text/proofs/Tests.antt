@@ -9,17 +9,15 @@
 --   both_true       two tests that are true, joined
 --   pick_true       a choice whose test is true
 --   pick_false      a choice whose test is false
---   negated_true    a test whose negation is true
---   negated_false   a test whose negation is false
 --   zero_not_one    0 is not 1, so anything follows
 -- Assumes nothing.
 use Prim.Native.Nat.{ℕ, ◌<◌, ◌≤◌}
-use mathlib.Core.Path.{◌≡◌, refl, sym, ◌∙◌}
-use mathlib.Core.Bool.{Bool, true, false, not, cond, ◌&&◌, true≢false, false≢true}
+use mathlib.Core.Path.{◌≡◌, refl}
+use mathlib.Core.Bool.{Bool, true, false, cond, ◌&&◌, true≢false, false≢true}
 use mathlib.Core.Logic.{◌⊎◌, inl, inr, ⊎_elim}
 use native.Mathlib.Omega.{arith}
 use lib.Dec.{ltb, eqb}
-use borrow.Author.Tests.{ltb-true, ltb-false, eqb-true, eqb-false, not-true, not-false}
+use borrow.Author.Tests.{ltb-true, ltb-false, eqb-true, eqb-false}
 
 pub true_or_false : (b : Bool) → (b ≡ true) ⊎ (b ≡ false)
 true_or_false true = inl refl
@@ -55,14 +53,6 @@ module _ {A : Type 0} where
   pub pick_false : (b : Bool) (x y : A) → b ≡ false → cond b x y ≡ y
   pick_false true x y e = absurd (true≢false e)
   pick_false false x y e = refl
-
--- a test that the code negates
-module _ {b t : Bool} (e : b ≡ t) where
-  pub negated_true : not b ≡ true → t ≡ false
-  negated_true n = sym e ∙ not-true b n
-
-  pub negated_false : not b ≡ false → t ≡ true
-  negated_false n = sym e ∙ not-false b n
 
 -- what two different constructors made equal give
 pub zero_not_one {ℓ} : {A : Type ℓ} → ◌≡◌ {A = ℕ} 0 1 → A

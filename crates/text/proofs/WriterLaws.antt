@@ -27,7 +27,7 @@
 -- Assumes nothing.
 use Prim.Native.Nat.{ℕ, zero, suc, ◌+◌, ◌*◌, ◌/◌, ◌≤◌, ◌<◌}
 use mathlib.Core.Path.{◌≡◌, refl, sym, ap, subst, ◌∙◌}
-use mathlib.Core.Bool.{Bool, true, false, not, ◌&&◌}
+use mathlib.Core.Bool.{true, false, ◌&&◌}
 use mathlib.Core.Logic.{⊎_elim}
 use mathlib.Core.List.{List, [], ◌∷◌, ◌++◌, append_assoc, append-nil}
 use native.Mathlib.Nat.{not-suc-le-zero, le_of_suc-le-suc, zero-add}
@@ -37,14 +37,15 @@ use lib.Dec.{eqb}
 use lib.ListN.{length, get_or, take, drop, length-append}
 use lib.Seq.{take-suc, take_all, take_at, length-take-le}
 use borrow.Author.Tests.{eqb-true, le-leb, lt-leb}
+use Rattle.std.specs.Prelude.{Result, Ok, Err}
 use Rattle.text.specs.Layout.{day_width, account_width, line_bytes}
 use Rattle.text.specs.Print.{printed, pasted, WrittenAt}
 use Rattle.text.specs.Table.{Columns}
 use Rattle.text.specs.Writer.{table_line, TableRow, table_lines, table_rows, table_text, one_length, text_for, table_write_of, TableWrites}
 use Rattle.text.specs.Writer.{text_after, LinesFit, written_number, written_length}
-use Rattle.text.specs.declared.writer.TableWritten.{TableWritten}
-use Rattle.text.specs.declared.writer.TableWritten.TheVariants.{Text, ColumnsDiffer, NoRoom}
-use Rattle.text.proofs.Tests.{true_or_false, lt_or_le, and_left, and_right, pick_true, pick_false, negated_true, negated_false}
+use Rattle.text.specs.declared.writer.WriteError.{WriteError}
+use Rattle.text.specs.declared.writer.WriteError.TheVariants.{ColumnsDiffer, NoRoom}
+use Rattle.text.proofs.Tests.{true_or_false, lt_or_le, and_left, and_right, pick_true, pick_false}
 use Rattle.text.proofs.PasteLaws.{Pieces, piece_more, pasted_start}
 use Rattle.text.proofs.PrintLaws.{printed_length, three_pieces}
 
@@ -200,24 +201,21 @@ module _ {c : Columns} {space : List ℕ} (fit : LinesFit c space) where
 
 -- ---- the writer's answer, by the code's cases
 
-module _ (c : Columns) (space : List ℕ) {b : Bool}
-    (e : b ≡ (eqb (length c.days) (length c.first) && eqb (length c.first) (length c.second))) where
-  tests : b ≡ one_length c
-  unfolding one_length
-  tests = e
+module _ (c : Columns) (space : List ℕ) where
+  pub differ_kept : false ≡ (eqb (length c.days) (length c.first) && eqb (length c.first) (length c.second))
+      → TableWrites c space (Err ColumnsDiffer) space
+  unfolding one_length table_write_of
+  differ_kept t = record { answers = sym (pick_false _ _ _ (sym t)); holds = refl }
 
-  pub differ_kept : not b ≡ true → TableWrites c space ColumnsDiffer space
-  unfolding table_write_of
-  differ_kept t = record { answers = sym (pick_false _ _ _ (negated_true tests t)); holds = refl }
-
-  module _ (t : not b ≡ false) where
+  module _ (t : true ≡ (eqb (length c.days) (length c.first) && eqb (length c.first) (length c.second))) where
     one : one_length c ≡ true
-    one = negated_false tests t
+    unfolding one_length
+    one = sym t
 
     size : length (table_text c) ≡ line_bytes * length c.days
     size = text_length (same_length c one)
 
-    pub short_kept : length space / line_bytes < length c.days → TableWrites c space NoRoom space
+    pub short_kept : length space / line_bytes < length c.days → TableWrites c space (Err NoRoom) space
     unfolding table_write_of text_for
     short_kept h =
         let few : length space < length (table_text c) = omega (arith, size) in
@@ -228,47 +226,47 @@ module _ (c : Columns) (space : List ℕ) {b : Bool}
       writes_fit = record { one = one; room = omega arith }
 
       pub writes_all : {n : ℕ} {now : List ℕ} → WrittenAt space 0 (length (table_text c)) (table_text c) n now
-          → TableWrites c space (Text n) now
+          → TableWrites c space (Ok n) now
       unfolding table_write_of text_for
       writes_all {n} {now} w =
           let all : n ≡ length (table_text c) = w.behind ∙ zero-add _ in
           let enough : length (table_text c) ≤ length space = omega (arith, size) in
           record {
-            answers = ap Text all ∙ sym (pick_true _ _ _ one ∙ pick_true _ _ _ (le-leb _ _ enough));
+            answers = ap Ok all ∙ sym (pick_true _ _ _ one ∙ pick_true _ _ _ (le-leb _ _ enough));
             holds = w.holds ∙ pasted_start space (table_text c) n (sym all);
           }
 
 -- ---- what a call of the writer has answered
 
-module _ {c : Columns} {text : List ℕ} (one : one_length c ≡ true) (is : table_text c ≡ text) {space after : List ℕ} {answer : TableWritten}
+module _ {c : Columns} {text : List ℕ} (one : one_length c ≡ true) (is : table_text c ≡ text) {space after : List ℕ} {answer : Result ℕ WriteError}
     (w : TableWrites c space answer after) where
   by_room : answer ≡ text_for text (length space)
   unfolding table_write_of
   by_room = w.answers ∙ pick_true _ _ _ one ∙ ap (λ (t : List ℕ). text_for t (length space)) is
 
-  left : {a : TableWritten} → answer ≡ a → after ≡ text_after a text space
+  left : {a : Result ℕ WriteError} → answer ≡ a → after ≡ text_after a text space
   left e = w.holds ∙ (λ i. text_after (e i) (is i) space)
 
-  pub wrote_text : length text ≤ length space → (answer ≡ Text (length text)) × (after ≡ text ++ drop (length text) space)
+  pub wrote_text : length text ≤ length space → (answer ≡ Ok (length text)) × (after ≡ text ++ drop (length text) space)
   unfolding text_for
   wrote_text h = let a = by_room ∙ pick_true _ _ _ (le-leb _ _ h) in (a, left a)
 
-  pub wrote_none : length space < length text → (answer ≡ NoRoom) × (after ≡ space)
+  pub wrote_none : length space < length text → (answer ≡ Err NoRoom) × (after ≡ space)
   unfolding text_for
   wrote_none h = let a = by_room ∙ pick_false _ _ _ (lt-leb _ _ h) in (a, left a)
 
-module _ {c : Columns} {space after : List ℕ} {n : ℕ} (w : TableWrites c space (Text n) after) where
+module _ {c : Columns} {space after : List ℕ} {n : ℕ} (w : TableWrites c space (Ok n) after) where
   pub wrote_one : one_length c ≡ true
   unfolding table_write_of
   wrote_one = ⊎_elim (λ t. t) (λ t. absurd (differ (w.answers ∙ pick_false _ _ _ t))) (true_or_false (one_length c))
     where
-      differ : Text n ≡ ColumnsDiffer → ⊥
+      differ : Ok n ≡ Err ColumnsDiffer → ⊥
       differ e = omega (arith, ap written_number e)
 
   pub wrote_bytes : take n after ≡ table_text c
   wrote_bytes = ⊎_elim short enough (lt_or_le (length space) (length (table_text c)))
     where
-      none : Text n ≡ NoRoom → ⊥
+      none : Ok n ≡ Err NoRoom → ⊥
       none e = omega (arith, ap written_number e)
 
       short : length space < length (table_text c) → take n after ≡ table_text c

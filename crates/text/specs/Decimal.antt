@@ -1,5 +1,6 @@
 -- What a decimal field holds. 01, Reader: "A field is a decimal number, right-justified, blanks (byte 32) before it, no needless leading zero".
 --
+--   Field        what a field holds: its number, or why it has none
 --   unblank      a field without the blanks before its number
 --   is_digit      a byte is one of 0 to 9
 --   all_digits    every byte is a digit
@@ -15,9 +16,13 @@
 --   field_value   the number that a field holds, 0 where it has none
 -- Assumes nothing.
 use Rattle.std.specs.Prelude.{ℕ, ◌+◌, ◌-◌, ◌*◌, ◌^◌, ◌≤◌, ◌≡◌, Bool, true, not, cond, ◌&&◌, List, [], ◌∷◌, leb, ltb, eqb, length, get_or, drop}
+use Rattle.std.specs.Prelude.{Result, Ok, Err}
 use Rattle.text.specs.Layout.{most_digits}
-use Rattle.text.specs.declared.decimal.Field.{Field}
-use Rattle.text.specs.declared.decimal.Field.TheVariants.{Number, Large, Broken}
+use Rattle.text.specs.declared.decimal.FieldError.{FieldError}
+use Rattle.text.specs.declared.decimal.FieldError.TheVariants.{Broken, Large}
+
+abbrev pub Field : Type 0
+Field = Result ℕ FieldError
 
 -- "blanks (byte 32) before it"
 unfoldable pub unblank : List ℕ → List ℕ
@@ -47,7 +52,7 @@ value (b ∷ bs) = (b - 48) * 10 ^ length bs + value bs
 
 -- "12: a broken field, an all_blank one included; 13: a number above 65,535 (12 before 13)": 65,535 is the limit of each field of 01
 unfoldable pub numeral_of : ℕ → List ℕ → Field
-numeral_of limit ds = cond (is_numeral ds) (cond (leb (value ds) limit) (Number (value ds)) Large) Broken
+numeral_of limit ds = cond (is_numeral ds) (cond (leb (value ds) limit) (Ok (value ds)) (Err Large)) (Err Broken)
 
 -- "right-justified, blanks (byte 32) before it": what stands behind the blanks is the number
 unfoldable pub field_of : ℕ → List ℕ → Field
@@ -64,15 +69,14 @@ pub record FewDigits (f : List ℕ) : Type 0 where
 
 -- "12: a broken field, an all_blank one included; 13: a number above 65,535"; 0 for none
 abbrev pub field_number : Field → ℕ
-field_number (Number n) = 0
-field_number Large = 13
-field_number Broken = 12
+field_number (Ok n) = 0
+field_number (Err Large) = 13
+field_number (Err Broken) = 12
 
 abbrev pub refuses : ℕ → Field → Bool
 refuses number f = eqb (field_number f) number
 
 -- the number of a field that has one
 abbrev pub field_value : Field → ℕ
-field_value (Number n) = n
-field_value Large = 0
-field_value Broken = 0
+field_value (Ok n) = n
+field_value (Err e) = 0

@@ -19,10 +19,8 @@
 --   listing_text  the text of a listing
 --   refused_line  the line of a refusal
 -- Assumes nothing.
-use Rattle.std.specs.Prelude.{ℕ, zero, suc, ◌+◌, ◌/◌, ◌%◌, ◌^◌, ◌<◌, ◌≡◌, Bool, cond, ◌&&◌, List, [], ◌∷◌, ◌++◌, leb, ltb, length, get_or, take, drop}
+use Rattle.std.specs.Prelude.{ℕ, zero, suc, ◌+◌, ◌/◌, ◌%◌, ◌^◌, ◌<◌, ◌≡◌, Bool, cond, ◌&&◌, List, [], ◌∷◌, ◌++◌, leb, ltb, length, get_or, take, drop, Option, Some, None}
 use Rattle.text.specs.Layout.{day_width, rows_width, number_width, place_width}
-use Rattle.text.specs.declared.print.Put.{Put}
-use Rattle.text.specs.declared.print.Put.TheVariants.{Wrote, NoRoom}
 
 -- "a decimal number, right-justified, blanks (byte 32) before it, no needless leading zero": the digit of place k, or a blank where the number
 -- has no such digit. The units always stand
@@ -42,18 +40,18 @@ fits width n = ltb 0 width && ltb n (10 ^ width)
 unfoldable pub pasted : List ℕ → ℕ → List ℕ → List ℕ
 pasted out at bytes = take at out ++ bytes ++ drop (at + length bytes) out
 
--- all of the bytes, where they fit, or none
-unfoldable pub put_of : List ℕ → ℕ → List ℕ → Put
-put_of out at bytes = cond (leb (at + length bytes) (length out)) (Wrote (at + length bytes)) NoRoom
+-- all of the bytes, where they fit, or none: the position behind them, or that there is none
+unfoldable pub put_of : List ℕ → ℕ → List ℕ → Option ℕ
+put_of out at bytes = cond (leb (at + length bytes) (length out)) (Some (at + length bytes)) None
 
 -- the same for a number, which has to fit its field too
-unfoldable pub field_put : List ℕ → ℕ → ℕ → ℕ → Put
-field_put out at width n = cond (fits width n) (put_of out at (printed width n)) NoRoom
+unfoldable pub field_put : List ℕ → ℕ → ℕ → ℕ → Option ℕ
+field_put out at width n = cond (fits width n) (put_of out at (printed width n)) None
 
 -- "A refusal leaves the output unchanged"
-abbrev pub written : Put → List ℕ → ℕ → List ℕ → List ℕ
-written (Wrote next) out at bytes = pasted out at bytes
-written NoRoom out at bytes = out
+abbrev pub written : Option ℕ → List ℕ → ℕ → List ℕ → List ℕ
+written (Some next) out at bytes = pasted out at bytes
+written None out at bytes = out
 
 -- a place of the buffer, and a blank (byte 32) there
 pub record BlankAt (out : List ℕ) (at : ℕ) : Type 0 where
@@ -65,23 +63,23 @@ pub record WrittenAt (out : List ℕ) (at size : ℕ) (bytes : List ℕ) (next :
   pub behind : next ≡ at + size
   pub holds : now ≡ pasted out at bytes
 
-pub record Puts (out : List ℕ) (at : ℕ) (bytes : List ℕ) (answer : Put) (now : List ℕ) : Type 0 where
+pub record Puts (out : List ℕ) (at : ℕ) (bytes : List ℕ) (answer : Option ℕ) (now : List ℕ) : Type 0 where
   pub answers : answer ≡ put_of out at bytes
   pub holds : now ≡ written answer out at bytes
 
-pub record PutsField (out : List ℕ) (at width n : ℕ) (answer : Put) (now : List ℕ) : Type 0 where
+pub record PutsField (out : List ℕ) (at width n : ℕ) (answer : Option ℕ) (now : List ℕ) : Type 0 where
   pub answers : answer ≡ field_put out at width n
   pub holds : now ≡ written answer out at (printed width n)
 
 -- "output too short is 10"
-abbrev pub put_number : Put → ℕ
-put_number (Wrote next) = 0
-put_number NoRoom = 10
+abbrev pub put_number : Option ℕ → ℕ
+put_number (Some next) = 0
+put_number None = 10
 
 -- "the text's length (0 on a refusal)"
-abbrev pub put_length : Put → ℕ
-put_length (Wrote next) = next
-put_length NoRoom = 0
+abbrev pub put_length : Option ℕ → ℕ
+put_length (Some next) = next
+put_length None = 0
 
 -- `start  end span  rows`, and byte 10: "Every printed line ends with byte 10"
 abbrev pub header : List ℕ

@@ -5,8 +5,7 @@
 -- Assumes nothing.
 use Rattle.std.specs.Prelude.{ℕ, ◌+◌, ◌≡◌, List}
 use Rattle.std.specs.Borrow.{Bor}
-use Rattle.text.specs.Line.{step_at, passed}
-use Rattle.text.specs.declared.lines.Line.{Line}
+use Rattle.text.specs.Line.{Line, step_at, passed}
 use Rattle.text.specs.declared.reader.LineReader.{LineReader}
 
 pub record ReaderAt (r : LineReader) (text : Bor (List ℕ)) (line : ℕ) : Type 0 where

@@ -12,17 +12,17 @@
 --   TextNumbers  the table: a field for each row
 --   text_numbers_hold     the theorem
 -- Assumes nothing.
-use Rattle.std.specs.Prelude.{ℕ, ◌+◌, ◌≡◌, refl, List, [], ◌∷◌, ◌++◌, replicate}
+use Rattle.std.specs.Prelude.{ℕ, ◌+◌, ◌≡◌, refl, List, [], ◌∷◌, ◌++◌, replicate, Option, Result}
 use Rattle.text.specs.Decimal.{field_of, numeral_of, unblank, is_numeral, leads_well, all_digits, is_digit, value}
 use Rattle.text.specs.Line.{lines_of, prepend, is_whole, judged, field_at, line_as, step_as, row_of, query_of, query_number, query_place}
 use Rattle.text.specs.Print.{column_of, printed, put_of, header, put_number, put_length}
 use Rattle.text.specs.Table.{judged_from, table_read_of, Columns, columns, number, place, count}
 use Rattle.text.specs.Writer.{table_line, table_lines, table_rows, table_text, one_length, text_for, table_write_of, text_after}
 use Rattle.text.specs.Writer.{written_number, written_place, written_length}
-use Rattle.text.specs.declared.lines.QueryRead.{QueryRead}
-use Rattle.text.specs.declared.print.Put.{Put}
-use Rattle.text.specs.declared.table.TableRead.{TableRead}
-use Rattle.text.specs.declared.writer.TableWritten.{TableWritten}
+use Rattle.text.specs.declared.lines.LineError.{LineError}
+use Rattle.text.specs.declared.lines.Query.{Query}
+use Rattle.text.specs.declared.table.ReadError.{ReadError}
+use Rattle.text.specs.declared.writer.WriteError.{WriteError}
 
 abbrev pub five : ℕ → List ℕ
 five n = 32 ∷ 32 ∷ 32 ∷ 32 ∷ (48 + n) ∷ []
@@ -61,16 +61,16 @@ one_row = columns (65535 ∷ []) (65535 ∷ []) (65535 ∷ [])
 abbrev pub no_rows : Columns
 no_rows = columns [] [] []
 
-abbrev pub read_numbers : TableRead → List ℕ
+abbrev pub read_numbers : Result ℕ ReadError → List ℕ
 read_numbers a = number a ∷ place a ∷ count a ∷ []
 
-abbrev pub query_numbers : QueryRead → List ℕ
+abbrev pub query_numbers : Result Query LineError → List ℕ
 query_numbers a = query_number a ∷ query_place a ∷ []
 
-abbrev pub put_numbers : Put → List ℕ
+abbrev pub put_numbers : Option ℕ → List ℕ
 put_numbers a = put_number a ∷ put_length a ∷ []
 
-abbrev pub write_numbers : TableWritten → List ℕ
+abbrev pub write_numbers : Result ℕ WriteError → List ℕ
 write_numbers a = written_number a ∷ written_place a ∷ written_length a ∷ []
 
 abbrev pub written : Columns → ℕ → List ℕ

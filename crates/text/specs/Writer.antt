@@ -14,13 +14,12 @@
 --   LinesFit     columns of one length, and a place for each byte of their text
 --   written_number written_place written_length   01's refusal number, its place, and the bytes written, of each answer
 -- Assumes nothing.
-use Rattle.std.specs.Prelude.{ℕ, ◌*◌, ◌≤◌, ◌≡◌, Bool, true, cond, ◌&&◌, List, [], ◌∷◌, ◌++◌, eqb, leb, length, drop}
+use Rattle.std.specs.Prelude.{ℕ, ◌*◌, ◌≤◌, ◌≡◌, Bool, true, cond, ◌&&◌, List, [], ◌∷◌, ◌++◌, eqb, leb, length, drop, None, Result, Ok, Err}
 use Rattle.text.specs.Layout.{day_width, account_width, line_bytes}
 use Rattle.text.specs.Print.{printed, put_number}
 use Rattle.text.specs.Table.{Columns}
-use Rattle.text.specs.declared.print.Put.{Put}
-use Rattle.text.specs.declared.writer.TableWritten.{TableWritten}
-use Rattle.text.specs.declared.writer.TableWritten.TheVariants.{Text, ColumnsDiffer, NoRoom}
+use Rattle.text.specs.declared.writer.WriteError.{WriteError}
+use Rattle.text.specs.declared.writer.WriteError.TheVariants.{ColumnsDiffer, NoRoom}
 
 -- 01, Reader: "day in 5 columns, accounts in 6 and 6, then byte 10"
 unfoldable pub table_line : ℕ → ℕ → ℕ → List ℕ
@@ -53,20 +52,19 @@ unfoldable pub one_length : Columns → Bool
 one_length c = eqb (length c.days) (length c.first) && eqb (length c.first) (length c.second)
 
 -- "A single byte of text space too few is a 10."
-unfoldable pub text_for : List ℕ → ℕ → TableWritten
-text_for text places = cond (leb (length text) places) (Text (length text)) NoRoom
+unfoldable pub text_for : List ℕ → ℕ → Result ℕ WriteError
+text_for text places = cond (leb (length text) places) (Ok (length text)) (Err NoRoom)
 
 -- "It refuses 1, then 10"; nothing else is a fault: "any three columns of equal length .., days up to 65,535 included"
-unfoldable pub table_write_of : Columns → ℕ → TableWritten
-table_write_of c places = cond (one_length c) (text_for (table_text c) places) ColumnsDiffer
+unfoldable pub table_write_of : Columns → ℕ → Result ℕ WriteError
+table_write_of c places = cond (one_length c) (text_for (table_text c) places) (Err ColumnsDiffer)
 
 -- "with the output kept"; "output text past the answer" keeps its contents
-abbrev pub text_after : TableWritten → List ℕ → List ℕ → List ℕ
-text_after (Text n) text space = text ++ drop n space
-text_after ColumnsDiffer text space = space
-text_after NoRoom text space = space
+abbrev pub text_after : Result ℕ WriteError → List ℕ → List ℕ → List ℕ
+text_after (Ok n) text space = text ++ drop n space
+text_after (Err e) text space = space
 
-pub record TableWrites (c : Columns) (space : List ℕ) (answer : TableWritten) (after : List ℕ) : Type 0 where
+pub record TableWrites (c : Columns) (space : List ℕ) (answer : Result ℕ WriteError) (after : List ℕ) : Type 0 where
   pub answers : answer ≡ table_write_of c (length space)
   pub holds : after ≡ text_after answer (table_text c) space
 
@@ -76,19 +74,17 @@ pub record LinesFit (c : Columns) (space : List ℕ) : Type 0 where
   pub room : line_bytes * length c.days ≤ length space
 
 -- "It refuses 1, then 10"; 0 for none. 10 is that of every call with too little room
-abbrev pub written_number : TableWritten → ℕ
-written_number (Text n) = 0
-written_number ColumnsDiffer = 1
-written_number NoRoom = put_number Put.NoRoom
+abbrev pub written_number : Result ℕ WriteError → ℕ
+written_number (Ok n) = 0
+written_number (Err ColumnsDiffer) = 1
+written_number (Err NoRoom) = put_number None
 
 -- 01: "a line counted from 1 for 11, 12, 13; else 0"
-abbrev pub written_place : TableWritten → ℕ
-written_place (Text n) = 0
-written_place ColumnsDiffer = 0
-written_place NoRoom = 0
+abbrev pub written_place : Result ℕ WriteError → ℕ
+written_place (Ok n) = 0
+written_place (Err e) = 0
 
 -- "the text's length (0 on a refusal)"
-abbrev pub written_length : TableWritten → ℕ
-written_length (Text n) = n
-written_length ColumnsDiffer = 0
-written_length NoRoom = 0
+abbrev pub written_length : Result ℕ WriteError → ℕ
+written_length (Ok n) = n
+written_length (Err e) = 0

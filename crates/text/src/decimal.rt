@@ -5,15 +5,14 @@ ghost use Rattle.text.specs.Decimal.{all_digits, is_numeral, value, field_of, Bl
 
 use crate::layout::MOST_DIGITS;
 
-// Place values: entry k is 10 ^ k.
+// Place values: entry k is 10 ^ k. 01 asks for a constant array of them.
 const PLACES: [u64; MOST_DIGITS] = [1, 10, 100, 1000, 10000];
 
-// What a field holds.
+// Why a field has no number: it holds none, or one above the limit.
 #[derive(Clone, Copy)]
-pub enum Field {
-    Number(u16),
-    Large,
+pub enum FieldError {
     Broken,
+    Large,
 }
 
 // The value of place k.
@@ -28,46 +27,21 @@ pub(crate) fn place(k: usize) -> u64
 fn blanks(f: &[u8]) -> usize
     ensures { BlanksEnd f.now result }
 {
-    let mut i: usize = 0;
-    while i < f.len() {
-        if f[i] != 32 {
-            return i;
-        }
-        i += 1;
-    }
-    i
+    f.iter().position(|b| *b != b' ').unwrap_or(f.len())
 }
 
 fn all_digits(f: &[u8]) -> bool
     ensures { result ≡ all_digits f.now }
 {
-    let mut i: usize = 0;
-    while i < f.len() {
-        if f[i] < 48 {
-            return false;
-        }
-        if 57 < f[i] {
-            return false;
-        }
-        i += 1;
-    }
-    true
+    f.iter().all(|b| b.is_ascii_digit())
 }
 
 // Digits, at least one, and no needless leading zero.
+#[tactic(auto, unfolding(crate::specs::Decimal::is_numeral, crate::specs::Decimal::leads_well))]
 fn is_numeral(f: &[u8]) -> bool
     ensures { result ≡ is_numeral f.now }
 {
-    if f.len() == 0 {
-        return false;
-    }
-    if f.len() == 1 {
-        return all_digits(f);
-    }
-    if f[0] == 48 {
-        return false;
-    }
-    all_digits(f)
+    !f.is_empty() && (f.len() == 1 || f[0] != b'0') && all_digits(f)
 }
 
 // The sum of the digits, each times its place value.
@@ -76,31 +50,30 @@ fn value_of(f: &[u8]) -> u64
     ensures { result ≡ value f.now }
 {
     let mut sum: u64 = 0;
-    let mut i: usize = 0;
-    while i < f.len() {
-        let digit = f[i] as u64 - 48;
+    for i in 0..f.len() {
+        let digit = (f[i] - b'0') as u64;
         sum += digit * place(f.len() - 1 - i);
-        i += 1;
     }
     sum
 }
 
-// What a field holds, where numbers end at a limit. More digits than any number of 16 bits has, with no needless zero,
-// are above every limit, so no sum overflows.
-pub fn read_field(f: &[u8], limit: u16) -> Field
+// The number of a field, where numbers end at a limit. More digits than any number of 16 bits has, with no needless
+// zero, are above every limit, so no sum overflows.
+#[tactic(auto, using(crate::proofs::FieldLaws::field_rules))]
+pub fn read_field(f: &[u8], limit: u16) -> Result<u16, FieldError>
     ensures { result ≡ field_of limit f.now }
 {
     let from = blanks(f);
     let digits = &f[from..];
     if !is_numeral(digits) {
-        return Field::Broken;
+        return Err(FieldError::Broken);
     }
     if MOST_DIGITS < digits.len() {
-        return Field::Large;
+        return Err(FieldError::Large);
     }
     let n = value_of(digits);
     if (limit as u64) < n {
-        return Field::Large;
+        return Err(FieldError::Large);
     }
-    Field::Number(n as u16)
+    Ok(n as u16)
 }

@@ -1,106 +1,70 @@
 // Lines: the judgement of one line, and the line reader, which keeps the text and the line reached.
-ghost use Rattle.std.specs.Prelude.{◌≡◌, ◌+◌, ◌≤◌, ◌<◌, ◌^◌, length};
+ghost use Rattle.std.specs.Prelude.{◌≡◌, ◌+◌, ◌≤◌, ◌<◌, ◌^◌, length, Err};
 ghost use Rattle.text.specs.Layout.{bytes_of};
-ghost use Rattle.text.specs.Decimal.{field_number, refuses, field_value};
+ghost use Rattle.text.specs.Decimal.{field_number, refuses};
 ghost use Rattle.text.specs.Line.{lines_of, first_line, is_whole, any_refuses, judged, field_at, step_as, step_at, passed, step_from, query_of};
 
-use crate::decimal::{Field, read_field};
+use crate::decimal::{FieldError, read_field};
 use crate::layout::{Format, LINE_BYTES, Layout, QUERY, TABLE};
 
-// What stands at a line: its row, the text's end, or the line's first fault.
+// A row of a table.
 #[derive(Clone, Copy)]
-pub enum Line {
-    Row(u16, u16, u16),
-    End,
+pub struct Row {
+    pub day: u16,
+    pub first: u16,
+    pub second: u16,
+}
+
+// What a query line asks for: k and the range's two days.
+#[derive(Clone, Copy)]
+pub struct Query {
+    pub k: u16,
+    pub from: u16,
+    pub to: u16,
+}
+
+// A line's first fault.
+#[derive(Clone, Copy)]
+pub enum LineError {
     BadLine,
     BadField,
     BadNumber,
 }
 
-// What a step of the line reader finds at a line, and the line that is reached then.
+// What a step of the line reader finds at a line, its row or the text's end or the line's first fault, and the line
+// that is reached then.
 #[derive(Clone, Copy)]
 pub struct Step {
-    pub found: Line,
+    pub found: Result<Option<Row>, LineError>,
     pub line: usize,
 }
 
-// What a query line holds.
-#[derive(Clone, Copy)]
-pub enum QueryRead {
-    Query(u16, u16, u16),
-    BadLine,
-    BadField,
-    BadNumber,
-}
-
-fn is_broken(f: Field) -> bool
-    ensures { result ≡ refuses (field_number Field.Broken) f }
+fn is_broken(f: Result<u16, FieldError>) -> bool
+    ensures { result ≡ refuses (field_number (Err FieldError.Broken)) f }
 {
-    match f {
-        Field::Broken => true,
-        Field::Large => false,
-        Field::Number(_) => false,
-    }
+    matches!(f, Err(FieldError::Broken))
 }
 
-fn is_large(f: Field) -> bool
-    ensures { result ≡ refuses (field_number Field.Large) f }
-{
-    match f {
-        Field::Broken => false,
-        Field::Large => true,
-        Field::Number(_) => false,
-    }
-}
-
-fn number_of(f: Field) -> u16
-    ensures { result ≡ field_value f }
-{
-    match f {
-        Field::Broken => 0,
-        Field::Large => 0,
-        Field::Number(n) => n,
-    }
-}
-
-fn any_broken(x: Field, y: Field, z: Field) -> bool
-    ensures { result ≡ any_refuses (field_number Field.Broken) x y z }
-{
-    if is_broken(x) {
-        return true;
-    }
-    if is_broken(y) {
-        return true;
-    }
-    is_broken(z)
-}
-
-fn any_large(x: Field, y: Field, z: Field) -> bool
-    ensures { result ≡ any_refuses (field_number Field.Large) x y z }
-{
-    if is_large(x) {
-        return true;
-    }
-    if is_large(y) {
-        return true;
-    }
-    is_large(z)
-}
-
-// A broken field in the line comes before a large one.
-fn judge(x: Field, y: Field, z: Field) -> Line
+// The numbers of a line's three fields. A broken field in the line comes before a large one.
+#[tactic(auto, unfolding(crate::specs::Line::judged))]
+fn judge(
+    x: Result<u16, FieldError>,
+    y: Result<u16, FieldError>,
+    z: Result<u16, FieldError>,
+) -> Result<Option<(u16, u16, u16)>, LineError>
     ensures { result ≡ judged x y z }
 {
-    if any_broken(x, y, z) {
-        return Line::BadField;
+    if let (Ok(a), Ok(b), Ok(c)) = (x, y, z) {
+        return Ok(Some((a, b, c)));
     }
-    if any_large(x, y, z) {
-        return Line::BadNumber;
+    if is_broken(x) || is_broken(y) || is_broken(z) {
+        return Err(LineError::BadField);
     }
-    Line::Row(number_of(x), number_of(y), number_of(z))
+    Err(LineError::BadNumber)
 }
 
 // The first line of s is `width` bytes, the last of which is its byte 10.
+#[tactic(auto, using(crate::proofs::SplitLaws::whole_rules))]
 fn is_whole(s: &[u8], width: usize) -> bool
     requires { 0 < width }
     ensures { result ≡ is_whole width (first_line s.now) }
@@ -109,18 +73,12 @@ fn is_whole(s: &[u8], width: usize) -> bool
         return false;
     }
     let last = width - 1;
-    let mut i: usize = 0;
-    while i < last {
-        if s[i] == 10 {
-            return false;
-        }
-        i += 1;
-    }
-    s[last] == 10
+    !s[..last].contains(&b'\n') && s[last] == b'\n'
 }
 
 // The field that starts at byte `from` of s.
-fn field_at(s: &[u8], from: usize, f: Format) -> Field
+#[tactic(auto, using(crate::proofs::LineLaws::part_field))]
+fn field_at(s: &[u8], from: usize, f: Format) -> Result<u16, FieldError>
     requires { from + f.width ≤ length s.now }
     ensures { result ≡ field_at f from s.now }
 {
@@ -128,51 +86,51 @@ fn field_at(s: &[u8], from: usize, f: Format) -> Field
     read_field(&s[from..to], f.limit)
 }
 
-// The first line of s, with fields as the layout has them.
-fn first_as(s: &[u8], layout: Layout) -> Line
+// The first line of s, with fields as the layout has them; none at the text's end.
+#[tactic(auto, using(crate::proofs::LineLaws::first_rules))]
+fn first_as(s: &[u8], layout: Layout) -> Result<Option<(u16, u16, u16)>, LineError>
     requires { bytes_of layout ≤ 2 ^ 16 }
     ensures { result ≡ step_as layout (lines_of s.now) }
 {
-    if s.len() == 0 {
-        return Line::End;
+    if s.is_empty() {
+        return Ok(None);
     }
-    let a = layout.first;
-    let b = layout.second;
-    let c = layout.third;
+    let Layout {
+        first: a,
+        second: b,
+        third: c,
+    } = layout;
     let x = a.width;
     let y = x + b.width;
     let z = y + c.width;
     if !is_whole(s, z + 1) {
-        return Line::BadLine;
+        return Err(LineError::BadLine);
     }
     judge(field_at(s, 0, a), field_at(s, x, b), field_at(s, y, c))
 }
 
 // How many lines a step passes: a row is passed, and a reader stays at the text's end and at a faulty line.
-fn passed(l: Line) -> usize
-    ensures { result ≡ passed l }
+fn passed(found: Result<Option<Row>, LineError>) -> usize
+    ensures { result ≡ passed found }
 {
-    match l {
-        Line::Row(_, _, _) => 1,
-        Line::End => 0,
-        Line::BadLine => 0,
-        Line::BadField => 0,
-        Line::BadNumber => 0,
-    }
+    usize::from(matches!(found, Ok(Some(_))))
 }
 
 // Line `line` of a table's text, counted from 0, where each line before it has the bytes of a row.
-fn step_at(text: &[u8], line: usize) -> Line
+#[tactic(auto, using(crate::proofs::LineLaws::step_past, crate::proofs::LineLaws::step_within))]
+fn step_at(text: &[u8], line: usize) -> Result<Option<Row>, LineError>
     ensures { result ≡ step_at text.now line }
 {
     if text.len() / LINE_BYTES < line {
-        return Line::End;
+        return Ok(None);
     }
     let at = LINE_BYTES * line;
-    first_as(&text[at..], TABLE)
+    let numbers = first_as(&text[at..], TABLE)?;
+    Ok(numbers.map(|(day, first, second)| Row { day, first, second }))
 }
 
 // A step from a line of a table's text: what stands there, judged once, and the line reached then.
+#[tactic(auto, using(crate::proofs::LineLaws::step_fits), unfolding(crate::specs::Line::step_from))]
 pub(crate) fn step_from(text: &[u8], line: usize) -> Step
     ensures { result ≡ step_from text.now line }
 {
@@ -184,14 +142,10 @@ pub(crate) fn step_from(text: &[u8], line: usize) -> Step
 }
 
 // The query line: the first line of the program's input.
-pub fn read_query(text: &[u8]) -> QueryRead
+#[tactic(auto, unfolding(crate::specs::Line::query_of))]
+pub fn read_query(text: &[u8]) -> Result<Query, LineError>
     ensures { result ≡ query_of text.now }
 {
-    match first_as(text, QUERY) {
-        Line::Row(k, from, to) => QueryRead::Query(k, from, to),
-        Line::End => QueryRead::BadLine,
-        Line::BadLine => QueryRead::BadLine,
-        Line::BadField => QueryRead::BadField,
-        Line::BadNumber => QueryRead::BadNumber,
-    }
+    let (k, from, to) = first_as(text, QUERY)?.ok_or(LineError::BadLine)?;
+    Ok(Query { k, from, to })
 }

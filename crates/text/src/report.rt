@@ -1,11 +1,11 @@
 // What the reader and the writer tell a host in numbers: 01's refusal number, 0 for none; its line, counted from 1, 0
-// where there is none; the rows read or the bytes written.
+// where there is none; the rows read or the bytes written. As the C interface hands them out.
 ghost use Rattle.std.specs.Prelude.{◌≡◌};
 ghost use Rattle.text.specs.Report.{table_report, query_report, written_report};
 
-use crate::lines::QueryRead;
-use crate::table::TableRead;
-use crate::writer::TableWritten;
+use crate::lines::{LineError, Query};
+use crate::table::ReadError;
+use crate::writer::WriteError;
 
 #[derive(Clone, Copy)]
 pub struct Report {
@@ -36,45 +36,45 @@ fn refused(number: u32, place: usize) -> Report
 }
 
 // Of a table's text.
-pub fn report_table(read: TableRead) -> Report
+pub fn report_table(read: Result<usize, ReadError>) -> Report
     ensures { result ≡ table_report read }
 {
     match read {
-        TableRead::Rows(n) => Report {
+        Ok(count) => Report {
             number: 0,
             place: 0,
-            count: n,
+            count,
         },
-        TableRead::BadLine(line) => refused(BAD_LINE, line),
-        TableRead::BadField(line) => refused(BAD_FIELD, line),
-        TableRead::BadNumber(line) => refused(BAD_NUMBER, line),
-        TableRead::NoRoom => refused(NO_ROOM, 0),
+        Err(ReadError::BadLine(line)) => refused(BAD_LINE, line),
+        Err(ReadError::BadField(line)) => refused(BAD_FIELD, line),
+        Err(ReadError::BadNumber(line)) => refused(BAD_NUMBER, line),
+        Err(ReadError::NoRoom) => refused(NO_ROOM, 0),
     }
 }
 
 // Of a query line: it stands in line 1.
-pub fn report_query(read: QueryRead) -> Report
+pub fn report_query(read: Result<Query, LineError>) -> Report
     ensures { result ≡ query_report read }
 {
     match read {
-        QueryRead::Query(_, _, _) => refused(0, 0),
-        QueryRead::BadLine => refused(BAD_LINE, 1),
-        QueryRead::BadField => refused(BAD_FIELD, 1),
-        QueryRead::BadNumber => refused(BAD_NUMBER, 1),
+        Ok(_) => refused(0, 0),
+        Err(LineError::BadLine) => refused(BAD_LINE, 1),
+        Err(LineError::BadField) => refused(BAD_FIELD, 1),
+        Err(LineError::BadNumber) => refused(BAD_NUMBER, 1),
     }
 }
 
 // Of a table's text that is written.
-pub fn report_written(written: TableWritten) -> Report
+pub fn report_written(written: Result<usize, WriteError>) -> Report
     ensures { result ≡ written_report written }
 {
     match written {
-        TableWritten::Text(n) => Report {
+        Ok(n) => Report {
             number: 0,
             place: 0,
             count: n,
         },
-        TableWritten::ColumnsDiffer => refused(COLUMNS_DIFFER, 0),
-        TableWritten::NoRoom => refused(NO_ROOM, 0),
+        Err(WriteError::ColumnsDiffer) => refused(COLUMNS_DIFFER, 0),
+        Err(WriteError::NoRoom) => refused(NO_ROOM, 0),
     }
 }

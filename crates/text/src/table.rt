@@ -1,16 +1,15 @@
 // The table reader: one pass that judges every line, and a second that writes the columns, so that a refusal leaves
 // them as they were.
-ghost use Rattle.std.specs.Prelude.{◌≡◌, ◌+◌, ◌<◌, ◌^◌, min};
+ghost use Rattle.std.specs.Prelude.{◌≡◌, length};
 ghost use Rattle.text.specs.Line.{lines_of};
-ghost use Rattle.text.specs.Table.{day_of, first_of, second_of, fault_or, judged_from, columns, RowsFit, RowsWritten, TableReads};
+ghost use Rattle.text.specs.Table.{at_line, judged_from, columns, RowsFit, RowsWritten, TableReads};
 
-use crate::lines::Line;
+use crate::lines::LineError;
 use crate::reader::read_line;
 
-// The rows read, or the refusal. A line is counted from 1.
+// Why a table's text is refused. A line is counted from 1.
 #[derive(Clone, Copy)]
-pub enum TableRead {
-    Rows(usize),
+pub enum ReadError {
     // 11: a line that is not 18 bytes, at that line.
     BadLine(usize),
     // 12: a field that is no right-justified number, at its line.
@@ -21,135 +20,69 @@ pub enum TableRead {
     NoRoom,
 }
 
-fn day_of(l: Line) -> u16
-    ensures { result ≡ day_of l }
+// A line's fault as the refusal of the text, with the line counted from 1.
+fn at_line(line: usize, fault: LineError) -> ReadError
+    ensures { result ≡ at_line line fault }
 {
-    match l {
-        Line::Row(day, _, _) => day,
-        Line::End => 0,
-        Line::BadLine => 0,
-        Line::BadField => 0,
-        Line::BadNumber => 0,
+    match fault {
+        LineError::BadLine => ReadError::BadLine(line),
+        LineError::BadField => ReadError::BadField(line),
+        LineError::BadNumber => ReadError::BadNumber(line),
     }
 }
 
-fn first_of(l: Line) -> u16
-    ensures { result ≡ first_of l }
-{
-    match l {
-        Line::Row(_, first, _) => first,
-        Line::End => 0,
-        Line::BadLine => 0,
-        Line::BadField => 0,
-        Line::BadNumber => 0,
-    }
-}
-
-fn second_of(l: Line) -> u16
-    ensures { result ≡ second_of l }
-{
-    match l {
-        Line::Row(_, _, second) => second,
-        Line::End => 0,
-        Line::BadLine => 0,
-        Line::BadField => 0,
-        Line::BadNumber => 0,
-    }
-}
-
-// Where the line reader stays: at the text's end each line before is a row, and a faulty line refuses. A line is
-// counted from 1.
-fn ended(l: Line, line: usize) -> TableRead
-    requires { line + 1 < 2 ^ 64 }
-    ensures { result ≡ fault_or (line + 1) l (TableRead.Rows line) }
-{
-    match l {
-        Line::Row(_, _, _) => TableRead::Rows(line),
-        Line::End => TableRead::Rows(line),
-        Line::BadLine => TableRead::BadLine(line + 1),
-        Line::BadField => TableRead::BadField(line + 1),
-        Line::BadNumber => TableRead::BadNumber(line + 1),
-    }
-}
-
-// The lowest faulty line, or the number of lines: the reader goes on until it stays. That it moved is asked, and not
-// what it found: so the processor goes on to the next line before this one is judged.
-fn check_lines(text: &[u8]) -> TableRead
+// The number of lines, or the lowest faulty one: the reader goes on until it stays, at the text's end or at a fault.
+// That it moved is asked, and not what it found: so the processor goes on to the next line before this one is judged.
+fn check_lines(text: &[u8]) -> Result<usize, ReadError>
     ensures { result ≡ judged_from 0 (lines_of text.now) }
 {
     let mut line: usize = 0;
     loop {
         let step = read_line(text, line);
         if step.line == line {
-            let l = step.found;
-            return ended(l, line);
+            let found = step.found;
+            return match found {
+                Ok(_) => Ok(line),
+                Err(fault) => Err(at_line(line + 1, fault)),
+            };
         }
         line = step.line;
     }
 }
 
 // The rows of a text whose every line is a row, into columns that have a place for each.
-fn write_rows(text: &[u8], days: &mut [u16], first: &mut [u16], second: &mut [u16])
-    requires { RowsFit text.now (columns days.old first.old second.old) }
+fn write_rows(text: &[u8], rows: usize, days: &mut [u16], first: &mut [u16], second: &mut [u16])
+    requires fit { RowsFit text.now (columns days.old first.old second.old) }
+    requires all { rows ≡ length (lines_of text.now) }
     ensures { let old = columns days.old first.old second.old in
         let new = columns days.new first.new second.new in
         RowsWritten text.now old new }
 {
-    let mut i: usize = 0;
-    loop {
-        let step = read_line(text, i);
-        if step.line == i {
-            return;
-        }
-        let l = step.found;
-        days[i] = day_of(l);
-        first[i] = first_of(l);
-        second[i] = second_of(l);
-        i = step.line;
+    for i in 0..rows {
+        let Ok(Some(row)) = read_line(text, i).found else {
+            unreachable!();
+        };
+        days[i] = row.day;
+        first[i] = row.first;
+        second[i] = row.second;
     }
-}
-
-fn least(a: usize, b: usize, c: usize) -> usize
-    ensures { result ≡ min a (min b c) }
-{
-    if a <= b {
-        if a <= c {
-            return a;
-        }
-        return c;
-    }
-    if b <= c {
-        return b;
-    }
-    c
 }
 
 // Reads a table's text into three columns, all of it or nothing.
-pub fn read_table(text: &[u8], days: &mut [u16], first: &mut [u16], second: &mut [u16]) -> TableRead
+pub fn read_table(
+    text: &[u8],
+    days: &mut [u16],
+    first: &mut [u16],
+    second: &mut [u16],
+) -> Result<usize, ReadError>
     ensures { let old = columns days.old first.old second.old in
         let new = columns days.new first.new second.new in
         TableReads text.now old result new }
 {
-    let judged = check_lines(text);
-    match judged {
-        TableRead::BadLine(n) => {
-            return TableRead::BadLine(n);
-        }
-        TableRead::BadField(n) => {
-            return TableRead::BadField(n);
-        }
-        TableRead::BadNumber(n) => {
-            return TableRead::BadNumber(n);
-        }
-        TableRead::NoRoom => {
-            return TableRead::NoRoom;
-        }
-        TableRead::Rows(n) => {
-            if least(days.len(), first.len(), second.len()) < n {
-                return TableRead::NoRoom;
-            }
-            write_rows(text, days, first, second);
-            return TableRead::Rows(n);
-        }
+    let n = check_lines(text)?;
+    if days.len().min(first.len().min(second.len())) < n {
+        return Err(ReadError::NoRoom);
     }
+    write_rows(text, n, days, first, second);
+    Ok(n)
 }

@@ -9,10 +9,9 @@ ghost use Rattle.text.specs.Writer.{table_line, table_text, LinesFit, TableWrite
 use crate::layout::{ACCOUNT_WIDTH, DAY_WIDTH, LINE_BYTES};
 use crate::print::{write_bytes, write_field};
 
-// The bytes written, or the refusal.
+// Why nothing was written.
 #[derive(Clone, Copy)]
-pub enum TableWritten {
-    Text(usize),
+pub enum WriteError {
     // 1: columns of different lengths.
     ColumnsDiffer,
     // 10: more bytes than the text space has.
@@ -36,11 +35,9 @@ fn write_lines(days: &[u16], first: &[u16], second: &[u16], text: &mut [u8]) -> 
     ensures { let bytes = table_text (columns days.now first.now second.now) in
         WrittenAt text.old 0 (length bytes) bytes result text.new }
 {
-    let mut at: usize = 0;
-    let mut i: usize = 0;
-    while i < days.len() {
+    let mut at = 0;
+    for i in 0..days.len() {
         at = write_row(text, at, days[i], first[i], second[i]);
-        i += 1;
     }
     at
 }
@@ -48,24 +45,26 @@ fn write_lines(days: &[u16], first: &[u16], second: &[u16], text: &mut [u8]) -> 
 fn one_length(days: usize, first: usize, second: usize) -> bool
     ensures { result ≡ (eqb days first && eqb first second) }
 {
-    if days != first {
-        return false;
-    }
-    first == second
+    days == first && first == second
 }
 
 // Writes three columns as a table's text, all of it or nothing. Whether it fits is asked by a quotient: eighteen times
 // the rows may be more than a number holds.
-pub fn write_table(days: &[u16], first: &[u16], second: &[u16], text: &mut [u8]) -> TableWritten
+pub fn write_table(
+    days: &[u16],
+    first: &[u16],
+    second: &[u16],
+    text: &mut [u8],
+) -> Result<usize, WriteError>
     ensures { let c = columns days.now first.now second.now in
         TableWrites c text.old result text.new }
 {
     if !one_length(days.len(), first.len(), second.len()) {
-        return TableWritten::ColumnsDiffer;
+        return Err(WriteError::ColumnsDiffer);
     }
     if text.len() / LINE_BYTES < days.len() {
-        return TableWritten::NoRoom;
+        return Err(WriteError::NoRoom);
     }
     let size = write_lines(days, first, second, text);
-    TableWritten::Text(size)
+    Ok(size)
 }

@@ -43,14 +43,15 @@ fn contract(after: &str) -> Option<usize> {
     fail("a contract has no end".to_string());
 }
 
-/// Rattle to Rust: comments, ghost imports, contracts and the line that asks for
-/// tactics go.
+/// Rattle to Rust: comments, ghost imports and members, contracts and the lines
+/// that ask for tactics go.
 fn stripped(text: &str) -> String {
     let mut out = String::new();
     let mut lines = String::new();
     for line in text.lines() {
         let bare = line.trim_start();
-        if !bare.starts_with("//") && !bare.starts_with("#![tactic(") {
+        let skipped = ["//", "#![tactic(", "#[tactic("];
+        if !skipped.iter().any(|start| bare.starts_with(start)) {
             lines.push_str(line);
             lines.push('\n');
         }
@@ -58,7 +59,7 @@ fn stripped(text: &str) -> String {
     let mut rest = lines.as_str();
     'all: while !rest.is_empty() {
         let at_word = !out.ends_with(|c: char| c.is_alphanumeric() || c == '_');
-        if at_word && rest.starts_with("ghost use ") {
+        if at_word && rest.starts_with("ghost ") {
             let end = rest.find(";\n").map_or(rest.len(), |at| at + 1);
             rest = &rest[end..];
             continue;
@@ -77,6 +78,15 @@ fn stripped(text: &str) -> String {
     out
 }
 
+/// A ghost field of a struct is a line of its own, and goes.
+fn without_ghost_fields(text: &str) -> String {
+    let is_field = |line: &str| line.trim_start().starts_with("ghost ") && line.ends_with("},");
+    text.lines()
+        .filter(|line| !is_field(line))
+        .map(|line| format!("{line}\n"))
+        .collect()
+}
+
 fn copy_stripped(from: &Path, to: &Path) {
     let entries = fs::read_dir(from).unwrap_or_else(|e| fail(format!("{}: {e}", from.display())));
     fs::create_dir_all(to).unwrap_or_else(|e| fail(format!("{}: {e}", to.display())));
@@ -87,7 +97,7 @@ fn copy_stripped(from: &Path, to: &Path) {
         } else if path.extension().is_some_and(|e| e == "rt") {
             let text = fs::read_to_string(&path).unwrap_or_default();
             let file = to.join(name).with_extension("rs");
-            if let Err(error) = fs::write(&file, stripped(&text)) {
+            if let Err(error) = fs::write(&file, stripped(&without_ghost_fields(&text))) {
                 fail(format!("{}: {error}", file.display()));
             }
         }

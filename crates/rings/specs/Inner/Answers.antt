@@ -30,12 +30,12 @@ pub record TimesBuffers (d xs rs sc : List ℕ) : Type 0 where
   pub rows : length rs ≡ length d
   pub scratch : 8192 + 4 * length d ≤ length sc
 
-pub record WholeWindow (d f s : List ℕ) (p : Frame) : Type 0 where
-  pub sound : Sound d f s
+pub record WholeWindow (t : Table) (p : Frame) : Type 0 where
+  pub sound : Sound t.days t.first t.second
   pub asked : Asked p.query p.start p.stop
   pub lo : p.lo ≡ 0
-  pub from : Split d p.start p.lo
-  pub to : Split d (p.stop + 1) (length d)
+  pub from : Split t.days p.start p.lo
+  pub to : Split t.days (p.stop + 1) (size t)
 
 pub record Remaining (t : Table) (p : Frame) (x : List ℕ) : Type 0 where
   pub long : length x ≡ 4096

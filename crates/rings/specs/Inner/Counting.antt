@@ -4,7 +4,7 @@
 --     IsTime x                       x is a day, or never
 --     Histogram g n xs               xs holds, for each day, how many of the first n rows have it by g
 --     CountsBy                       that histogram, by the times that the accounts have
---     WhereCounted                   what a walk with the flag `counting` promises: where days are counted P, where they are not the counts as they were
+--     WhereCounted                   what a walk promises by its `COUNTING`: where days are counted P, where they are not the counts as they were
 --     pending_on new m e              m on the day new, else 0
 --     PendingHistogram g n new m xs  the same but for m rows that are still to be counted on the day new
 --     Adding, Removing               m rows more with a time, and one fewer
@@ -36,8 +36,8 @@ pub record Histogram (g : ℕ → ℕ) (n : ℕ) (xs : List ℕ) : Type 0 where
   pub long : length xs ≡ 1025
   pub each : (e : ℕ) → e < 1025 → get_or xs e 0 ≡ count (λ j. eqb (g j) e) n
 
-abbrev pub CountsBy : (d f g : List ℕ) (s hi : ℕ) (times xs : List ℕ) → Type 0
-CountsBy d f g s hi times xs = Histogram (time_by (table_of d f g) (estimate times) s hi) (length d) xs
+abbrev pub CountsBy : (t : Table) (s hi : ℕ) (times xs : List ℕ) → Type 0
+CountsBy t s hi times xs = Histogram (time_by t (estimate times) s hi) (size t) xs
 
 -- xs the counts before, xs' those after
 pub record WhereCounted (counting : Bool) (P : Type 0) (xs xs' : List ℕ) : Type 0 where
@@ -113,18 +113,18 @@ abbrev pub Timed : Table → Query → ℕ → ℕ → ℕ → List ℕ → Type
 Timed t q hi s n xs = Histogram (row_time t q hi s) n xs
 
 -- the times of a start, of which counts are made or taken
-pub record CountAsks (d f g : List ℕ) (p : Frame) (end : ℕ) (times : List ℕ) : Type 0 where
-  pub known : TimesKnown d f g p end times
+pub record CountAsks (t : Table) (p : Frame) (end : ℕ) (times : List ℕ) : Type 0 where
+  pub known : TimesKnown t p end times
   pub in_days : p.stop ≤ 1024
 
 -- the rows below next are those dated up to the first day, and are counted still
-pub record DropAsks (d f g : List ℕ) (p : Frame) (next : ℕ) (counts : List ℕ) : Type 0 where
-  pub follows : Split d (p.start + 1) next
-  pub timed : Timed (table_of d f g) p.query p.stop p.start (length d) counts
+pub record DropAsks (t : Table) (p : Frame) (next : ℕ) (counts : List ℕ) : Type 0 where
+  pub follows : Split t.days (p.start + 1) next
+  pub timed : Timed t p.query p.stop p.start (size t) counts
 
 pub record Started (d f g sc : List ℕ) (p : Frame) (times slack counts : List ℕ) : Type 0 where
-  pub opened : ReadyPruned d f g sc p
+  pub opened : ReadyPruned (table_of d f g) sc p
   pub covered : Covered (table_of d f g) (estimate times) p.lo sc
-  pub times_are : CoreTimesAre d f g p times
+  pub times_are : CoreTimesAre (table_of d f g) p times
   pub slacks : Slack (table_of d f g) p.query p.start times slack
   pub timed : Timed (table_of d f g) p.query p.stop p.start (length d) counts

@@ -3,7 +3,7 @@
 --     RowStands d f s scratch u p  a row of u stands at place p of the adjacency, and each row's earlier row in its column
 --     RowRead t scratch lo u p r   r is that row, with its day and its other account; from lo on it says whether the row leads its pair
 use Rattle.std.specs.Prelude.{ℕ, ◌+◌, ◌*◌, ◌≤◌, ◌<◌, ◌≡◌, true, List, length, get_or}
-use Rattle.rings.specs.Table.{Table, table_of, size, day_of}
+use Rattle.rings.specs.Table.{Table, size, day_of}
 use Rattle.rings.specs.Ring.{touches}
 use Rattle.rings.specs.Sound.{Sound}
 use Rattle.rings.specs.Inner.Adjacency.{other_of, leads, Pairs}
@@ -13,13 +13,13 @@ pub record PlaceStands (d scratch : List ℕ) (p : ℕ) : Type 0 where
   pub place : 8192 + p < length scratch
   pub row : get_or scratch (8192 + p) 0 < length d
 
-pub record RowStands (d f s scratch : List ℕ) (u p : ℕ) : Type 0 where
-  pub sound : Sound d f s
-  pub long : 8192 + 4 * length d ≤ length scratch
-  pub pairs : Pairs (table_of d f s) scratch
-  pub place : p < 2 * length d
-  pub row : get_or scratch (8192 + p) 0 < length d
-  pub touch : touches (table_of d f s) (get_or scratch (8192 + p) 0) u ≡ true
+pub record RowStands (t : Table) (scratch : List ℕ) (u p : ℕ) : Type 0 where
+  pub sound : Sound t.days t.first t.second
+  pub long : 8192 + 4 * size t ≤ length scratch
+  pub pairs : Pairs t scratch
+  pub place : p < 2 * size t
+  pub row : get_or scratch (8192 + p) 0 < size t
+  pub touch : touches t (get_or scratch (8192 + p) 0) u ≡ true
 
 pub record RowRead (t : Table) (scratch : List ℕ) (lo u p : ℕ) (r : Incident) : Type 0 where
   pub row : r.row ≡ get_or scratch (8192 + p) 0

@@ -16,7 +16,7 @@
 --     AccountRemoval               the same while the rows of the account at the head of the queue are walked
 --     frame_of, next_frame           the frame of a start by its query and its numbers, and that of the start after it
 --     all_rows                      the removal before any row has left
---     PeelStateOf                  Fall with the numbers of a removal, for the table of three columns
+--     PeelStateOf                  Fall with the numbers of a removal, for a table
 --     HeadWaits, HeadWalked, Continues, QueueEmpty, RowRemovable  what the functions of src/peel.rt ask and promise beside the buffers
 --     Ready                        what peeling works on: an accepted table, its adjacency with the heads at the first day, and the setting
 --     Framed                       the same without an adjacency
@@ -29,7 +29,7 @@
 --     CoreTimesAre, TimesKnown     a list holds the core times of the accounts; beside the rows of the window
 use Rattle.std.specs.Prelude.{ℕ, ◌+◌, ◌-◌, ◌*◌, ◌≤◌, ◌<◌, ◌≡◌, ◌⊎◌, Bool, true, false, List, length, get_or, set, leb, ltb, eqb}
 use Rattle.rings.specs.Words.{◌and◌, no, count}
-use Rattle.rings.specs.Table.{Table, table_of, size, day_of, first_of, second_of}
+use Rattle.rings.specs.Table.{Table, size, day_of, first_of, second_of}
 use Rattle.rings.specs.Ring.{joins, touches, met, ring}
 use Rattle.rings.specs.CoreTimes.{never, account_time}
 use Rattle.rings.specs.Sound.{Sound}
@@ -168,53 +168,53 @@ frame_of q s e lo = record { query = q; start = s; stop = e; lo = lo }
 abbrev pub next_frame : Frame → ℕ → Frame
 next_frame p lo = record { query = p.query; start = p.start + 1; stop = p.stop; lo = lo }
 
-pub record Ready (d f s scratch : List ℕ) (p : Frame) : Type 0 where
-  pub sound : Sound d f s
-  pub adjacency : Adjacency (table_of d f s) p.start scratch
-  pub setting : Setting (table_of d f s) p.query p.start p.stop p.lo
+pub record Ready (t : Table) (scratch : List ℕ) (p : Frame) : Type 0 where
+  pub sound : Sound t.days t.first t.second
+  pub adjacency : Adjacency t p.start scratch
+  pub setting : Setting t p.query p.start p.stop p.lo
 
-pub record Framed (d f s : List ℕ) (p : Frame) : Type 0 where
-  pub sound : Sound d f s
-  pub setting : Setting (table_of d f s) p.query p.start p.stop p.lo
+pub record Framed (t : Table) (p : Frame) : Type 0 where
+  pub sound : Sound t.days t.first t.second
+  pub setting : Setting t p.query p.start p.stop p.lo
 
-pub record ReadyPairs (d f s scratch : List ℕ) (p : Frame) : Type 0 where
-  pub sound : Sound d f s
-  pub paired : Paired (table_of d f s) scratch
-  pub setting : Setting (table_of d f s) p.query p.start p.stop p.lo
+pub record ReadyPairs (t : Table) (scratch : List ℕ) (p : Frame) : Type 0 where
+  pub sound : Sound t.days t.first t.second
+  pub paired : Paired t scratch
+  pub setting : Setting t p.query p.start p.stop p.lo
 
-pub record ReadyPruned (d f s scratch : List ℕ) (p : Frame) : Type 0 where
-  pub sound : Sound d f s
-  pub pruned : PrunedAdjacency (table_of d f s) scratch
-  pub within : p.lo ≤ length d
-  pub setting : Setting (table_of d f s) p.query p.start p.stop p.lo
+pub record ReadyPruned (t : Table) (scratch : List ℕ) (p : Frame) : Type 0 where
+  pub sound : Sound t.days t.first t.second
+  pub pruned : PrunedAdjacency t scratch
+  pub within : p.lo ≤ size t
+  pub setting : Setting t p.query p.start p.stop p.lo
 
 -- no row has left, nobody waits: who is removed has no core time
 abbrev pub all_rows : ℕ → Removal
 all_rows end = record { day = never; end = end; head = 0; tail = 0 }
 
--- the state for the frame p and the removal m, of the table of three columns
-abbrev pub PeelStateOf : List ℕ → List ℕ → List ℕ → Frame → ℕ → Removal → List ℕ → List ℕ → List ℕ → Type 0
-PeelStateOf d f s p b m x l w = PeelState (table_of d f s) p b m.day m.end m.head m.tail nothing x l w
+-- the state for the frame p and the removal m, of a table
+abbrev pub PeelStateOf : Table → Frame → ℕ → Removal → List ℕ → List ℕ → List ℕ → Type 0
+PeelStateOf t p b m x l w = PeelState t p b m.day m.end m.head m.tail nothing x l w
 
 -- r goes on from m: for the same day, with the same rows left
-pub record Continues (d f s : List ℕ) (p : Frame) (m r : Removal) (x l w : List ℕ) : Type 0 where
-  pub state : PeelStateOf d f s p 4096 r x l w
+pub record Continues (t : Table) (p : Frame) (m r : Removal) (x l w : List ℕ) : Type 0 where
+  pub state : PeelStateOf t p 4096 r x l w
   pub day : r.day ≡ m.day
   pub end : r.end ≡ m.end
 
 -- somebody waits, at the head of the queue
-pub record HeadWaits (d f s : List ℕ) (p : Frame) (m : Removal) (x l w : List ℕ) : Type 0 where
-  pub state : PeelStateOf d f s p 4096 m x l w
+pub record HeadWaits (t : Table) (p : Frame) (m : Removal) (x l w : List ℕ) : Type 0 where
+  pub state : PeelStateOf t p 4096 m x l w
   pub some : m.head < m.tail
 
 -- and has been walked
-pub record HeadWalked (d f s : List ℕ) (p : Frame) (m r : Removal) (x l w : List ℕ) : Type 0 where
-  pub goes_on : Continues d f s p m r x l w
+pub record HeadWalked (t : Table) (p : Frame) (m r : Removal) (x l w : List ℕ) : Type 0 where
+  pub goes_on : Continues t p m r x l w
   pub head : r.head ≡ m.head + 1
 
 -- nobody waits any more
-pub record QueueEmpty (d f s : List ℕ) (p : Frame) (m r : Removal) (x l w : List ℕ) : Type 0 where
-  pub goes_on : Continues d f s p m r x l w
+pub record QueueEmpty (t : Table) (p : Frame) (m r : Removal) (x l w : List ℕ) : Type 0 where
+  pub goes_on : Continues t p m r x l w
   pub idle : r.head ≡ r.tail
 
 -- l holds, by account, the leading rows from lo on that are below end
@@ -223,22 +223,22 @@ pub record NeighbourCounts (t : Table) (lo end : ℕ) (l : List ℕ) : Type 0 wh
   pub rows : (u : ℕ) → u < 4096 → get_or l u 0 ≡ count (λ j. (leads t lo j and ltb j end) and touches t j u) (size t)
 
 -- the rows from the end of m on have left, and nobody waits
-pub record RowRemoval (d f s : List ℕ) (p : Frame) (m : Removal) (x l w : List ℕ) : Type 0 where
-  pub state : PeelStateOf d f s p 4096 m x l w
+pub record RowRemoval (t : Table) (p : Frame) (m : Removal) (x l w : List ℕ) : Type 0 where
+  pub state : PeelStateOf t p 4096 m x l w
   pub idle : m.head ≡ m.tail
-  pub above : (j : ℕ) → j < m.end → day_of (table_of d f s) j ≤ m.day
-  pub within : m.end ≤ length d
+  pub above : (j : ℕ) → j < m.end → day_of t j ≤ m.day
+  pub within : m.end ≤ size t
   pub from : p.lo ≤ m.end
-  pub dated : (j : ℕ) → j < m.end → (1 ≤ day_of (table_of d f s) j) × (day_of (table_of d f s) j ≤ p.stop)
+  pub dated : (j : ℕ) → j < m.end → (1 ≤ day_of t j) × (day_of t j ≤ p.stop)
 
 -- the same by the two numbers that go on from row to row: the day is that of the row that left last
-pub record RowsRemovedTo (d f s : List ℕ) (p : Frame) (end tail : ℕ) (x l w : List ℕ) : Type 0 where
+pub record RowsRemovedTo (t : Table) (p : Frame) (end tail : ℕ) (x l w : List ℕ) : Type 0 where
   pub day : ℕ
-  pub row_removal : RowRemoval d f s p (record { day = day; end = end; head = tail; tail = tail }) x l w
+  pub row_removal : RowRemoval t p (record { day = day; end = end; head = tail; tail = tail }) x l w
 
 -- a row is left
-pub record RowRemovable (d f s : List ℕ) (p : Frame) (end tail : ℕ) (x l w : List ℕ) : Type 0 where
-  pub rows_removed : RowsRemovedTo d f s p end tail x l w
+pub record RowRemovable (t : Table) (p : Frame) (end tail : ℕ) (x l w : List ℕ) : Type 0 where
+  pub rows_removed : RowsRemovedTo t p end tail x l w
   pub some : p.lo < end
 
 -- the rows dated by stop are those below end, and lo is among them or their end
@@ -249,12 +249,12 @@ pub record Span (d : List ℕ) (stop lo end : ℕ) : Type 0 where
   pub later : (j : ℕ) → end ≤ j → j < length d → stop < get_or d j 0
 
 -- x holds the core times of the accounts
-pub record CoreTimesAre (d f s : List ℕ) (p : Frame) (x : List ℕ) : Type 0 where
+pub record CoreTimesAre (t : Table) (p : Frame) (x : List ℕ) : Type 0 where
   pub long : length x ≡ 4096
-  pub times : (u : ℕ) → u < 4096 → get_or x u 0 ≡ account_time (table_of d f s) p.query p.stop p.start u
+  pub times : (u : ℕ) → u < 4096 → get_or x u 0 ≡ account_time t p.query p.stop p.start u
 
 -- the same beside the rows of the window, of a table without links
-pub record TimesKnown (d f s : List ℕ) (p : Frame) (end : ℕ) (x : List ℕ) : Type 0 where
-  pub framed : Framed d f s p
-  pub span : Span d p.stop p.lo end
-  pub times_are : CoreTimesAre d f s p x
+pub record TimesKnown (t : Table) (p : Frame) (end : ℕ) (x : List ℕ) : Type 0 where
+  pub framed : Framed t p
+  pub span : Span t.days p.stop p.lo end
+  pub times_are : CoreTimesAre t p x

@@ -15,7 +15,7 @@ use Rattle.rings.specs.Checks.{◌when◌}
 use Rattle.rings.specs.Buffers.{marks}
 use Rattle.rings.specs.RecallCall.{Columns, comes_after}
 use Rattle.rings.specs.declared.refusal.Refusal.TheVariants.{BadEntry}
-use Rattle.rings.specs.declared.refusal.Verdict.{Verdict}
+use Rattle.rings.specs.Refusals.{Verdict}
 
 abbrev pub entry_of : ℕ → ℕ → ℕ → Entry
 entry_of r s e = record { row = r; start = s; end = e }

@@ -27,7 +27,7 @@
 --     Raised                 the accounts whose times are others are among the first r of a list
 --     Rising                 all of it, between two scans
 --     Slack                  what a start hands on with its times
-use Rattle.std.specs.Prelude.{ℕ, max, ◌+◌, ◌-◌, ◌≤◌, ◌<◌, ◌≡◌, ◌⊎◌, Bool, true, false, List, length, get_or, set, leb}
+use Rattle.std.specs.Prelude.{Option, Some, None, ℕ, max, ◌+◌, ◌-◌, ◌≤◌, ◌<◌, ◌≡◌, ◌⊎◌, Bool, true, false, List, length, get_or, set, leb}
 use Rattle.rings.specs.Words.{◌and◌, suc_if, count}
 use Rattle.rings.specs.Table.{Table, table_of, size, day_of}
 use Rattle.rings.specs.Ring.{touches, met, ring}
@@ -133,24 +133,24 @@ pub record DayFound (t : Table) (x : ℕ → ℕ) (s k hi c u y slack : ℕ) : T
 
 -- the adjacency from the account's place on, and times that are days of the range or never
 pub record Scannable (d f g scratch : List ℕ) (p : Frame) (times : List ℕ) (s : Scan) : Type 0 where
-  pub opened : ReadyPruned d f g scratch p
+  pub opened : ReadyPruned (table_of d f g) scratch p
   pub small : s.account < 4096
   pub long : length times ≡ 4096
   pub days : Days p.stop times
   pub reading : Reading scratch s.account p.lo s.from
 
 -- a scan on one day of the range
-pub record ScanOn (d f g scratch : List ℕ) (p : Frame) (times : List ℕ) (s : Scan) : Type 0 where
-  pub lent : Scannable d f g scratch p times s
+pub record ScanOn (t : Table) (scratch : List ℕ) (p : Frame) (times : List ℕ) (s : Scan) : Type 0 where
+  pub lent : Scannable t.days t.first t.second scratch p times s
   pub in_range : s.day ≤ p.stop
-  pub every : Every (table_of d f g) (estimate times) p.lo s.account scratch
+  pub every : Every t (estimate times) p.lo s.account scratch
 
 -- a scan for the first day with enough supporters: none before the scan's day has them
-pub record ScanFrom (d f g scratch : List ℕ) (p : Frame) (times : List ℕ) (s : Scan) : Type 0 where
-  pub lent : Scannable d f g scratch p times s
+pub record ScanFrom (t : Table) (scratch : List ℕ) (p : Frame) (times : List ℕ) (s : Scan) : Type 0 where
+  pub lent : Scannable t.days t.first t.second scratch p times s
   pub bounded : s.budget ≤ 65536
-  pub every : (get_or times s.account 0 ≡ never → ⊥) → Every (table_of d f g) (estimate times) p.lo s.account scratch
-  pub short : Short (table_of d f g) (estimate times) p.start p.query.k p.stop (get_or times s.account 0) s.account s.day
+  pub every : (get_or times s.account 0 ≡ never → ⊥) → Every t (estimate times) p.lo s.account scratch
+  pub short : Short t (estimate times) p.start p.query.k p.stop (get_or times s.account 0) s.account s.day
 
 -- behind the queue's end there is room for one entry for each row of the account
 pub record RoomBehind (scratch : List ℕ) (s : Scan) (tail : ℕ) (queue : List ℕ) : Type 0 where
@@ -175,9 +175,9 @@ pub record DayFoundBy (t : Table) (p : Frame) (times : List ℕ) (s : Scan) (tim
   pub short_walk : walked ≤ 98304
 
 -- what a scan answers; where it gives up it says nothing
-abbrev pub FoundDayIs : FoundDay → Table → Frame → List ℕ → Scan → Type 0
-FoundDayIs (FoundDay.Found time slack walked) t p times s = DayFoundBy t p times s time slack walked
-FoundDayIs FoundDay.GaveUp t p times s = Unit {0}
+abbrev pub FoundDayIs : Option FoundDay → Table → Frame → List ℕ → Scan → Type 0
+FoundDayIs (Some found) t p times s = DayFoundBy t p times s found.time found.left found.walked
+FoundDayIs None t p times s = Unit {0}
 
 -- ---- who loses a supporter
 

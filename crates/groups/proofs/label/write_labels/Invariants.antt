@@ -5,14 +5,9 @@ use Rattle.groups.specs.Inner.{rows_of}
 use Rattle.groups.specs.Groups.{choose, none}
 use Rattle.rings.specs.Words.{marked}
 use lib.ListN.{length, get_or}
-use Prim.Native.Nat.{◌-◌}
 use Rattle.groups.proofs.label.write_labels.Given as goal
 
 abbrev pub invariant-loop-j : goal.invariant-loop-j
 invariant-loop-j l =
-    Written (λ i. choose (marked (rows_of l.marks) i) (get_or l.leaders (get_or l.first i 0) 0) none) none (length l.initial.labels) l.j
-    l.labels
-
-abbrev pub decreases-loop-j : goal.decreases-loop-j
-decreases-loop-j l =
-    l.end - l.j
+    Written (λ i. choose (marked (rows_of l.ring.marks.now) i) (get_or l.leaders (get_or l.ring.first.now i 0) 0) none)
+    none (length l.ring.days.now) l.j l.labels

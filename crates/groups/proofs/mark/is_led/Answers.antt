@@ -4,10 +4,10 @@ use Rattle.rings.specs.Words.{◌and◌, no}
 use borrow.Author.Tests.{eq-eqb, ne_eqb}
 use Rattle.groups.proofs.mark.is_led.Goals as goal
 
-pub returns-then-mark-eq0 : goal.returns-then-mark-eq0
+pub returns-then-mark-ne0 : goal.returns-then-mark-ne0
 unfolding ◌and◌ no
-returns-then-mark-eq0 c = simp (eq-eqb _ _ c.if-mark-eq0.true)
+returns-then-mark-ne0 c = simp (ne_eqb _ _ c.if-mark-ne0.true)
 
-pub returns : goal.returns
+pub returns-else-mark-ne0 : goal.returns-else-mark-ne0
 unfolding ◌and◌ no
-returns c = simp (ne_eqb _ _ c.if-mark-eq0.false)
+returns-else-mark-ne0 c = simp (eq-eqb _ _ c.if-mark-ne0.false)

@@ -2,14 +2,8 @@
 -- Assumes nothing.
 use native.Mathlib.Nat.{lt_of_le_of_lt, mul-le-mul}
 use native.Mathlib.Omega.{arith}
-use borrow.Author.Rules.{rules}
-use Rattle.listing.specs.LongestList.{longest}
 use Rattle.listing.proofs.longest.most.Goals as goal
 
 pub overflow_mul-result : goal.overflow_mul-result
 overflow_mul-result c =
     record { fits = lt_of_le_of_lt (mul-le-mul {n₂ = 1024} {m₂ = 1025} (omega arith) (omega arith)) (omega arith) }
-
-pub returns : goal.returns
-unfolding longest
-returns c = search rules

@@ -9,7 +9,6 @@ loop-row-init c =
     record {
       long = refl;
       passed = heads_start _ c.requires.pruned;
-      within = c.requires.ordered;
     }
 
 pub entry-a-requires : goal.entry-a-requires
@@ -32,12 +31,6 @@ pass_head-requires-in-loop-row c =
     )
     (second_small c.requires.sound (omega (arith, c.loop-row-test.true, c.requires.within)) c.entry-b.ensures)
 
-pub overflow_add-row : goal.overflow_add-row
-overflow_add-row c = omega (arith, c.loop-row-test.true, c.requires.within, c.requires.sound.most)
-
-pub loop-row-smaller : goal.loop-row-smaller
-loop-row-smaller c = omega (arith, c.loop-row-test.true)
-
 pub loop-row-preserved : goal.loop-row-preserved
 loop-row-preserved c =
     record {
@@ -46,11 +39,10 @@ loop-row-preserved c =
           (first_small c.requires.sound (omega (arith, c.loop-row-test.true, c.requires.within)) c.entry-a.ensures)
           (second_small c.requires.sound (omega (arith, c.loop-row-test.true, c.requires.within)) c.entry-b.ensures)
           c.pass_head.ensures c.pass_head-in-loop-row.ensures;
-      within = omega (arith, c.loop-row-test.true);
     }
 
 pub shape_of-scratch : goal.shape_of-scratch
 shape_of-scratch c = c.loop-row.invariant.long
 
 pub returns : goal.returns
-returns c = heads_end c.loop-row.invariant.passed c.loop-row.invariant.within
+returns c = heads_end c.loop-row.invariant.passed (c.loop-row.auto.row-end c.requires.ordered)

@@ -3,15 +3,11 @@ use Rattle.rings.proofs.HeadLaws.{resetting_start, resetting_few, resetting_next
 use Rattle.rings.proofs.heads.reset_heads.Goals as goal
 
 pub loop-u-init : goal.loop-u-init
-loop-u-init c =
-    record {
-      within = omega arith;
-      resetting = resetting_start _ _;
-    }
+loop-u-init c = resetting_start _ _
 
 pub entry-end-requires : goal.entry-end-requires
 entry-end-requires c =
-    omega (arith, c.loop-u-test.true, c.loop-u.invariant.resetting.else.long, c.requires.adjacency_at_some_day.adjacency.long)
+    omega (arith, c.loop-u-test.true, c.loop-u.invariant.else.long, c.requires.adjacency.long)
 
 pub overflow_add-u : goal.overflow_add-u
 overflow_add-u c = omega (arith, c.loop-u-test.true)
@@ -19,28 +15,18 @@ overflow_add-u c = omega (arith, c.loop-u-test.true)
 pub put-requires : goal.put-requires
 put-requires c =
     record {
-      place = omega (arith, c.loop-u-test.true, c.loop-u.invariant.resetting.else.long, c.requires.adjacency_at_some_day.adjacency.long);
-      number = resetting_few _ c.requires.sound.most c.loop-u.invariant.resetting;
+      place = omega (arith, c.loop-u-test.true, c.loop-u.invariant.else.long, c.requires.adjacency.long);
+      number = resetting_few _ c.args.payments.sound.most c.loop-u.invariant;
     }
-
-pub overflow_add-u-in-loop-u : goal.overflow_add-u-in-loop-u
-overflow_add-u-in-loop-u c = omega (arith, c.loop-u-test.true)
-
-pub loop-u-smaller : goal.loop-u-smaller
-loop-u-smaller c = omega (arith, c.loop-u-test.true)
 
 pub loop-u-preserved : goal.loop-u-preserved
 loop-u-preserved c =
-    record {
-      within = omega (arith, c.loop-u-test.true);
-      resetting =
-          resetting_next c.requires.adjacency_at_some_day.adjacency c.loop-u.invariant.resetting c.loop-u-test.true c.entry-end.ensures
-          c.put.ensures;
-    }
+    resetting_next c.requires.adjacency c.loop-u.invariant c.loop-u-test.true
+    c.entry-end.ensures c.put.ensures
 
 pub shape_of-scratch : goal.shape_of-scratch
-shape_of-scratch c = c.loop-u.invariant.resetting.else.long
+shape_of-scratch c = c.loop-u.invariant.else.long
 
 pub returns : goal.returns
 returns c =
-    resetting_end c.requires.adjacency_at_some_day.adjacency c.loop-u.invariant.resetting c.loop-u-test.false
+    resetting_end c.requires.adjacency c.loop-u.invariant c.loop-u-test.false

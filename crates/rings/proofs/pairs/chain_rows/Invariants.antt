@@ -1,5 +1,5 @@
 use mathlib.Core.List.{List}
-use Prim.Native.Nat.{ℕ, ◌-◌, ◌≤◌}
+use Prim.Native.Nat.{ℕ}
 use lib.ListN.{length}
 use mathlib.Core.Path.{◌≡◌}
 use Rattle.rings.specs.Table.{table_of}
@@ -9,14 +9,9 @@ use Rattle.rings.proofs.pairs.chain_rows.Given as goal
 -- what holds at the test of the loop
 pub record Held (days first second scratch₀ : List ℕ) (n : ℕ) (scratch : List ℕ) (j : ℕ) : Type 0 where
   pub rows : n ≡ length days
-  pub within : j ≤ length days
   pub long : length scratch ≡ length scratch₀
   pub chained : Chained (table_of days first second) j scratch
 
 abbrev pub invariant-loop-j : goal.invariant-loop-j
 invariant-loop-j l =
-    Held l.days l.first l.second l.initial.scratch l.n l.scratch l.j
-
-abbrev pub decreases-loop-j : goal.decreases-loop-j
-decreases-loop-j l =
-    length l.days - l.j
+    Held l.payments.days.now l.payments.first.now l.payments.second.now l.initial.scratch l.n l.scratch l.j

@@ -1,5 +1,5 @@
 use mathlib.Core.List.{List}
-use Prim.Native.Nat.{ℕ, ◌≤◌}
+use Prim.Native.Nat.{ℕ}
 use lib.ListN.{length}
 use mathlib.Core.Path.{◌≡◌}
 use Rattle.rings.specs.Table.{table_of}
@@ -14,13 +14,12 @@ pub record Held (days first second scratch₀ : List ℕ) (j : ℕ) (scratch : L
 
 -- what holds at the test of the loop over the rows
 pub record Held-rows (days first second scratch₀ scratch : List ℕ) (left : ℕ) : Type 0 where
-  pub within : left ≤ length days
   pub long : length scratch ≡ length scratch₀
   pub pairing : Pairing (table_of days first second) left scratch
 
 abbrev pub invariant-loop-p : goal.invariant-loop-p
 invariant-loop-p l =
-    Held l.days l.first l.second l.initial.scratch l.j l.scratch l.p
+    Held l.payments.days.now l.payments.first.now l.payments.second.now l.initial.scratch l.j l.scratch l.p
 
 abbrev pub decreases-loop-p : goal.decreases-loop-p
 decreases-loop-p l =
@@ -28,8 +27,4 @@ decreases-loop-p l =
 
 abbrev pub invariant-rows : goal.invariant-rows
 invariant-rows l =
-    Held-rows l.days l.first l.second l.initial.scratch l.scratch l.left
-
-abbrev pub decreases-rows : goal.decreases-rows
-decreases-rows l =
-    l.left
+    Held-rows l.payments.days.now l.payments.first.now l.payments.second.now l.initial.scratch l.scratch l.j

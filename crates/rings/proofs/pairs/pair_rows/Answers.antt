@@ -4,17 +4,11 @@ use Rattle.rings.proofs.pairs.pair_rows.Goals as goal
 
 pub chain_rows-requires : goal.chain_rows-requires
 chain_rows-requires c =
-    record {
-      sound = c.requires.sound;
-      chained = chain_start _ _ _ c.requires.sound c.requires.days_in_bounds c.clear_slots.ensures;
-    }
+    chain_start _ _ _ c.args.payments.sound c.requires c.clear_slots.ensures
 
 pub find_pairs-requires : goal.find_pairs-requires
 find_pairs-requires c =
-    record {
-      sound = c.requires.sound;
-      pairing = pairing_start _ _ _ c.requires.sound c.chain_rows.ensures;
-    }
+    pairing_start _ _ _ c.args.payments.sound c.chain_rows.ensures
 
 pub returns : goal.returns
 returns c =

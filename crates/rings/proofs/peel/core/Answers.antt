@@ -8,14 +8,14 @@ count_neighbours-requires c =
     record {
       ready = c.requires.ready;
       span = c.requires.span;
-      neighbour_counts = counted_start _ _ _ _ _ c.requires.ready c.args.left.now c.requires.peel_buffers.left c.clear-2.ensures;
+      neighbour_counts = counted_start _ _ _ _ _ c.requires.ready c.args.left.now c.requires.peel_buffers.left (c.fill-2.ensures.after (λ y e. e));
     }
 
 pub queue_low_degree-low-requires : goal.queue_low_degree-low-requires
 queue_low_degree-low-requires c =
     record {
       ready = c.requires.ready;
-      peel_state_of = core_start _ _ _ _ _ c.requires.ready c.requires.span c.requires.peel_buffers c.clear.ensures c.count_neighbours.ensures;
+      peel_state_of = core_start _ _ _ _ _ c.requires.ready c.requires.span c.requires.peel_buffers (c.fill.ensures.after (λ y e. e)) c.count_neighbours.ensures;
     }
 
 pub remove_queued-requires : goal.remove_queued-requires
@@ -26,12 +26,12 @@ remove_queued-requires c =
     }
 
 pub shape_of-times : goal.shape_of-times
-shape_of-times c = c.remove_queued.auto.times ∙ (c.queue_low_degree-low.auto.times ∙ c.clear.auto.s)
+shape_of-times c = c.remove_queued.auto.times ∙ (c.queue_low_degree-low.auto.times ∙ c.fill.auto.self)
 
 pub shape_of-left : goal.shape_of-left
 shape_of-left c =
     c.remove_queued.auto.left ∙
-    (c.queue_low_degree-low.auto.left ∙ (c.count_neighbours.auto.left ∙ c.clear-2.auto.s))
+    (c.queue_low_degree-low.auto.left ∙ (c.count_neighbours.auto.left ∙ c.fill-2.auto.self))
 
 pub returns : goal.returns
 returns c =

@@ -4,6 +4,7 @@ use Rattle.rings.proofs.PeelLoopLaws.{count_end}
 use Rattle.rings.proofs.CountNeighbourLaws.{count_start, count_below, count_place, count_first, count_second}
 use Rattle.rings.proofs.CountNeighbourLaws.{count_skip, count_row}
 use Rattle.rings.proofs.peel.count_neighbours.Goals as goal
+use Rattle.rings.proofs.peel.count_neighbours.Goals.{then-leads, else-leads}
 
 pub loop-j-init : goal.loop-j-init
 loop-j-init c = count_start _ _ _ _ _ c.requires.ready c.requires.span c.requires.neighbour_counts
@@ -54,31 +55,19 @@ put-requires-then-leads c =
     c.entry-b.ensures c.entry-x.ensures c.put.ensures c.entry-y.ensures in
     record { place = second.0; number = omega arith }
 
-pub overflow_add-j : goal.overflow_add-j
-overflow_add-j c =
-    omega (
-      arith,
-      count_below _ _ _ _ _ c.requires.ready c.loop-j.invariant c.loop-j-test.true c.requires.span,
-      c.requires.ready.sound.most,
-    )
-
-pub loop-j-smaller-then-leads : goal.loop-j-smaller-then-leads
-loop-j-smaller-then-leads c = omega (arith, c.loop-j-test.true)
-
-pub loop-j-preserved-then-leads : goal.loop-j-preserved-then-leads
-loop-j-preserved-then-leads c =
-    count_row _ _ _ _ _ c.requires.ready c.loop-j.invariant c.loop-j-test.true c.requires.span c.leads.ensures c.if-leads.true
-    c.entry-a.ensures c.entry-b.ensures c.entry-x.ensures c.put.ensures c.entry-y.ensures c.put-then-leads.ensures
-
-pub overflow_add-j-in-loop-j : goal.overflow_add-j-in-loop-j
-overflow_add-j-in-loop-j c = omega (arith, count_below _ _ _ _ _ c.requires.ready c.loop-j.invariant c.loop-j-test.true c.requires.span, c.requires.ready.sound.most)
-
-pub loop-j-smaller : goal.loop-j-smaller
-loop-j-smaller c = omega (arith, c.loop-j-test.true)
-
 pub loop-j-preserved : goal.loop-j-preserved
 loop-j-preserved c =
-    count_skip _ _ _ _ _ c.requires.ready c.loop-j.invariant c.loop-j-test.true c.requires.span c.leads.ensures c.if-leads.false
+    elim c.if-leads.branch [
+      | then-leads w ↦ rw w.left-is (
+          count_row _ _ _ _ _ c.requires.ready c.loop-j.invariant c.loop-j-test.true c.requires.span c.leads.ensures
+          w.if-leads.true w.entry-a.ensures w.entry-b.ensures w.entry-x.ensures w.put.ensures w.entry-y.ensures
+          w.put-then-leads.ensures
+          )
+      | else-leads w ↦ rw w.left-is (
+          count_skip _ _ _ _ _ c.requires.ready c.loop-j.invariant c.loop-j-test.true c.requires.span c.leads.ensures
+          w.if-leads.false
+          )
+    ]
 
 pub shape_of-left : goal.shape_of-left
 shape_of-left c = c.loop-j.invariant.lengths

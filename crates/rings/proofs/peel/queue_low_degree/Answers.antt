@@ -2,6 +2,7 @@ use native.Mathlib.Omega.{arith}
 use Rattle.rings.proofs.PeelStartLaws.{low_degree_start, low_degree_end, low_degree_small, low_degree_room}
 use Rattle.rings.proofs.PeelStartLaws.{low_degree_left, low_degree_keep, low_degree_removal}
 use Rattle.rings.proofs.peel.queue_low_degree.Goals as goal
+use Rattle.rings.proofs.peel.queue_low_degree.Goals.{then-left-u, else-left-u}
 
 pub loop-u-init : goal.loop-u-init
 loop-u-init c = low_degree_start _ _ _ _ _ c.requires.ready c.requires.peel_state_of
@@ -27,24 +28,25 @@ pub overflow_add-tail : goal.overflow_add-tail
 overflow_add-tail c =
     let small = low_degree_small _ _ _ _ _ c.requires.ready c.loop-u.invariant c.loop-u-test.true in omega (arith, small)
 
-pub overflow_add-u : goal.overflow_add-u
-overflow_add-u c = omega (arith, c.loop-u-test.true)
-
-pub loop-u-smaller-then-left-u : goal.loop-u-smaller-then-left-u
-loop-u-smaller-then-left-u c = omega (arith, c.loop-u-test.true)
-
-pub loop-u-preserved-then-left-u : goal.loop-u-preserved-then-left-u
-loop-u-preserved-then-left-u c =
-    low_degree_removal _ _ _ _ _ c.requires.ready c.loop-u.invariant c.loop-u-test.true c.if-left-u.true c.put.ensures c.put-then-left-u.ensures
-
-pub overflow_add-u-in-loop-u : goal.overflow_add-u-in-loop-u
-overflow_add-u-in-loop-u c = omega (arith, c.loop-u-test.true)
-
-pub loop-u-smaller : goal.loop-u-smaller
-loop-u-smaller c = omega (arith, c.loop-u-test.true)
-
 pub loop-u-preserved : goal.loop-u-preserved
-loop-u-preserved c = low_degree_keep _ _ _ _ _ c.requires.ready c.loop-u.invariant c.loop-u-test.true c.if-left-u.false
+loop-u-preserved c =
+    elim c.if-left-u.branch [
+      | then-left-u w ↦ rw w.times-is (
+          rw w.queue-is (
+          rw w.tail-is (
+          low_degree_removal _ _ _ _ _ c.requires.ready c.loop-u.invariant c.loop-u-test.true w.if-left-u.true
+          w.put.ensures w.put-then-left-u.ensures
+          )
+          )
+          )
+      | else-left-u w ↦ rw w.times-is (
+          rw w.queue-is (
+          rw w.tail-is (
+          low_degree_keep _ _ _ _ _ c.requires.ready c.loop-u.invariant c.loop-u-test.true w.if-left-u.false
+          )
+          )
+          )
+    ]
 
 pub shape_of-times : goal.shape_of-times
 shape_of-times c = c.loop-u.invariant.times_length

@@ -1,8 +1,9 @@
 use native.Mathlib.Omega.{arith}
 use Rattle.rings.proofs.RemoveAccountLaws.{head_small, head_place, removing_small}
-use Rattle.rings.proofs.RemoveAccountLaws.{removing_start, removing_stands, removing_few, removing_stop}
+use Rattle.rings.proofs.RemoveAccountLaws.{removing_start, removing_stands, removing_stop}
 use Rattle.rings.proofs.RemoveAccountLaws.{removing_out, removing_room, removing_drop, removing_skip}
 use Rattle.rings.proofs.peel.remove_account.Goals as goal
+use Rattle.rings.proofs.peel.remove_account.Goals.{then-frame-j, else-frame-j}
 
 pub entry-u-requires : goal.entry-u-requires
 entry-u-requires c = head_place _ _ _ _ _ c.requires.ready c.requires.head_waits
@@ -14,13 +15,9 @@ entry-end-requires c =
 pub overflow_add-u : goal.overflow_add-u
 overflow_add-u c = omega (arith, removing_small _ _ _ _ _ c.requires.ready c.requires.head_waits c.entry-u.ensures)
 
-pub entry-p-requires : goal.entry-p-requires
-entry-p-requires c =
-    omega (arith, removing_small _ _ _ _ _ c.requires.ready c.requires.head_waits c.entry-u.ensures, c.requires.ready.adjacency.long)
-
 pub loop-p-init : goal.loop-p-init
 loop-p-init c =
-    removing_start _ _ _ _ _ c.requires.ready c.requires.head_waits c.entry-u.ensures c.entry-end.ensures c.entry-p.ensures
+    removing_start _ _ _ _ _ c.requires.ready c.requires.head_waits c.entry-u.ensures c.entry-end.ensures c.entry-head.ensures
 
 pub row_at-here-requires : goal.row_at-here-requires
 row_at-here-requires c = removing_stands _ _ _ _ _ c.requires.ready c.loop-p.invariant c.loop-p-test.true
@@ -41,28 +38,35 @@ pub returns-then-removal-j : goal.returns-then-removal-j
 returns-then-removal-j c =
     removing_stop _ _ _ _ _ c.requires.ready c.loop-p.invariant c.loop-p-test.true c.row_at-here.ensures c.if-removal-j.true
 
-pub overflow_add-p : goal.overflow_add-p
-overflow_add-p c = omega (arith, removing_few _ _ _ _ _ c.requires.ready c.loop-p.invariant c.loop-p-test.true)
-
 pub drop_neighbour-tail-requires : goal.drop_neighbour-tail-requires
 drop_neighbour-tail-requires c =
     removing_room _ _ _ _ _ c.requires.ready c.loop-p.invariant c.loop-p-test.true c.row_at-here.ensures c.if-removal-j.false c.if-frame-j.true
 
-pub loop-p-smaller-then-frame-j : goal.loop-p-smaller-then-frame-j
-loop-p-smaller-then-frame-j c = omega (arith, c.loop-p-test.true)
-
-pub loop-p-preserved-then-frame-j : goal.loop-p-preserved-then-frame-j
-loop-p-preserved-then-frame-j c =
-    removing_drop _ _ _ _ _ c.requires.ready c.loop-p.invariant c.loop-p-test.true c.row_at-here.ensures c.if-removal-j.false c.if-frame-j.true
-    c.drop_neighbour-tail.auto.times c.drop_neighbour-tail.auto.left
-    c.drop_neighbour-tail.auto.queue c.drop_neighbour-tail.ensures
-
-pub loop-p-smaller : goal.loop-p-smaller
-loop-p-smaller c = omega (arith, c.loop-p-test.true)
-
 pub loop-p-preserved : goal.loop-p-preserved
 loop-p-preserved c =
-    removing_skip _ _ _ _ _ c.requires.ready c.loop-p.invariant c.loop-p-test.true c.row_at-here.ensures c.if-frame-j.false
+    elim c.if-frame-j.branch [
+      | then-frame-j w ↦ rw w.times-is (
+          rw w.left-is (
+          rw w.queue-is (
+          rw w.tail-is (
+          removing_drop _ _ _ _ _ c.requires.ready c.loop-p.invariant c.loop-p-test.true c.row_at-here.ensures
+          c.if-removal-j.false w.if-frame-j.true w.drop_neighbour-tail.auto.times w.drop_neighbour-tail.auto.left
+          w.drop_neighbour-tail.auto.queue w.drop_neighbour-tail.ensures
+          )
+          )
+          )
+          )
+      | else-frame-j w ↦ rw w.times-is (
+          rw w.left-is (
+          rw w.queue-is (
+          rw w.tail-is (
+          removing_skip _ _ _ _ _ c.requires.ready c.loop-p.invariant c.loop-p-test.true c.row_at-here.ensures
+          w.if-frame-j.false
+          )
+          )
+          )
+          )
+    ]
 
 pub overflow_add-result-2 : goal.overflow_add-result-2
 overflow_add-result-2 c = omega (arith, head_small _ _ _ _ _ c.requires.ready c.requires.head_waits)

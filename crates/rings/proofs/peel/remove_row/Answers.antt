@@ -9,18 +9,8 @@ use Rattle.rings.proofs.PeelLoopLaws.{remove_row_a_removed, remove_row_b_removed
 use Rattle.rings.proofs.PeelLoopLaws.{remove_row_room_b, remove_row_now, remove_row_left}
 use Rattle.rings.proofs.peel.remove_row.Goals as goal
 
-pub overflow_sub-j : goal.overflow_sub-j
-overflow_sub-j c = omega (arith, c.requires.row_removable.some)
-
-pub offset_bounds-days-j : goal.offset_bounds-days-j
-offset_bounds-days-j c =
-    omega (arith, remove_row_below _ _ _ _ _ c.requires.ready (c.requires.row_removable), c.requires.ready.sound.most)
-
-pub bounds-days-j : goal.bounds-days-j
-bounds-days-j c = remove_row_below _ _ _ _ _ c.requires.ready c.requires.row_removable
-
 pub leads-requires : goal.leads-requires
-leads-requires c = remove_row_place _ _ _ _ _ c.requires.ready c.requires.row_removable refl
+leads-requires c = remove_row_place _ _ _ _ _ c.requires.ready _ c.requires.row_removable refl
 
 pub entry-a-requires : goal.entry-a-requires
 entry-a-requires c =
@@ -32,29 +22,29 @@ entry-b-requires c =
 
 pub entry-requires : goal.entry-requires
 entry-requires c =
-    (remove_row_accounts _ _ _ _ _ c.requires.ready c.requires.row_removable refl c.entry-a.ensures c.entry-b.ensures).0
+    (remove_row_accounts _ _ _ _ _ c.requires.ready _ c.requires.row_removable refl c.entry-a.ensures c.entry-b.ensures).0
 
 pub returns-then-entry-ne0 : goal.returns-then-entry-ne0
 returns-then-entry-ne0 c =
-    remove_row_a_removed _ _ _ _ _ c.requires.ready c.requires.row_removable refl c.entry-a.ensures c.entry.ensures c.if-entry-ne0.true
+    remove_row_a_removed _ _ _ _ _ c.requires.ready _ c.requires.row_removable refl c.entry-a.ensures c.entry.ensures c.if-entry-ne0.true
 
 pub entry-requires-then-leads : goal.entry-requires-then-leads
 entry-requires-then-leads c =
-    (remove_row_accounts _ _ _ _ _ c.requires.ready c.requires.row_removable refl c.entry-a.ensures c.entry-b.ensures).1
+    (remove_row_accounts _ _ _ _ _ c.requires.ready _ c.requires.row_removable refl c.entry-a.ensures c.entry-b.ensures).1
 
 pub returns-then-entry-ne0-2 : goal.returns-then-entry-ne0-2
 returns-then-entry-ne0-2 c =
-    remove_row_b_removed _ _ _ _ _ c.requires.ready c.requires.row_removable refl c.entry-b.ensures c.entry-then-leads.ensures c.if-entry-ne0-2.true
+    remove_row_b_removed _ _ _ _ _ c.requires.ready _ c.requires.row_removable refl c.entry-b.ensures c.entry-then-leads.ensures c.if-entry-ne0-2.true
 
 pub drop_neighbour-one-requires : goal.drop_neighbour-one-requires
 drop_neighbour-one-requires c =
-    remove_row_room_a _ _ _ _ _ c.requires.ready c.requires.row_removable refl c.leads.ensures c.if-leads.true c.entry-a.ensures
+    remove_row_room_a _ _ _ _ _ c.requires.ready _ c.requires.row_removable refl c.leads.ensures c.if-leads.true c.entry-a.ensures
     c.entry-b.ensures
     c.entry.ensures c.entry-then-leads.ensures c.if-entry-ne0.false c.if-entry-ne0-2.false
 
 pub drop_neighbour-two-requires : goal.drop_neighbour-two-requires
 drop_neighbour-two-requires c =
-    remove_row_room_b _ _ _ _ _ c.requires.ready c.requires.row_removable refl c.leads.ensures c.if-leads.true c.entry-a.ensures
+    remove_row_room_b _ _ _ _ _ c.requires.ready _ c.requires.row_removable refl c.leads.ensures c.if-leads.true c.entry-a.ensures
     c.entry-b.ensures
     c.entry.ensures c.entry-then-leads.ensures c.if-entry-ne0.false c.if-entry-ne0-2.false c.drop_neighbour-one.ensures
 
@@ -62,15 +52,15 @@ pub remove_queued-idle-requires : goal.remove_queued-idle-requires
 remove_queued-idle-requires c =
     record {
       ready = c.requires.ready;
-      peel_state_of = remove_row_now _ _ _ _ _ c.requires.ready c.requires.row_removable refl c.leads.ensures c.if-leads.true c.entry-a.ensures c.entry-b.ensures
+      peel_state_of = remove_row_now _ _ _ _ _ c.requires.ready _ c.requires.row_removable refl c.leads.ensures c.if-leads.true c.entry-a.ensures c.entry-b.ensures
           c.entry.ensures c.entry-then-leads.ensures c.if-entry-ne0.false c.if-entry-ne0-2.false c.drop_neighbour-one.ensures
           c.drop_neighbour-two.ensures;
     }
 
 pub returns-then-leads : goal.returns-then-leads
 returns-then-leads c =
-    remove_row_left _ _ _ _ _ c.requires.ready c.requires.row_removable refl refl refl c.remove_queued-idle.ensures
+    remove_row_left _ _ _ _ _ c.requires.ready _ c.requires.row_removable refl refl refl c.remove_queued-idle.ensures
 
 pub returns : goal.returns
 returns c =
-    remove_row_old _ _ _ _ _ c.requires.ready c.requires.row_removable refl c.leads.ensures c.if-leads.false
+    remove_row_old _ _ _ _ _ c.requires.ready _ c.requires.row_removable refl c.leads.ensures c.if-leads.false

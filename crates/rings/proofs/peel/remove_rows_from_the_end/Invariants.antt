@@ -5,10 +5,6 @@ use Rattle.rings.proofs.peel.remove_rows_from_the_end.Given as goal
 -- have left, and nobody
 -- waits (PeelLoopLaws).
 -- Assumes nothing.
-abbrev pub invariant-loop-end : goal.invariant-loop-end
-invariant-loop-end l =
-    RemovingRows l.days l.first l.second l.frame l.end l.tail l.initial.times l.initial.left l.initial.queue l.times l.left l.queue
-
-abbrev pub decreases-loop-end : goal.decreases-loop-end
-decreases-loop-end l =
-    l.end
+abbrev pub invariant-loop-j : goal.invariant-loop-j
+invariant-loop-j l =
+    RemovingRows l.payments.days.now l.payments.first.now l.payments.second.now l.frame l.j l.tail l.initial.times l.initial.left l.initial.queue l.times l.left l.queue

@@ -2,6 +2,7 @@ use native.Mathlib.Omega.{arith}
 use mathlib.Core.Path.{refl, ◌∙◌}
 use Rattle.rings.proofs.PruneLaws.{pruning_all_start, pruning_all_next}
 use Rattle.rings.proofs.prune.prune.Goals as goal
+use Rattle.rings.proofs.prune.prune.Goals.{then-times-u, else-times-u}
 
 pub loop-u-init : goal.loop-u-init
 loop-u-init c =
@@ -16,19 +17,6 @@ offset_bounds-times-u c = omega (arith, c.loop-u-test.true)
 pub bounds-times-u : goal.bounds-times-u
 bounds-times-u c = omega (arith, c.loop-u-test.true, c.requires.times)
 
-pub overflow_add-u : goal.overflow_add-u
-overflow_add-u c = omega (arith, c.loop-u-test.true)
-
-pub loop-u-smaller-then-times-u : goal.loop-u-smaller-then-times-u
-loop-u-smaller-then-times-u c = omega (arith, c.loop-u-test.true)
-
-pub loop-u-preserved-then-times-u : goal.loop-u-preserved-then-times-u
-loop-u-preserved-then-times-u c =
-    record {
-      long = c.loop-u.invariant.long;
-      pruning_all = c.loop-u.invariant.pruning_all;
-    }
-
 pub prune_account-requires : goal.prune_account-requires
 prune_account-requires c =
     record {
@@ -38,18 +26,17 @@ prune_account-requires c =
       account = c.loop-u-test.true;
     }
 
-pub overflow_add-u-in-loop-u : goal.overflow_add-u-in-loop-u
-overflow_add-u-in-loop-u c = omega (arith, c.loop-u-test.true)
-
-pub loop-u-smaller : goal.loop-u-smaller
-loop-u-smaller c = omega (arith, c.loop-u-test.true)
-
 pub loop-u-preserved : goal.loop-u-preserved
 loop-u-preserved c =
-    record {
-      long = c.prune_account.ensures.long ∙ c.loop-u.invariant.long;
-      pruning_all = pruning_all_next c.loop-u.invariant.pruning_all c.loop-u-test.true c.prune_account.ensures;
-    }
+    elim c.if-times-u.branch [
+      | then-times-u w ↦ rw w.scratch-is (
+          record {
+            long = w.prune_account.ensures.long ∙ c.loop-u.invariant.long;
+            pruning_all = pruning_all_next c.loop-u.invariant.pruning_all c.loop-u-test.true w.prune_account.ensures;
+          }
+          )
+      | else-times-u w ↦ rw w.scratch-is c.loop-u.invariant
+    ]
 
 pub shape_of-scratch : goal.shape_of-scratch
 shape_of-scratch c = c.loop-u.invariant.long

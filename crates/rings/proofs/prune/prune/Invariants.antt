@@ -1,5 +1,5 @@
 use mathlib.Core.List.{List}
-use Prim.Native.Nat.{ℕ, ◌-◌}
+use Prim.Native.Nat.{ℕ}
 use mathlib.Core.Path.{◌≡◌}
 use lib.ListN.{length}
 use Rattle.rings.specs.Inner.Peeling.{estimate}
@@ -14,8 +14,4 @@ pub record Held (days first second scratch₀ times scratch : List ℕ) : Type 0
 
 abbrev pub invariant-loop-u : goal.invariant-loop-u
 invariant-loop-u l =
-    Held l.days l.first l.second l.initial.scratch l.times l.scratch
-
-abbrev pub decreases-loop-u : goal.decreases-loop-u
-decreases-loop-u l =
-    4096 - l.u
+    Held l.payments.days.now l.payments.first.now l.payments.second.now l.initial.scratch l.times l.scratch

@@ -11,14 +11,11 @@ entry-last-requires c = omega (arith, c.requires.account, c.requires.pruned.long
 pub overflow_add-u : goal.overflow_add-u
 overflow_add-u c = omega (arith, c.requires.account)
 
-pub entry-p-requires : goal.entry-p-requires
-entry-p-requires c = omega (arith, c.requires.account, c.requires.pruned.long)
-
 pub loop-p-init : goal.loop-p-init
 loop-p-init c =
     record {
       cursor = c.entry-last.ensures;
-      pruning = pruning_start _ (c.requires.pruned.pruned_list _ c.requires.account) c.entry-p.ensures;
+      pruning = pruning_start _ (c.requires.pruned.pruned_list _ c.requires.account) c.entry-head.ensures;
     }
 
 pub row_at-here-requires : goal.row_at-here-requires
@@ -52,13 +49,6 @@ overflow_add-end-in-loop-p c =
       c.wide-end.ensures,
       picked_most c.one.ensures,
     )
-
-pub overflow_add-p : goal.overflow_add-p
-overflow_add-p c =
-    omega (arith, pruning_few c.requires.pruned c.requires.account c.loop-p.invariant.pruning c.requires.sound.most)
-
-pub loop-p-smaller : goal.loop-p-smaller
-loop-p-smaller c = omega (arith, c.loop-p-test.true)
 
 pub loop-p-preserved : goal.loop-p-preserved
 loop-p-preserved c =

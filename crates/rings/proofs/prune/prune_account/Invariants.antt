@@ -1,5 +1,5 @@
 use mathlib.Core.List.{List}
-use Prim.Native.Nat.{ℕ, ◌-◌}
+use Prim.Native.Nat.{ℕ}
 use mathlib.Core.Path.{◌≡◌}
 use lib.ListN.{get_or}
 use Rattle.rings.specs.Table.{table_of}
@@ -14,8 +14,4 @@ pub record Held (days first second scratch₀ times : List ℕ) (u last : ℕ) (
 
 abbrev pub invariant-loop-p : goal.invariant-loop-p
 invariant-loop-p l =
-    Held l.days l.first l.second l.initial.scratch l.times l.u l.last l.scratch l.p l.end
-
-abbrev pub decreases-loop-p : goal.decreases-loop-p
-decreases-loop-p l =
-    l.last - l.p
+    Held l.payments.days.now l.payments.first.now l.payments.second.now l.initial.scratch l.times l.u l.last l.scratch l.p l.end

@@ -2,14 +2,8 @@
 -- passed is at hand (proofs/RecallLaws.antt).
 -- Assumes nothing.
 use Rattle.rings.proofs.RecallLaws.{Judged}
-use lib.ListN.{length}
-use Prim.Native.Nat.{◌-◌}
 use Rattle.rings.proofs.recalling.check_entries.Given as goal
 
 abbrev pub invariant-loop-j : goal.invariant-loop-j
 invariant-loop-j l =
     Judged l.days l.rows l.starts l.ends l.lastrow l.laststart l.lastend l.j
-
-abbrev pub decreases-loop-j : goal.decreases-loop-j
-decreases-loop-j l =
-    length l.rows - l.j

@@ -1,22 +1,15 @@
--- `recalling::check_window` meets its contract: each return rewrites 7 by the tests that led there.
+-- `recalling::check_window` meets its contract: 7 is refused where the two days are no window.
 -- Assumes nothing.
-use Rattle.rings.specs.Checks.{◌when◌, range_check}
-use Rattle.rings.specs.Words.{◌and◌, no}
-use borrow.Author.Tests.{le-leb, lt-leb}
+use mathlib.Core.Path.{sym, ◌∙◌}
+use Rattle.rings.specs.Checks.{range_check}
+use Rattle.rings.specs.declared.refusal.Refusal.TheVariants.{BadRange}
+use Rattle.rings.proofs.CheckLaws.{passes, fails}
 use Rattle.rings.proofs.recalling.check_window.Goals as goal
 
-pub returns-then-s-lt1 : goal.returns-then-s-lt1
-unfolding range_check ◌when◌ ◌and◌ no
-returns-then-s-lt1 c = simp (lt-leb _ _ c.if-s-lt1.true)
+pub returns-then-is_window : goal.returns-then-is_window
+unfolding range_check
+returns-then-is_window c = sym (passes BadRange (sym c.is_window.ensures ∙ c.if-is_window.true))
 
-pub returns-then-e-s : goal.returns-then-e-s
-unfolding range_check ◌when◌ ◌and◌ no
-returns-then-e-s c = simp (le-leb _ _ c.if-s-lt1.false, lt-leb _ _ c.if-e-s.true)
-
-pub returns-then-e-gt-LAST_DAY : goal.returns-then-e-gt-LAST_DAY
-unfolding range_check ◌when◌ ◌and◌ no
-returns-then-e-gt-LAST_DAY c = simp (le-leb _ _ c.if-s-lt1.false, le-leb _ _ c.if-e-s.false, lt-leb _ _ c.if-e-gt-LAST_DAY.true)
-
-pub returns : goal.returns
-unfolding range_check ◌when◌ ◌and◌ no
-returns c = simp (le-leb _ _ c.if-s-lt1.false, le-leb _ _ c.if-e-s.false, le-leb _ _ c.if-e-gt-LAST_DAY.false)
+pub returns-else-is_window : goal.returns-else-is_window
+unfolding range_check
+returns-else-is_window c = sym (fails BadRange (sym c.is_window.ensures ∙ c.if-is_window.false))

@@ -7,7 +7,7 @@ use Rattle.rings.proofs.scan.find_day.Given as goal
 
 abbrev pub invariant-loop-c : goal.invariant-loop-c
 invariant-loop-c l =
-    Short (table_of l.days l.first l.second) (estimate l.times) l.frame.start l.frame.query.k l.frame.stop
+    Short (table_of l.payments.days.now l.payments.first.now l.payments.second.now) (estimate l.times) l.frame.start l.frame.query.k l.frame.stop
     (get_or l.times l.scan.account 0) l.scan.account l.c
     × (l.walked ≤ l.scan.budget + 32768)
 

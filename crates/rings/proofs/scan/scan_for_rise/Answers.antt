@@ -16,13 +16,11 @@ entry-last-requires c = omega (arith, c.requires.scan_on.lent.small, c.requires.
 pub loop-p-init : goal.loop-p-init
 loop-p-init c =
     record {
-      cursor = c.entry-last.ensures;
       rise_scan =
           rise_scan_start _ _ _ _ _ c.requires.scan_on.lent.opened _ c.requires.scan_on.lent.long c.requires.scan_on.lent.days
           c.requires.scan_on.lent.small
           c.requires.scan_on.in_range c.requires.scan_on.every _
           _ c.requires.room_behind.long c.requires.scan_on.lent.reading;
-      from = le_refl _;
       few = omega (
         arith,
         c.requires.scan_on.lent.reading.to,
@@ -37,11 +35,11 @@ pub day_at-day-requires : goal.day_at-day-requires
 day_at-day-requires c =
     stands_place (
     reading_stands _ _ _ _ c.requires.scan_on.lent.opened.sound c.requires.scan_on.lent.opened.pruned c.requires.scan_on.lent.small
-    c.loop-p.invariant.rise_scan.reading c.loop-p.invariant.cursor c.loop-p-test.true
+    c.loop-p.invariant.rise_scan.reading c.entry-last.ensures c.loop-p-test.true
     )
 
 pub overflow_sub-result : goal.overflow_sub-result
-overflow_sub-result c = omega (arith, c.loop-p.invariant.from)
+overflow_sub-result c = omega (arith, c.loop-p.auto.p)
 
 pub shape_of-queue-then-is_over : goal.shape_of-queue-then-is_over
 shape_of-queue-then-is_over c = c.loop-p.invariant.rise_scan.behind.long ∙ sym c.requires.room_behind.long
@@ -51,7 +49,7 @@ returns-then-is_over c =
     let row =
     row_known (reading_stands _ _ _ _ c.requires.scan_on.lent.opened.sound c.requires.scan_on.lent.opened.pruned
     c.requires.scan_on.lent.small
-    c.loop-p.invariant.rise_scan.reading c.loop-p.invariant.cursor c.loop-p-test.true) _ c.day_at-day.ensures
+    c.loop-p.invariant.rise_scan.reading c.entry-last.ensures c.loop-p-test.true) _ c.day_at-day.ensures
     in
     record {
       found =
@@ -60,37 +58,28 @@ returns-then-is_over c =
                 day_scan_over _ _ _ _ _ c.requires.scan_on.lent.opened _ c.requires.scan_on.lent.long c.requires.scan_on.lent.days
                 c.requires.scan_on.lent.small
                 c.requires.scan_on.in_range c.requires.scan_on.every
-                (as_day_scan c.loop-p.invariant.rise_scan) c.loop-p.invariant.cursor c.loop-p-test.true row
+                (as_day_scan c.loop-p.invariant.rise_scan) c.entry-last.ensures c.loop-p-test.true row
                 (c.is_over.ensures.yes c.if-is_over.true);
             short_walk = omega (arith, c.loop-p.invariant.few);
             few =
                 day_scan_most _ _ _ _ _ c.requires.scan_on.lent.opened _ c.requires.scan_on.lent.long c.requires.scan_on.lent.days
                 c.requires.scan_on.lent.small
                 c.requires.scan_on.in_range c.requires.scan_on.every
-                (as_day_scan c.loop-p.invariant.rise_scan) c.loop-p.invariant.cursor;
+                (as_day_scan c.loop-p.invariant.rise_scan) c.entry-last.ensures;
           };
-      within = omega (arith, c.requires.room_behind.room, c.loop-p.invariant.cursor, c.loop-p.invariant.room, c.loop-p-test.true);
+      within = omega (arith, c.requires.room_behind.room, c.entry-last.ensures, c.loop-p.invariant.room, c.loop-p-test.true);
       rise_scanned = λ few.
           rise_scan_over _ _ _ _ _ c.requires.scan_on.lent.opened _ c.requires.scan_on.lent.long c.requires.scan_on.lent.days
           c.requires.scan_on.lent.small
           c.requires.scan_on.in_range c.requires.scan_on.every _ _
-          c.loop-p.invariant.rise_scan c.loop-p.invariant.cursor c.loop-p-test.true row (c.is_over.ensures.yes c.if-is_over.true) few;
+          c.loop-p.invariant.rise_scan c.entry-last.ensures c.loop-p-test.true row (c.is_over.ensures.yes c.if-is_over.true) few;
       behind = c.loop-p.invariant.rise_scan.behind;
     }
 
 pub row_at-here-requires : goal.row_at-here-requires
 row_at-here-requires c =
     reading_stands _ _ _ _ c.requires.scan_on.lent.opened.sound c.requires.scan_on.lent.opened.pruned c.requires.scan_on.lent.small
-    c.loop-p.invariant.rise_scan.reading c.loop-p.invariant.cursor c.loop-p-test.true
-
-pub overflow_add-p : goal.overflow_add-p
-overflow_add-p c =
-    omega (
-      arith,
-      reading_few _ _ _ _ c.requires.scan_on.lent.opened.sound c.requires.scan_on.lent.opened.pruned c.requires.scan_on.lent.small
-          c.loop-p.invariant.rise_scan.reading
-          c.loop-p.invariant.cursor c.loop-p-test.true,
-    )
+    c.loop-p.invariant.rise_scan.reading c.entry-last.ensures c.loop-p-test.true
 
 pub offset_bounds-times-v : goal.offset_bounds-times-v
 offset_bounds-times-v c = omega (arith, c.row_at-here.ensures.small)
@@ -105,7 +94,7 @@ put-requires c =
         arith,
         c.requires.room_behind.long,
         c.requires.room_behind.room,
-        c.loop-p.invariant.cursor,
+        c.entry-last.ensures,
         c.loop-p.invariant.rise_scan.behind.long,
         c.loop-p.invariant.room,
         c.loop-p-test.true,
@@ -120,7 +109,7 @@ overflow_add-end c =
       picked_most c.one.ensures,
       c.wide-end.ensures,
       c.requires.room_behind.room,
-      c.loop-p.invariant.cursor,
+      c.entry-last.ensures,
       c.loop-p.invariant.room,
       c.loop-p-test.true,
     )
@@ -133,54 +122,49 @@ overflow_add-moved c =
       rise_scan_few _ _ _ _ _ c.requires.scan_on.lent.opened _ c.requires.scan_on.lent.long c.requires.scan_on.lent.days
           c.requires.scan_on.lent.small
           c.requires.scan_on.in_range c.requires.scan_on.every _ _
-          c.loop-p.invariant.rise_scan c.loop-p.invariant.cursor c.loop-p-test.true c.row_at-here.ensures,
+          c.loop-p.invariant.rise_scan c.entry-last.ensures c.loop-p-test.true c.row_at-here.ensures,
     )
 
 pub note_row-noted-requires : goal.note_row-noted-requires
 note_row-noted-requires c =
     day_scan_few _ _ _ _ _ c.requires.scan_on.lent.opened _ c.requires.scan_on.lent.long c.requires.scan_on.lent.days
     c.requires.scan_on.lent.small c.requires.scan_on.in_range c.requires.scan_on.every
-    (as_day_scan c.loop-p.invariant.rise_scan) c.loop-p.invariant.cursor c.loop-p-test.true c.row_at-here.ensures
-
-pub loop-p-smaller : goal.loop-p-smaller
-loop-p-smaller c = omega (arith, c.loop-p-test.true)
+    (as_day_scan c.loop-p.invariant.rise_scan) c.entry-last.ensures c.loop-p-test.true c.row_at-here.ensures
 
 pub loop-p-preserved : goal.loop-p-preserved
 loop-p-preserved c =
     let day = same_day c.row_at-here.ensures c.day_at-day.ensures in
     record {
-      cursor = c.loop-p.invariant.cursor;
       rise_scan =
           rise_scan_next _ _ _ _ _ c.requires.scan_on.lent.opened _ c.requires.scan_on.lent.long c.requires.scan_on.lent.days
           c.requires.scan_on.lent.small
           c.requires.scan_on.in_range c.requires.scan_on.every _ _
-          c.loop-p.invariant.rise_scan c.loop-p.invariant.cursor c.loop-p-test.true c.row_at-here.ensures
+          c.loop-p.invariant.rise_scan c.entry-last.ensures c.loop-p-test.true c.row_at-here.ensures
           (⊎_elim (λ h. omega (arith, h, c.requires.scan_on.in_range, day)) (λ h. omega (arith, h, day))
           (c.is_over.ensures.not c.if-is_over.false))
           refl
-          c.greater-z.ensures c.note_row-noted.ensures c.one-moved.ensures
+          c.max-z.ensures c.note_row-noted.ensures c.one-moved.ensures
           (omega (
             arith,
             c.requires.room_behind.long,
             c.requires.room_behind.room,
-            c.loop-p.invariant.cursor,
+            c.entry-last.ensures,
             c.loop-p.invariant.rise_scan.behind.long,
             c.loop-p.invariant.room,
             c.loop-p-test.true,
           ))
           c.put.ensures (picked_as c.wide-end.ensures c.one.ensures);
-      from = omega (arith, c.loop-p.invariant.from);
       few = omega (
         arith,
         reading_few _ _ _ _ c.requires.scan_on.lent.opened.sound c.requires.scan_on.lent.opened.pruned c.requires.scan_on.lent.small
             c.loop-p.invariant.rise_scan.reading
-            c.loop-p.invariant.cursor c.loop-p-test.true,
+            c.entry-last.ensures c.loop-p-test.true,
       );
       room = omega (arith, c.loop-p.invariant.room, picked_most c.one.ensures, c.wide-end.ensures);
     }
 
 pub overflow_sub-result-2 : goal.overflow_sub-result-2
-overflow_sub-result-2 c = omega (arith, c.loop-p.invariant.from)
+overflow_sub-result-2 c = omega (arith, c.loop-p.auto.p)
 
 pub shape_of-queue : goal.shape_of-queue
 shape_of-queue c = c.loop-p.invariant.rise_scan.behind.long ∙ sym c.requires.room_behind.long
@@ -194,19 +178,19 @@ returns c =
                 day_scan_out _ _ _ _ _ c.requires.scan_on.lent.opened _ c.requires.scan_on.lent.long c.requires.scan_on.lent.days
                 c.requires.scan_on.lent.small
                 c.requires.scan_on.in_range c.requires.scan_on.every
-                (as_day_scan c.loop-p.invariant.rise_scan) c.loop-p.invariant.cursor c.loop-p-test.false;
+                (as_day_scan c.loop-p.invariant.rise_scan) c.entry-last.ensures c.loop-p-test.false;
             short_walk = omega (arith, c.loop-p.invariant.few);
             few =
                 day_scan_most _ _ _ _ _ c.requires.scan_on.lent.opened _ c.requires.scan_on.lent.long c.requires.scan_on.lent.days
                 c.requires.scan_on.lent.small
                 c.requires.scan_on.in_range c.requires.scan_on.every
-                (as_day_scan c.loop-p.invariant.rise_scan) c.loop-p.invariant.cursor;
+                (as_day_scan c.loop-p.invariant.rise_scan) c.entry-last.ensures;
           };
-      within = omega (arith, c.requires.room_behind.room, c.loop-p.invariant.cursor, c.loop-p.invariant.room, c.loop-p.invariant.rise_scan.reading.to);
+      within = omega (arith, c.requires.room_behind.room, c.entry-last.ensures, c.loop-p.invariant.room, c.loop-p.invariant.rise_scan.reading.to);
       rise_scanned = λ few.
           rise_scan_out _ _ _ _ _ c.requires.scan_on.lent.opened _ c.requires.scan_on.lent.long c.requires.scan_on.lent.days
           c.requires.scan_on.lent.small
           c.requires.scan_on.in_range c.requires.scan_on.every _ _
-          c.loop-p.invariant.rise_scan c.loop-p.invariant.cursor c.loop-p-test.false;
+          c.loop-p.invariant.rise_scan c.entry-last.ensures c.loop-p-test.false;
       behind = c.loop-p.invariant.rise_scan.behind;
     }

@@ -3,7 +3,6 @@ use Rattle.rings.proofs.DayScanLaws.{day_scan_over, day_scan_mark}
 use Rattle.rings.proofs.PrunedLaws.{reading_few, reading_stands}
 use Rattle.rings.proofs.IncidentLaws.{stands_place, row_known, same_day}
 use mathlib.Core.Logic.{⊎_elim}
-use native.Mathlib.Nat.{le_refl}
 use native.Mathlib.Omega.{arith}
 use Rattle.rings.proofs.scan.scan_on_day.Goals as goal
 
@@ -13,10 +12,8 @@ entry-last-requires c = omega (arith, c.requires.lent.small, c.requires.lent.ope
 pub loop-p-init : goal.loop-p-init
 loop-p-init c =
     record {
-      cursor = c.entry-last.ensures;
       day_scan = day_scan_start _ _ _ _ _ c.requires.lent.opened _ c.requires.lent.long c.requires.lent.days c.requires.lent.small
           c.requires.in_range c.requires.every c.requires.lent.reading;
-      from = le_refl _;
       few =
           omega (
             arith,
@@ -30,41 +27,32 @@ pub day_at-day-requires : goal.day_at-day-requires
 day_at-day-requires c =
     stands_place (
     reading_stands _ _ _ _ c.requires.lent.opened.sound c.requires.lent.opened.pruned c.requires.lent.small
-    c.loop-p.invariant.day_scan.reading c.loop-p.invariant.cursor c.loop-p-test.true
+    c.loop-p.invariant.day_scan.reading c.entry-last.ensures c.loop-p-test.true
     )
 
 pub overflow_sub-result : goal.overflow_sub-result
-overflow_sub-result c = omega (arith, c.loop-p.invariant.from)
+overflow_sub-result c = omega (arith, c.loop-p.auto.p)
 
 pub returns-then-is_over : goal.returns-then-is_over
 returns-then-is_over c =
     let row =
     row_known (reading_stands _ _ _ _ c.requires.lent.opened.sound c.requires.lent.opened.pruned c.requires.lent.small
-    c.loop-p.invariant.day_scan.reading c.loop-p.invariant.cursor c.loop-p-test.true) _ c.day_at-day.ensures
+    c.loop-p.invariant.day_scan.reading c.entry-last.ensures c.loop-p-test.true) _ c.day_at-day.ensures
     in
     record {
       scanned = day_scan_over _ _ _ _ _ c.requires.lent.opened _ c.requires.lent.long c.requires.lent.days c.requires.lent.small
           c.requires.in_range c.requires.every c.loop-p.invariant.day_scan
-          c.loop-p.invariant.cursor c.loop-p-test.true row (c.is_over.ensures.yes c.if-is_over.true);
+          c.entry-last.ensures c.loop-p-test.true row (c.is_over.ensures.yes c.if-is_over.true);
       short_walk = omega (arith, c.loop-p.invariant.few);
       few = day_scan_most _ _ _ _ _ c.requires.lent.opened _ c.requires.lent.long c.requires.lent.days c.requires.lent.small
           c.requires.in_range c.requires.every c.loop-p.invariant.day_scan
-          c.loop-p.invariant.cursor;
+          c.entry-last.ensures;
     }
 
 pub row_at-here-requires : goal.row_at-here-requires
 row_at-here-requires c =
     reading_stands _ _ _ _ c.requires.lent.opened.sound c.requires.lent.opened.pruned c.requires.lent.small
-    c.loop-p.invariant.day_scan.reading c.loop-p.invariant.cursor c.loop-p-test.true
-
-pub overflow_add-p : goal.overflow_add-p
-overflow_add-p c =
-    omega (
-      arith,
-      reading_few _ _ _ _ c.requires.lent.opened.sound c.requires.lent.opened.pruned c.requires.lent.small
-          c.loop-p.invariant.day_scan.reading c.loop-p.invariant.cursor
-          c.loop-p-test.true,
-    )
+    c.loop-p.invariant.day_scan.reading c.entry-last.ensures c.loop-p-test.true
 
 pub offset_bounds-times-v : goal.offset_bounds-times-v
 offset_bounds-times-v c = omega (arith, c.row_at-here.ensures.small)
@@ -76,43 +64,38 @@ pub note_row-noted-requires : goal.note_row-noted-requires
 note_row-noted-requires c =
     day_scan_few _ _ _ _ _ c.requires.lent.opened _ c.requires.lent.long c.requires.lent.days c.requires.lent.small
     c.requires.in_range c.requires.every c.loop-p.invariant.day_scan
-    c.loop-p.invariant.cursor c.loop-p-test.true c.row_at-here.ensures
-
-pub loop-p-smaller : goal.loop-p-smaller
-loop-p-smaller c = omega (arith, c.loop-p-test.true)
+    c.entry-last.ensures c.loop-p-test.true c.row_at-here.ensures
 
 pub loop-p-preserved : goal.loop-p-preserved
 loop-p-preserved c =
     let day = same_day c.row_at-here.ensures c.day_at-day.ensures in
     record {
-      cursor = c.loop-p.invariant.cursor;
       day_scan = day_scan_mark _ _ _ _ _ c.requires.lent.opened _ c.requires.lent.long c.requires.lent.days c.requires.lent.small
           c.requires.in_range c.requires.every c.loop-p.invariant.day_scan
-          c.loop-p.invariant.cursor c.loop-p-test.true c.row_at-here.ensures
+          c.entry-last.ensures c.loop-p-test.true c.row_at-here.ensures
           (⊎_elim (λ h. omega (arith, h, c.requires.in_range, day)) (λ h. omega (arith, h, day))
           (c.is_over.ensures.not c.if-is_over.false))
-          c.greater-z.ensures
+          c.max-z.ensures
           c.pick.ensures c.note_row-noted.ensures;
-      from = omega (arith, c.loop-p.invariant.from);
       few = omega (
         arith,
         reading_few _ _ _ _ c.requires.lent.opened.sound c.requires.lent.opened.pruned c.requires.lent.small
-            c.loop-p.invariant.day_scan.reading c.loop-p.invariant.cursor
+            c.loop-p.invariant.day_scan.reading c.entry-last.ensures
             c.loop-p-test.true,
       );
     }
 
 pub overflow_sub-result-2 : goal.overflow_sub-result-2
-overflow_sub-result-2 c = omega (arith, c.loop-p.invariant.from)
+overflow_sub-result-2 c = omega (arith, c.loop-p.auto.p)
 
 pub returns : goal.returns
 returns c =
     record {
       scanned = day_scan_out _ _ _ _ _ c.requires.lent.opened _ c.requires.lent.long c.requires.lent.days c.requires.lent.small
           c.requires.in_range c.requires.every c.loop-p.invariant.day_scan
-          c.loop-p.invariant.cursor c.loop-p-test.false;
+          c.entry-last.ensures c.loop-p-test.false;
       short_walk = omega (arith, c.loop-p.invariant.few);
       few = day_scan_most _ _ _ _ _ c.requires.lent.opened _ c.requires.lent.long c.requires.lent.days c.requires.lent.small
           c.requires.in_range c.requires.every c.loop-p.invariant.day_scan
-          c.loop-p.invariant.cursor;
+          c.entry-last.ensures;
     }

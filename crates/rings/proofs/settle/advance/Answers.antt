@@ -39,13 +39,13 @@ peel_start-requires c =
 pub list_all-requires : goal.list_all-requires
 list_all-requires c = c.peel_start.auto.queue ∙ (c.step-found.auto.queue ∙ c.requires.queue_long)
 
-pub returns-in-Raised : goal.returns-in-Raised
-returns-in-Raised c =
-    let done = rw c.in-Raised.is at c.step-found.ensures in
+pub returns-in-Some : goal.returns-in-Some
+returns-in-Some c =
+    let done = rw c.in-Some.is at c.step-found.ensures in
     record { times_are = done.times_are; slacks = done.slacks; listed = done.listed }
 
-pub returns-in-GaveUp : goal.returns-in-GaveUp
-returns-in-GaveUp c =
+pub returns-in-None : goal.returns-in-None
+returns-in-None c =
     let done = rw c.next_frame-after.ensures at c.peel_start.ensures in
     record {
       times_are = done.times_are;

@@ -8,7 +8,7 @@ use native.Mathlib.Omega.{arith}
 use Rattle.rings.proofs.settle.drop_leaving_row.Goals as goal
 
 pub returns-then-tail-ge4351 : goal.returns-then-tail-ge4351
-returns-then-tail-ge4351 c = record { queued = λ h. absurd (omega (arith, h)); leaving = λ h. absurd (omega (arith, h)) }
+returns-then-tail-ge4351 c = tt
 
 pub offset_bounds-times-a : goal.offset_bounds-times-a
 offset_bounds-times-a c =
@@ -59,13 +59,20 @@ pub returns : goal.returns
 returns c =
     let small = first_small _ _ _ c.requires.drop_leaving_asks.placed.sound c.requires.j_in_bounds c.entry-a.ensures in
     record {
-      queued = λ h. queued_dropped_supporter (second_small _ _ _ c.requires.drop_leaving_asks.placed.sound c.requires.j_in_bounds c.entry-b.ensures)
+      within =
+          omega (
+            arith,
+            c.if-tail-ge4351.false,
+            dropped_supporter_on c.drop_supporter-mid.ensures,
+            dropped_supporter_on c.drop_supporter.ensures,
+          );
+      queued = queued_dropped_supporter (second_small _ _ _ c.requires.drop_leaving_asks.placed.sound c.requires.j_in_bounds c.entry-b.ensures)
           (omega (arith, c.if-tail-ge4351.false, dropped_supporter_on c.drop_supporter-mid.ensures))
           (dropped_supporter_less small c.requires.drop_leaving_asks.slack_long c.drop_supporter-mid.ensures).long
           (queued_dropped_supporter small (omega (arith, c.if-tail-ge4351.false)) c.requires.drop_leaving_asks.slack_long
           (queued_start _ _ _ c.requires.drop_leaving_asks.queue_long) c.drop_supporter-mid.ensures)
           c.drop_supporter.ensures;
-      leaving = λ h sp F.
+      leaving = λ sp F.
           leaving_row _ _ _ _ _ c.requires.drop_leaving_asks.placed.setting _ c.requires.drop_leaving_asks.times_long
           c.requires.drop_leaving_asks.days F c.requires.j_in_bounds
           (lead_reads _ _ _ c.requires.drop_leaving_asks.placed.sound c.requires.j_in_bounds _ c.args.scratch.now c.requires.drop_leaving_asks.placed.paired.pairs

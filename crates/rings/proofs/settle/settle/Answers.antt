@@ -7,7 +7,7 @@ use Rattle.rings.proofs.PrunedLaws.{covered_rise}
 use Rattle.rings.proofs.settle.settle.Goals as goal
 
 pub loop-list-init : goal.loop-list-init
-loop-list-init c =
+loop-list-init g c =
     record {
       covered = c.requires.covered;
       within = c.requires.within;
@@ -18,22 +18,23 @@ loop-list-init c =
     }
 
 pub shape_of-times-then-budget-list : goal.shape_of-times-then-budget-list
-shape_of-times-then-budget-list c = c.loop-list.invariant.rising.settling.long ∙ sym c.requires.rising.settling.long
+shape_of-times-then-budget-list g c = c.loop-list.invariant.rising.settling.long ∙ sym c.requires.rising.settling.long
 
 pub shape_of-slack-then-budget-list : goal.shape_of-slack-then-budget-list
-shape_of-slack-then-budget-list c = c.loop-list.invariant.rising.settling.long_slack ∙ sym c.requires.rising.settling.long_slack
+shape_of-slack-then-budget-list g c =
+    c.loop-list.invariant.rising.settling.long_slack ∙ sym c.requires.rising.settling.long_slack
 
 pub shape_of-queue-then-budget-list : goal.shape_of-queue-then-budget-list
-shape_of-queue-then-budget-list c = c.loop-list.invariant.rising.waiting.long ∙ sym c.requires.rising.waiting.long
+shape_of-queue-then-budget-list g c = c.loop-list.invariant.rising.waiting.long ∙ sym c.requires.rising.waiting.long
 
 pub shape_of-counts-then-budget-list : goal.shape_of-counts-then-budget-list
-shape_of-counts-then-budget-list c = c.loop-list.invariant.long_counts
+shape_of-counts-then-budget-list g c = c.loop-list.invariant.long_counts
 
 pub returns-then-budget-list : goal.returns-then-budget-list
-returns-then-budget-list c = record { same = c.loop-list.invariant.counted.same }
+returns-then-budget-list g c = record { same = c.loop-list.invariant.counted.same }
 
-pub settle_account-found-requires : goal.settle_account-found-requires
-settle_account-found-requires c =
+pub settle_account-requires : goal.settle_account-requires
+settle_account-requires g c =
     record {
       working = record {
         opened = c.requires.opened;
@@ -52,60 +53,60 @@ settle_account-found-requires c =
       bounded = c.requires.bounded;
     }
 
-pub shape_of-times-in-GaveUp : goal.shape_of-times-in-GaveUp
-shape_of-times-in-GaveUp c =
-    c.settle_account-found.auto.times
+pub shape_of-times-in_err-list : goal.shape_of-times-in_err-list
+shape_of-times-in_err-list g c =
+    c.settle_account.auto.times
     ∙ (c.loop-list.invariant.rising.settling.long ∙ sym c.requires.rising.settling.long)
 
-pub shape_of-slack-in-GaveUp : goal.shape_of-slack-in-GaveUp
-shape_of-slack-in-GaveUp c =
-    c.settle_account-found.auto.slack
+pub shape_of-slack-in_err-list : goal.shape_of-slack-in_err-list
+shape_of-slack-in_err-list g c =
+    c.settle_account.auto.slack
     ∙ (c.loop-list.invariant.rising.settling.long_slack ∙ sym c.requires.rising.settling.long_slack)
 
-pub shape_of-queue-in-GaveUp : goal.shape_of-queue-in-GaveUp
-shape_of-queue-in-GaveUp c =
-    c.settle_account-found.auto.queue
+pub shape_of-queue-in_err-list : goal.shape_of-queue-in_err-list
+shape_of-queue-in_err-list g c =
+    c.settle_account.auto.queue
     ∙ (c.loop-list.invariant.rising.waiting.long ∙ sym c.requires.rising.waiting.long)
 
-pub shape_of-counts-in-GaveUp : goal.shape_of-counts-in-GaveUp
-shape_of-counts-in-GaveUp c = c.settle_account-found.auto.counts ∙ c.loop-list.invariant.long_counts
+pub shape_of-counts-in_err-list : goal.shape_of-counts-in_err-list
+shape_of-counts-in_err-list g c = c.settle_account.auto.counts ∙ c.loop-list.invariant.long_counts
 
-pub returns-in-GaveUp : goal.returns-in-GaveUp
-returns-in-GaveUp c =
-    let stay = rw c.in-GaveUp.is at c.settle_account-found.ensures in
-    record { same = λ y. stay.same y ∙ c.loop-list.invariant.counted.same y }
+pub returns-in_err-list : goal.returns-in_err-list
+returns-in_err-list g c =
+    let stay = rw c.in_err-list.was at c.settle_account.ensures in
+    rw c.from_residual.ensures (record { same = λ y. stay.same y ∙ c.loop-list.invariant.counted.same y })
 
 pub loop-list-smaller : goal.loop-list-smaller
-loop-list-smaller c =
-    let moved = rw c.in-Settled.is at c.settle_account-found.ensures in
+loop-list-smaller g c =
+    let moved = rw c.in_ok-list.was at c.settle_account.ensures in
     omega (arith, moved.next, c.loop-list-test.true, c.loop-list.invariant.within)
 
 pub loop-list-preserved : goal.loop-list-preserved
-loop-list-preserved c =
-    let moved = rw c.in-Settled.is at c.settle_account-found.ensures in
+loop-list-preserved g c =
+    let moved = rw c.in_ok-list.was at c.settle_account.ensures in
     record {
       covered = covered_rise moved.nevers (le_refl _) c.loop-list.invariant.covered;
       within = moved.within;
       few = omega (arith, c.if-budget-list.false, moved.walked);
       rising = moved.rising _ c.loop-list.invariant.rising;
-      long_counts = c.settle_account-found.auto.counts ∙ c.loop-list.invariant.long_counts;
+      long_counts = c.settle_account.auto.counts ∙ c.loop-list.invariant.long_counts;
       counted = counted_then c.loop-list.invariant.counted moved.counted;
     }
 
 pub shape_of-times : goal.shape_of-times
-shape_of-times c = c.loop-list.invariant.rising.settling.long ∙ sym c.requires.rising.settling.long
+shape_of-times g c = c.loop-list.invariant.rising.settling.long ∙ sym c.requires.rising.settling.long
 
 pub shape_of-slack : goal.shape_of-slack
-shape_of-slack c = c.loop-list.invariant.rising.settling.long_slack ∙ sym c.requires.rising.settling.long_slack
+shape_of-slack g c = c.loop-list.invariant.rising.settling.long_slack ∙ sym c.requires.rising.settling.long_slack
 
 pub shape_of-queue : goal.shape_of-queue
-shape_of-queue c = c.loop-list.invariant.rising.waiting.long ∙ sym c.requires.rising.waiting.long
+shape_of-queue g c = c.loop-list.invariant.rising.waiting.long ∙ sym c.requires.rising.waiting.long
 
 pub shape_of-counts : goal.shape_of-counts
-shape_of-counts c = c.loop-list.invariant.long_counts
+shape_of-counts g c = c.loop-list.invariant.long_counts
 
 pub returns : goal.returns
-returns c =
+returns g c =
     let end = settle_end _ _ _ _ _ _ _ c.requires.opened.setting c.loop-list.invariant.rising c.loop-list-test.false in
     record {
       times_are = end.0;

@@ -5,20 +5,17 @@ use Rattle.rings.proofs.WorklistLaws.{unmoved_working, unmoved_attempt, moved_mo
 use Rattle.rings.proofs.settle.settle_account.Goals as goal
 
 pub first_from-from-requires : goal.first_from-from-requires
-first_from-from-requires c =
-    record {
-      sound = c.requires.working.opened.sound;
-      pruned_adjacency = (c.requires.working.opened.pruned, omega (arith, c.entry-u.ensures, c.requires.small));
-    }
+first_from-from-requires g c =
+    (c.requires.working.opened.pruned, omega (arith, c.entry-u.ensures, c.requires.small))
 
 pub offset_bounds-times-u : goal.offset_bounds-times-u
-offset_bounds-times-u c = omega (arith, c.entry-u.ensures, c.requires.small)
+offset_bounds-times-u g c = omega (arith, c.entry-u.ensures, c.requires.small)
 
 pub bounds-times-u : goal.bounds-times-u
-bounds-times-u c = omega (arith, c.entry-u.ensures, c.requires.small, c.requires.working.times_long)
+bounds-times-u g c = omega (arith, c.entry-u.ensures, c.requires.small, c.requires.working.times_long)
 
 pub settle_near-near-requires : goal.settle_near-near-requires
-settle_near-near-requires c =
+settle_near-near-requires g c =
     record {
       working = c.requires.working;
       at_head = record {
@@ -30,8 +27,8 @@ settle_near-near-requires c =
     }
 
 pub settle_far-requires : goal.settle_far-requires
-settle_far-requires c =
-    let unmoved = rw c.in-Open.is at c.settle_near-near.ensures in
+settle_far-requires g c =
+    let unmoved = rw c.in-Err.is at c.settle_near-near.ensures in
     record {
       working = unmoved_working unmoved c.requires.working;
       at_head = record {
@@ -43,10 +40,10 @@ settle_far-requires c =
       short = same_short _ _ _ _ unmoved.same_times unmoved.short;
     }
 
-pub returns-in-Settled : goal.returns-in-Settled
-returns-in-Settled c = moved_more (omega arith) (rw c.in-Settled.is at c.settle_near-near.ensures)
+pub returns-in-Ok : goal.returns-in-Ok
+returns-in-Ok g c = moved_more (omega arith) (rw c.in-Ok.is at c.settle_near-near.ensures)
 
-pub returns-in-Open : goal.returns-in-Open
-returns-in-Open c =
-    unmoved_attempt c.args.counting _ c.settle_far.result (rw c.in-Open.is at c.settle_near-near.ensures)
+pub returns-in-Err : goal.returns-in-Err
+returns-in-Err g c =
+    unmoved_attempt _ _ c.settle_far.result (rw c.in-Err.is at c.settle_near-near.ensures)
     c.settle_far.ensures

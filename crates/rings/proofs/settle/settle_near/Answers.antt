@@ -8,17 +8,17 @@ use Rattle.rings.proofs.SettleNearLaws.{near_counts, near_small, near_rise}
 use Rattle.rings.proofs.settle.settle_near.Goals as goal
 
 pub returns-then-scan-eq-NEVER : goal.returns-then-scan-eq-NEVER
-returns-then-scan-eq-NEVER c = unmoved_none c.requires
+returns-then-scan-eq-NEVER g c = unmoved_none c.requires
 
 pub entry-last-requires : goal.entry-last-requires
-entry-last-requires c = omega (arith, c.requires.working.opened.pruned.long, c.requires.at_head.small)
+entry-last-requires g c = omega (arith, c.requires.working.opened.pruned.long, c.requires.at_head.small)
 
 pub overflow_add-scan : goal.overflow_add-scan
-overflow_add-scan c =
+overflow_add-scan g c =
     omega (arith, c.requires.at_head.reading.to, (c.requires.working.opened.pruned.pruned_list _ c.requires.at_head.small).to, c.requires.working.opened.sound.most)
 
 pub overflow_add-list : goal.overflow_add-list
-overflow_add-list c =
+overflow_add-list g c =
     omega (
       arith,
       c.entry-last.ensures,
@@ -28,10 +28,10 @@ overflow_add-list c =
     )
 
 pub returns-then-scan-list : goal.returns-then-scan-list
-returns-then-scan-list c = unmoved_none c.requires
+returns-then-scan-list g c = unmoved_none c.requires
 
 pub scan_for_rise-outcome-requires : goal.scan_for_rise-outcome-requires
-scan_for_rise-outcome-requires c =
+scan_for_rise-outcome-requires g c =
     record {
       scan_on = record {
         lent = record {
@@ -52,25 +52,26 @@ scan_for_rise-outcome-requires c =
     }
 
 pub overflow_add-slack : goal.overflow_add-slack
-overflow_add-slack c = omega (arith, c.scan_for_rise-outcome.ensures.found.few)
+overflow_add-slack g c = omega (arith, c.scan_for_rise-outcome.ensures.found.few)
 
 pub overflow_sub-slack : goal.overflow_sub-slack
-overflow_sub-slack c = omega (arith, c.if-frame-outcome.true)
+overflow_sub-slack g c = omega (arith, c.if-frame-outcome.true)
 
 pub offset_bounds-slack-u : goal.offset_bounds-slack-u
-offset_bounds-slack-u c = omega (arith, c.requires.at_head.small)
+offset_bounds-slack-u g c = omega (arith, c.requires.at_head.small)
 
 pub bounds-slack-u : goal.bounds-slack-u
-bounds-slack-u c = omega (arith, c.requires.at_head.small, c.requires.working.slack_long)
+bounds-slack-u g c = omega (arith, c.requires.at_head.small, c.requires.working.slack_long)
 
 pub overflow_add-result : goal.overflow_add-result
-overflow_add-result c = omega (arith, c.requires.working.waits, c.requires.working.within)
+overflow_add-result g c = omega (arith, c.requires.working.waits, c.requires.working.within)
 
 pub overflow_add-result-then-frame-outcome : goal.overflow_add-result-then-frame-outcome
-overflow_add-result-then-frame-outcome c = omega (arith, c.requires.working.few, c.scan_for_rise-outcome.ensures.found.short_walk)
+overflow_add-result-then-frame-outcome g c =
+    omega (arith, c.requires.working.few, c.scan_for_rise-outcome.ensures.found.short_walk)
 
 pub returns-then-frame-outcome : goal.returns-then-frame-outcome
-returns-then-frame-outcome c =
+returns-then-frame-outcome g c =
     record {
       next = refl;
       within = c.requires.working.within;
@@ -85,16 +86,17 @@ returns-then-frame-outcome c =
     }
 
 pub overflow_add-outcome : goal.overflow_add-outcome
-overflow_add-outcome c = omega (arith, c.scan_for_rise-outcome.ensures.found.few)
+overflow_add-outcome g c = omega (arith, c.scan_for_rise-outcome.ensures.found.few)
 
 pub slack_above-left-requires : goal.slack_above-left-requires
-slack_above-left-requires c = c.scan_for_rise-outcome.ensures.found.few
+slack_above-left-requires g c = c.scan_for_rise-outcome.ensures.found.few
 
 pub overflow_add-result-then-left-eq0 : goal.overflow_add-result-then-left-eq0
-overflow_add-result-then-left-eq0 c = omega (arith, c.requires.working.few, c.scan_for_rise-outcome.ensures.found.short_walk)
+overflow_add-result-then-left-eq0 g c =
+    omega (arith, c.requires.working.few, c.scan_for_rise-outcome.ensures.found.short_walk)
 
 pub returns-then-left-eq0 : goal.returns-then-left-eq0
-returns-then-left-eq0 c =
+returns-then-left-eq0 g c =
     record {
       same_times = refl;
       same_slack = refl;
@@ -107,26 +109,26 @@ returns-then-left-eq0 c =
     }
 
 pub offset_bounds-slack-u-2 : goal.offset_bounds-slack-u-2
-offset_bounds-slack-u-2 c = omega (arith, c.requires.at_head.small)
+offset_bounds-slack-u-2 g c = omega (arith, c.requires.at_head.small)
 
 pub bounds-slack-u-2 : goal.bounds-slack-u-2
-bounds-slack-u-2 c = omega (arith, c.requires.at_head.small, c.requires.working.slack_long)
+bounds-slack-u-2 g c = omega (arith, c.requires.at_head.small, c.requires.working.slack_long)
 
 pub offset_bounds-times-u : goal.offset_bounds-times-u
-offset_bounds-times-u c = omega (arith, c.requires.at_head.small)
+offset_bounds-times-u g c = omega (arith, c.requires.at_head.small)
 
 pub bounds-times-u : goal.bounds-times-u
-bounds-times-u c = omega (arith, c.requires.at_head.small, c.requires.working.times_long)
+bounds-times-u g c = omega (arith, c.requires.at_head.small, c.requires.working.times_long)
 
 pub put-requires : goal.put-requires
-put-requires c =
+put-requires g c =
     record {
       place = omega (arith, c.scan_for_rise-outcome.ensures.behind.long, c.requires.working.waits, c.requires.working.within, c.requires.working.behind);
       number = omega (arith, c.requires.at_head.small);
     }
 
 pub drop_listed_supporters-end-requires : goal.drop_listed_supporters-end-requires
-drop_listed_supporters-end-requires c =
+drop_listed_supporters-end-requires g c =
     let outcome = scanned_on c.requires.its_time c.scan_for_rise-outcome.ensures.found.scanned in
     let rise_scanned = rise_scanned_on c.requires.its_time (c.scan_for_rise-outcome.ensures.rise_scanned c.if-frame-outcome.false) in
     record {
@@ -141,7 +143,7 @@ drop_listed_supporters-end-requires c =
     }
 
 pub move_in_histogram-requires : goal.move_in_histogram-requires
-move_in_histogram-requires c =
+move_in_histogram-requires g c =
     let outcome = scanned_on c.requires.its_time c.scan_for_rise-outcome.ensures.found.scanned in
     let rise_scanned = rise_scanned_on c.requires.its_time (c.scan_for_rise-outcome.ensures.rise_scanned c.if-frame-outcome.false) in
     rw c.requires.its_time (λ y. near_asks _ _ _ _ _ _ _ c.requires.working.opened.setting c.args.times.now c.requires.working.times_long
@@ -150,25 +152,26 @@ move_in_histogram-requires c =
     c.requires.working.opened.sound.most (c.requires.working.counted y).in_days (c.requires.working.counted y).counts_are)
 
 pub overflow_add-result-2 : goal.overflow_add-result-2
-overflow_add-result-2 c = omega (arith, c.requires.working.waits, c.requires.working.within)
+overflow_add-result-2 g c = omega (arith, c.requires.working.waits, c.requires.working.within)
 
 pub overflow_add-result-3 : goal.overflow_add-result-3
-overflow_add-result-3 c = omega (arith, c.requires.working.waits, c.requires.working.within, c.requires.working.behind)
+overflow_add-result-3 g c =
+    omega (arith, c.requires.working.waits, c.requires.working.within, c.requires.working.behind)
 
 pub overflow_add-result-4 : goal.overflow_add-result-4
-overflow_add-result-4 c = omega (arith, c.requires.working.few, c.scan_for_rise-outcome.ensures.found.short_walk)
+overflow_add-result-4 g c = omega (arith, c.requires.working.few, c.scan_for_rise-outcome.ensures.found.short_walk)
 
 pub shape_of-slack : goal.shape_of-slack
-shape_of-slack c =
+shape_of-slack g c =
     c.drop_listed_supporters-end.auto.slack ∙ length-set c.args.slack.now c.args.scan.account c.slack_above-left.result
 
 pub shape_of-queue : goal.shape_of-queue
-shape_of-queue c =
+shape_of-queue g c =
     c.drop_listed_supporters-end.auto.queue
     ∙ (c.put.auto.s ∙ (c.scan_for_rise-outcome.ensures.behind.long ∙ sym c.requires.working.queue_long))
 
 pub returns : goal.returns
-returns c =
+returns g c =
     let outcome = scanned_on c.requires.its_time c.scan_for_rise-outcome.ensures.found.scanned in
     let rise_scanned = rise_scanned_on c.requires.its_time (c.scan_for_rise-outcome.ensures.rise_scanned c.if-frame-outcome.false) in
     record {

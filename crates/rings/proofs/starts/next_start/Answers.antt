@@ -1,9 +1,11 @@
 use native.Mathlib.Omega.{arith}
 use native.Mathlib.Nat.{le_refl}
-use mathlib.Core.Path.{◌∙◌, refl}
+use mathlib.Core.Bool.{not}
+use mathlib.Core.Path.{◌∙◌, refl, ap}
 use Rattle.rings.proofs.DayLaws.{ready_pruned_of, ready_pruned_framed, pruned_paired, span_of}
 use Rattle.rings.proofs.SettleStartLaws.{split_rises, core_never}
 use Rattle.rings.proofs.PrunedLaws.{covered_rise}
+use Rattle.rings.proofs.WorklistLaws.{settled}
 use Rattle.rings.proofs.starts.next_start.Goals as goal
 
 pub drop_rows-requires : goal.drop_rows-requires
@@ -53,7 +55,6 @@ next_frame-after-requires c = omega (arith, c.requires.start_asks.ordered, c.req
 pub first_start-requires : goal.first_start-requires
 first_start-requires c =
     rw c.next_frame-after.ensures (record {
-      sound = c.requires.at_start.inside.opened.sound;
       prepared = record { inside = pruned_paired c.pass_heads.ensures.pruned };
       first_asks = record {
         some_k = c.requires.at_start.inside.opened.setting.some_k;
@@ -72,9 +73,9 @@ first_start-requires c =
       };
     })
 
-pub returns-in-Raised : goal.returns-in-Raised
-returns-in-Raised c =
-    let done = rw c.in-Raised.is at c.step-found.ensures in
+pub returns-else-is_none : goal.returns-else-is_none
+returns-else-is_none c =
+    let done = (settled _ c.step-found.ensures (c.is_none.ensures ∙ ap not c.if-is_none.false)).1 in
     record {
       inside = record {
         opened =
@@ -88,14 +89,3 @@ returns-in-Raised c =
         timed = done.counted.counted refl;
       };
     }
-
-pub shape_of-scratch-in-GaveUp : goal.shape_of-scratch-in-GaveUp
-shape_of-scratch-in-GaveUp c = c.first_start.auto.scratch ∙ c.pass_heads.auto.scratch
-
-pub shape_of-counts-in-GaveUp : goal.shape_of-counts-in-GaveUp
-shape_of-counts-in-GaveUp c =
-    c.first_start.auto.counts
-    ∙ (c.step-found.auto.counts ∙ c.drop_rows.auto.counts)
-
-pub returns-in-GaveUp : goal.returns-in-GaveUp
-returns-in-GaveUp c = rw c.next_frame-after.ensures at c.first_start.ensures

@@ -11,9 +11,6 @@ bounds-days-r c = c.loop-r-test.true
 pub returns-then-s-days : goal.returns-then-s-days
 returns-then-s-days c = linear_found c.requires.never_fall c.loop-r.invariant (omega (arith, c.if-s-days.true))
 
-pub loop-r-smaller : goal.loop-r-smaller
-loop-r-smaller c = omega (arith, c.loop-r-test.true)
-
 pub loop-r-preserved : goal.loop-r-preserved
 loop-r-preserved c = linear_next c.loop-r.invariant c.loop-r-test.true (omega (arith, c.if-s-days.false))
 

@@ -31,4 +31,4 @@ bounds-times-b c =
 pub returns : goal.returns
 returns c =
     row_mid _ _ _ _ c.requires.times_known c.requires.j_in_bounds c.if-j-frame.false c.if-end-j.false c.entry-a.ensures
-    c.entry-b.ensures c.greater.ensures c.greater-2.ensures
+    c.entry-b.ensures c.max.ensures c.max-2.ensures

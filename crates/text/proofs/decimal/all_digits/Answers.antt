@@ -1,22 +1,14 @@
-use mathlib.Core.Path.{refl, sym, ◌∙◌}
-use native.Mathlib.Omega.{arith}
-use Rattle.text.proofs.FieldLaws.{digits_next, digits_low, digits_high, digits_end}
+-- `text::decimal::all_digits` meets its contract: the test of each byte is that of a digit.
+-- Assumes nothing.
+use Rattle.std.proofs.Common.{rules, tests, ◌∙◌}
+use Rattle.std.proofs.lemmas.Iterator.{YieldsList-from_slice}
+use Rattle.std.proofs.lemmas.Iterator.Search.{all_from_yields_List}
+use Rattle.std.specs.Char.{is_ascii_digit}
+use Rattle.text.proofs.FieldLaws.{digits_all}
 use Rattle.text.proofs.decimal.all_digits.Goals as goal
 
-pub loop-i-init : goal.loop-i-init
-loop-i-init c = record { within = omega arith; rest = refl }
-
-pub returns-then-f-i-lt48 : goal.returns-then-f-i-lt48
-returns-then-f-i-lt48 c = sym (digits_low c.args.f.now c.loop-i.i (omega arith) c.if-f-i-lt48.true) ∙ c.loop-i.invariant.rest
-
-pub returns-then-f-i-gt57 : goal.returns-then-f-i-gt57
-returns-then-f-i-gt57 c =
-    sym (digits_high c.args.f.now c.loop-i.i (omega arith) c.if-f-i-gt57.true) ∙ c.loop-i.invariant.rest
-
-pub loop-i-preserved : goal.loop-i-preserved
-loop-i-preserved c =
-    let next = digits_next c.args.f.now c.loop-i.i (omega arith) c.if-f-i-lt48.false c.if-f-i-gt57.false in
-    record { within = omega arith; rest = sym next ∙ c.loop-i.invariant.rest }
-
 pub returns : goal.returns
-returns c = sym (digits_end c.args.f.now c.loop-i.i (omega arith)) ∙ c.loop-i.invariant.rest
+returns c =
+    all_from_yields_List is_ascii_digit _ _ c.all.result c.all.ensures.ran (YieldsList-from_slice c.args.f.now cc)
+    (λ x b q k. search (rules, tests))
+    ∙ digits_all c.args.f.now

@@ -1,22 +1,14 @@
-use mathlib.Core.Path.{refl, sym, ◌∙◌}
-use native.Mathlib.Omega.{arith}
-use Rattle.text.proofs.FieldLaws.{unblank_yes, unblank_no, unblank_end}
+-- `text::decimal::blanks` meets its contract: the byte that is looked for is the first that is no blank.
+-- Assumes nothing.
+use Rattle.std.proofs.Common.{rules, tests}
+use Rattle.std.proofs.lemmas.Iterator.{YieldsList-from_slice}
+use Rattle.std.proofs.lemmas.Iterator.Search.{position_from_yields_List}
+use Rattle.text.proofs.FieldLaws.{is_mark, blanks_end}
 use Rattle.text.proofs.decimal.blanks.Goals as goal
-
-pub loop-i-init : goal.loop-i-init
-loop-i-init c = record { within = omega arith; rest = refl }
-
-pub returns-then-f-i-ne32 : goal.returns-then-f-i-ne32
-returns-then-f-i-ne32 c =
-    record { within = omega arith; rest = unblank_no c.args.f.now c.loop-i.i (omega arith) c.if-f-i-ne32.true ∙ c.loop-i.invariant.rest }
-
-pub loop-i-preserved : goal.loop-i-preserved
-loop-i-preserved c =
-    record { within = omega arith; rest = sym (unblank_yes c.args.f.now c.loop-i.i (omega arith) c.if-f-i-ne32.false) ∙ c.loop-i.invariant.rest }
 
 pub returns : goal.returns
 returns c =
-    record {
-      within = omega arith;
-      rest = unblank_end c.args.f.now c.loop-i.i (omega arith) ∙ c.loop-i.invariant.rest;
-    }
+    let first =
+    position_from_yields_List is_mark _ _ c.position.result c.position.ensures.ran
+    (YieldsList-from_slice c.args.f.now cc) (λ x b q k. search (rules, tests)) in
+    blanks_end c.args.f.now first c.unwrap_or.ensures

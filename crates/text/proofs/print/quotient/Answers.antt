@@ -8,10 +8,8 @@ use Rattle.text.proofs.PrintLaws.{below_power}
 use Rattle.text.proofs.print.quotient.Goals as goal
 
 pub returns-then-k-ge-MOST_DIGITS : goal.returns-then-k-ge-MOST_DIGITS
-returns-then-k-ge-MOST_DIGITS c = sym (div-eq_of_lt (below_power c.args.k c.args.n c.if-k-ge-MOST_DIGITS.true (omega arith)))
+returns-then-k-ge-MOST_DIGITS c =
+    sym (div-eq_of_lt (below_power c.args.k c.args.n c.if-k-ge-MOST_DIGITS.true (omega arith)))
 
 pub nonzero_div-result : goal.nonzero_div-result
 nonzero_div-result c = omega (arith, one-le-pow c.args.k 10 (lit< tt))
-
-pub returns : goal.returns
-returns c = rw c.place.ensures

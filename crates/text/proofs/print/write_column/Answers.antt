@@ -3,19 +3,15 @@
 use mathlib.Core.Path.{sym, ap, ◌∙◌}
 use native.Mathlib.Omega.{arith}
 use lib.ListN.{set}
-use lib.Seq.{set-get_or}
-use Rattle.text.proofs.PrintLaws.{column_is_blank, column_is_digit, digit_place}
+use Rattle.text.proofs.PrintLaws.{column_stays, column_is_digit, digit_place}
 use Rattle.text.proofs.print.write_column.Goals as goal
 
-pub returns-then-is_blank : goal.returns-then-is_blank
-returns-then-is_blank c =
-    let blank = column_is_blank c.args.k c.args.n c.is_blank.ensures c.if-is_blank.true ∙ sym c.requires.blank in
-    sym (ap (set c.args.out.now c.args.at) blank ∙ set-get_or c.args.out.now c.args.at 0)
-
 pub digit-requires : goal.digit-requires
-digit-requires c = digit_place c.args.k c.args.n c.is_blank.ensures c.if-is_blank.false (omega arith)
+digit-requires c = digit_place _ c.args.n c.if-not-fits_in.ensures (omega arith)
 
-pub returns : goal.returns
-returns c =
-    ap (set c.args.out.now c.args.at)
-    (c.digit.ensures ∙ sym (column_is_digit c.args.k c.args.n c.is_blank.ensures c.if-is_blank.false))
+pub returns-then-not-fits_in : goal.returns-then-not-fits_in
+returns-then-not-fits_in c =
+    ap (set c.args.field.now c.args.at) (c.digit.ensures ∙ sym (column_is_digit _ _ c.if-not-fits_in.ensures))
+
+pub returns-else-not-fits_in : goal.returns-else-not-fits_in
+returns-else-not-fits_in c = column_stays _ _ c.requires c.if-not-fits_in.ensures

@@ -1,13 +1,19 @@
-use mathlib.Core.Path.{◌∙◌}
+use mathlib.Core.Path.{◌∙◌, ap}
 use native.Mathlib.Omega.{arith}
+use Rattle.std.specs.Prelude.{Err}
 use Rattle.text.proofs.TableLaws.{judging_first, stays, moves}
 use Rattle.text.proofs.table.check_lines.Goals as goal
 
 pub loop-line-init : goal.loop-line-init
 loop-line-init c = judging_first c.args.text.now
 
-pub returns-then-step-line : goal.returns-then-step-line
-returns-then-step-line c = c.ended.ensures ∙ stays c.loop-line.invariant c.read_line-step.ensures c.if-step-line.true
+pub returns-in-Ok : goal.returns-in-Ok
+returns-in-Ok c = stays c.loop-line.invariant c.read_line-step.ensures c.in-Ok.is c.if-step-line.true
+
+pub returns-in-Err : goal.returns-in-Err
+returns-in-Err c =
+    ap Err c.at_line.ensures
+    ∙ stays c.loop-line.invariant c.read_line-step.ensures c.in-Err.is c.if-step-line.true
 
 pub loop-line-smaller : goal.loop-line-smaller
 loop-line-smaller c =

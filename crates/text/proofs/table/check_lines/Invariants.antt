@@ -1,6 +1,5 @@
 -- `text::table::check_lines` meets its contract: the lowest fault from the line reached on is that of the whole text;
--- where the reader moves it has
--- passed a row, and where it stays it tells the fault or the end.
+-- where the reader moves it has passed a row, and where it stays it tells the fault or the end.
 -- Assumes nothing.
 use Prim.Native.Nat.{◌-◌}
 use lib.ListN.{length}

@@ -1,10 +1,6 @@
 -- `text::table::write_rows` meets its contract: the first i rows stand in the columns; every line is a row, so the
--- reader finds it in its place, and
--- stays behind the last.
+-- reader finds it in its place.
 -- Assumes nothing.
-use Prim.Native.Nat.{◌-◌}
-use lib.ListN.{length}
-use Rattle.text.specs.Line.{lines_of}
 use Rattle.text.specs.Table.{columns}
 use Rattle.text.proofs.RowsLaws.{Writing}
 use Rattle.text.proofs.table.write_rows.Given as goal
@@ -12,7 +8,3 @@ use Rattle.text.proofs.table.write_rows.Given as goal
 abbrev pub invariant-loop-i : goal.invariant-loop-i
 invariant-loop-i l =
     Writing l.text (columns l.initial.days l.initial.first l.initial.second) (columns l.days l.first l.second) l.i
-
-abbrev pub decreases-loop-i : goal.decreases-loop-i
-decreases-loop-i l =
-    length (lines_of l.text) - l.i

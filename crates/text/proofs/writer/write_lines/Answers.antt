@@ -17,8 +17,5 @@ write_row-at-requires c = written_room c.requires c.loop-i.invariant c.loop-i-te
 pub loop-i-preserved : goal.loop-i-preserved
 loop-i-preserved c = written_more c.requires c.loop-i.invariant c.loop-i-test.true c.write_row-at.ensures
 
-pub shape_of-text : goal.shape_of-text
-shape_of-text c = c.loop-i.invariant.lines.long
-
 pub returns : goal.returns
 returns c = written_all c.requires c.loop-i.invariant c.loop-i-test.false
