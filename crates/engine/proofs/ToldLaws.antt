@@ -27,7 +27,7 @@ use Rattle.listing.specs.Program.{Outcome}
 use Rattle.listing.specs.ProgramText.{list_output, printed_report}
 use Rattle.listing.specs.declared.Listed.{Listed}
 use Rattle.listing.specs.declared.Refused.{Refused}
-use Rattle.std.specs.Prelude.{Result, Ok, Err, MatchResult}
+use Rattle.std.specs.Prelude.{Option, Result, Ok, Err, MatchResult}
 use Rattle.std.specs.Result.{result_unwrap_or}
 use Rattle.engine.specs.Numbers.{refused_report, read_report, written_report, numbers}
 use Rattle.engine.specs.declared.numbers.Numbers.{Numbers}
@@ -48,7 +48,7 @@ numbers_as n place count = record { number = n; place = place; count = count }
 
 -- a refusal of rings, by its number and its place
 
-pub refusal_told : (r : Refusal) {n p : ℕ} {at : Place}
+pub refusal_told : (r : Refusal) {n p : ℕ} {at : Option Place}
     → n ≡ number_of r
     → at ≡ (rule_of r).place
     → p ≡ place_number at

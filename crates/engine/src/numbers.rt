@@ -66,13 +66,13 @@ impl<T: Count, E: Into<Numbers>> From<Result<T, E>> for Numbers {
 }
 
 // No From: a place is declared in rings, and u64 in no crate of these.
-fn place_number(place: Place) -> u64
+fn place_number(place: Option<Place>) -> u64
     ensures { result ≡ place_number place }
 {
     match place {
-        Place::Nowhere => 0,
-        Place::Row(row) => row as u64,
-        Place::Entry(entry) => entry as u64,
+        None => 0,
+        Some(Place::Row(row)) => row as u64,
+        Some(Place::Entry(entry)) => entry as u64,
     }
 }
 

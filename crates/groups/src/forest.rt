@@ -7,15 +7,14 @@ ghost use Rattle.groups.specs.Inner.{Forest, Found, Points, Joins, Grown, Leader
 ghost use Rattle.groups.specs.RingRows.{table_in, marked_in};
 
 use crate::rows::Ring;
+use rings::ACCOUNTS;
 use rings::choice::pick;
 
-// A parent for each account, by number: the lent scratch holds numbers. Of its own, since rings shows no limit.
-pub(crate) const ACCOUNTS: usize = 4096;
-
+// Parents are numbers, a number for each account: the lent scratch holds numbers.
 // No struct for the forest that five contracts ask for: each would promise that it still holds the same parents.
 // No type for an account below 4,096, asked for by four: it would be made and taken apart at each step of a walk.
 
-// Every account is a root.
+// Every account is a root. rings lists all accounts so, in front of a queue: a function for both would be no shorter.
 fn plant(parents: &mut [u16; ACCOUNTS])
     ensures { Leaders parents.new (λ u. u) }
 {

@@ -8,10 +8,10 @@ ghost use Rattle.groups.specs.Inner.{labelled, at_most};
 ghost use Rattle.groups.specs.RingRows.{table_in, marked_in};
 
 use crate::Asked;
-use crate::forest::{ACCOUNTS, find_leaders};
+use crate::forest::find_leaders;
 use crate::rows::{MARKS, Ring, places_for, window_rows};
 use rings::choice::pick;
-use rings::{Query, Refusal, window_ring};
+use rings::{ACCOUNTS, Query, Refusal, window_ring};
 
 // The label of a row outside the ring, a number of the lent column.
 const NONE: u16 = 65535;

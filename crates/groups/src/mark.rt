@@ -9,10 +9,10 @@ ghost use Rattle.groups.specs.Inner.{LedMarked, GroupMarked, at_most};
 ghost use Rattle.groups.specs.RingRows.{table_in, marked_in};
 
 use crate::Asked;
-use crate::forest::{ACCOUNTS, find_leaders};
+use crate::forest::find_leaders;
 use crate::rows::{MARKS, Ring, places_for, window_rows};
 use rings::choice::one;
-use rings::{Query, Refusal, window_ring};
+use rings::{ACCOUNTS, Query, Refusal, window_ring};
 
 // A row that is marked has the account.
 fn is_met(ring: Ring, account: u16) -> bool

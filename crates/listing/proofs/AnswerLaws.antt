@@ -34,7 +34,7 @@ use Rattle.listing.specs.Program.{Outcome, found, stopped, place_line, input_lin
 use Rattle.listing.specs.ProgramText.{refused_as, refused_of, list_answer, list_output}
 use Rattle.listing.specs.ProgramSteps.{TextColumns, entry_at, entries_of, Rising, Prints}
 use Rattle.listing.specs.declared.Listed.{Listed}
-use Rattle.std.specs.Prelude.{Result, Ok, Err}
+use Rattle.std.specs.Prelude.{Option, Result, Ok, Err}
 use Rattle.listing.specs.declared.Refused.{Refused as RefusedLine}
 use Rattle.listing.proofs.CountLaws.{listing_is}
 use Rattle.listing.proofs.PrintingLaws.{columns_for, entries_are, place_holds, cut_at, cut_columns}
@@ -230,7 +230,7 @@ pub answer_none : (o : Outcome) (output : List ℕ) {r : RefusedLine} → o ≡ 
 unfolding list_answer list_output
 answer_none o output e = record { answer = rw e; output = refl }
 
-pub refused_told : (r : Refusal) {n line : ℕ} {p : Place} → n ≡ number_of r → p ≡ (rule_of r).place → line ≡ place_line p → refused_as n line ≡ refused_of r
+pub refused_told : (r : Refusal) {n line : ℕ} {p : Option Place} → n ≡ number_of r → p ≡ (rule_of r).place → line ≡ place_line p → refused_as n line ≡ refused_of r
 unfolding refused_of input_line
 refused_told r n p l = λ i. refused_as (n i) ((l ∙ ap place_line p) i)
 

@@ -24,7 +24,7 @@ use Rattle.text.proofs.ListingLaws.{listing_length}
 use Rattle.rings.specs.Table.{Table, size}
 use Rattle.rings.specs.Refusals.{rule_of, number_of, place_number, place_of}
 use Rattle.rings.specs.declared.refusal.Place.{Place}
-use Rattle.rings.specs.declared.refusal.Place.TheVariants.{Nowhere, Row, Entry}
+use Rattle.rings.specs.declared.refusal.Place.TheVariants.{Row, Entry}
 use Rattle.rings.specs.Buffers.{over}
 use Rattle.rings.specs.declared.Query.{Query}
 use Rattle.rings.specs.declared.refusal.Refusal.{Refusal}
@@ -36,7 +36,7 @@ use Rattle.listing.specs.Program.{Outcome, found, stopped, place_line, input_lin
 use Rattle.listing.specs.Program.{from_list, most_listed, program_scratch, listed, from_rows, bad_query, from_query, unless_long, outcome}
 use Rattle.listing.specs.ProgramText.{line_of, list_text, outcome_text, most_output, refused_as, fitted, list_answer, list_output}
 use Rattle.listing.specs.declared.Listed.{Listed}
-use Rattle.std.specs.Prelude.{Result, Ok, Err}
+use Rattle.std.specs.Prelude.{Option, Some, None, Result, Ok, Err}
 use Rattle.listing.specs.declared.Refused.{Refused}
 use Rattle.listing.proofs.ReadingLaws.{lines_most, place_lines, reader_most}
 use Rattle.listing.proofs.AnswerLaws.{refused_place, rings_count, rings_most}
@@ -77,10 +77,10 @@ number_most NoRoom = omega arith
 number_most (BadEntry i) = omega arith
 number_most NotInRing = omega arith
 
-place_most : (p : Place) → place_line p ≤ place_number p + 2
-place_most Nowhere = omega arith
-place_most (Row j) = omega arith
-place_most (Entry i) = omega arith
+place_most : (p : Option Place) → place_line p ≤ place_number p + 2
+place_most None = omega arith
+place_most (Some (Row j)) = omega arith
+place_most (Some (Entry i)) = omega arith
 
 line_most : (r : Refusal) → input_line r ≤ place_of r + 2
 unfolding input_line place_of

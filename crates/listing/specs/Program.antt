@@ -16,7 +16,7 @@
 --     from_query          the outcome by what the query line holds
 --     unless_long b o     the outcome o, or 2 where the input is too long
 --     outcome input      the outcome of an input
-use Rattle.std.specs.Prelude.{ℕ, zero, suc, ◌+◌, ◌*◌, Bool, true, false, List, length, drop, ltb, Result, Ok, Err}
+use Rattle.std.specs.Prelude.{ℕ, zero, suc, ◌+◌, ◌*◌, Bool, true, false, List, length, drop, ltb, Option, Some, None, Result, Ok, Err}
 use Rattle.text.specs.Layout.{query_bytes, most_rows, most_input}
 use Rattle.text.specs.Line.{query_of, query_number, query_place}
 use Rattle.text.specs.Table.{days_of, firsts_of, seconds_of, table_read_of, number, place}
@@ -29,7 +29,7 @@ use Rattle.rings.specs.declared.Query.{Query}
 use Rattle.rings.specs.declared.refusal.Refusal.{Refusal}
 use Rattle.rings.specs.declared.refusal.Refusal.TheVariants.{TooLarge}
 use Rattle.rings.specs.declared.refusal.Place.{Place}
-use Rattle.rings.specs.declared.refusal.Place.TheVariants.{Nowhere, Row, Entry}
+use Rattle.rings.specs.declared.refusal.Place.TheVariants.{Row, Entry}
 use Rattle.listing.specs.Listing.{ListedRing, listing}
 use Rattle.listing.specs.ListingCall.{each, listing_answer}
 use Rattle.listing.specs.declared.Listed.{Listed}
@@ -47,10 +47,10 @@ unfoldable pub reader_line : ℕ → ℕ
 reader_line zero = 0
 reader_line (suc n) = suc n + 1
 
-abbrev pub place_line : Place → ℕ
-place_line Nowhere = 0
-place_line (Row j) = row_line j
-place_line (Entry i) = 0
+abbrev pub place_line : Option Place → ℕ
+place_line None = 0
+place_line (Some (Row j)) = row_line j
+place_line (Some (Entry i)) = 0
 
 unfoldable pub input_line : Refusal → ℕ
 input_line r = place_line (rule_of r).place

@@ -36,13 +36,13 @@ pub struct Asked {
 }
 
 // The input line of a place of rings: row 0 stands in input line 2. No Option: 01 prints 0 where there is none.
-fn place_line(place: Place) -> usize
+fn place_line(place: Option<Place>) -> usize
     requires { place_number place ≤ most_rows }
     ensures { result ≡ place_line place }
 {
     match place {
-        Place::Row(row) => row + 2,
-        Place::Nowhere | Place::Entry(_) => 0,
+        Some(Place::Row(row)) => row + 2,
+        None | Some(Place::Entry(_)) => 0,
     }
 }
 

@@ -1,6 +1,6 @@
 -- Recall (src/recalling.rt).
---     Judged d r b e rb sb eb j     the loop over entries has passed the entries below j: none is bad, and rb, sb, eb
---                                   are those of the entry before j
+--     Judged d r b e before j       the loop over entries has passed the entries below j: none is bad, and `before` is
+--                                   the entry before j
 --     judge_start, judge_next, judge_refused, judge_end     the loop's laws
 --     answer_table, answer_lengths, answer_entries, answer_window     the answer, by the check that decides
 --     lengths_same                  what a passed 8 says
@@ -19,16 +19,17 @@ use mathlib.Core.List.{List, map}
 use lib.ListN.{length, get_or, set, replicate, length-set, length-map, length-replicate, get_or-replicate, get_or-map}
 use lib.Seq.{ext_get_or, get_or-set_same, get_or-set_other}
 use lib.Dec.{leb, ltb, eqb}
-use borrow.Author.Tests.{ltb-true, lt-leb, le-leb, eqb-true, eqb-false, eq-eqb, ne_eqb}
-use Rattle.std.specs.Prelude.{Ok, Err}
+use borrow.Author.Tests.{ltb-true, lt-leb, le-leb, eqb-true, eqb-false}
+use Rattle.std.specs.Prelude.{Option, Some, None, Ok, Err}
 use Rattle.rings.specs.Words.{◌and◌, ◌or◌, no, at, some, tabulate, any}
 use Rattle.rings.specs.Table.{Table, table_of, day_of}
 use Rattle.rings.specs.Windows.{Entry, entries, recalled}
 use Rattle.rings.specs.Checks.{◌when◌, ◌then◌, in_order, range_check}
 use Rattle.rings.specs.Buffers.{mark, marks}
 use Rattle.rings.specs.TableCheck.{table_check}
-use Rattle.rings.specs.RecallCall.{Columns, columns_of, entry_at, comes_after, in_place, fits, entry_check, recall_answer}
-use Rattle.rings.specs.Inner.Recalling.{entry_of, dated, judged, hits, InTable, marks_of, Markable}
+use Rattle.rings.specs.RecallCall.{Columns, columns_of, entry_at, in_place, fits, entry_check, recall_answer}
+use Rattle.rings.specs.Inner.Recalling.{entry_of, dated, entry_as, entry_before, follows, judged, hits, InTable, marks_of, Markable}
+use Rattle.rings.specs.declared.recalling.Entry as lent
 use Rattle.rings.specs.declared.refusal.Refusal.{Refusal}
 use Rattle.rings.specs.declared.refusal.Refusal.TheVariants.{BadLength, BadEntry}
 use Rattle.rings.specs.Refusals.{Verdict}
@@ -53,95 +54,59 @@ or_no b h = rw h
 
 -- ---- the entries in their order
 
-pub record Judged (d r b e : List ℕ) (rb sb eb j : ℕ) : Type 0 where
+pub record Judged (d r b e : List ℕ) (before : Option lent.Entry) (j : ℕ) : Type 0 where
   pub inside : j ≤ length r
-  pub row_before : (i : ℕ) → j ≡ suc i → rb ≡ get_or r i 0
-  pub start_before : (i : ℕ) → j ≡ suc i → sb ≡ get_or b i 0
-  pub end_before : (i : ℕ) → j ≡ suc i → eb ≡ get_or e i 0
+  pub last : before ≡ entry_before (columns_of r b e) j
   pub passed : (i : ℕ) → i < j → entry_check (dated d) (columns_of r b e) i ≡ Ok tt
 
 module _ (d r b e : List ℕ) where
   abbrev c : Columns
   c = columns_of r b e
 
-  -- the entry before, from the columns
-  place_is : (rb sb eb j : ℕ) → ((i : ℕ) → j ≡ suc i → rb ≡ get_or r i 0) → ((i : ℕ) → j ≡ suc i → sb ≡ get_or b i 0)
-      → ((i : ℕ) → j ≡ suc i → eb ≡ get_or e i 0) → in_place c j ≡ (eqb j 0 or comes_after (entry_of rb sb eb) (entry_at c j))
-  unfolding in_place entry_at at
-  place_is rb sb eb zero h₁ h₂ h₃ = sym (or_l (eqb 0 0) (comes_after (entry_of rb sb eb) (entry_at c 0)) (eq-eqb 0 0 refl))
-  place_is rb sb eb (suc i) h₁ h₂ h₃ =
-      let y = entry_at c (suc i) in
-      sym
-      (or_no (comes_after (entry_of rb sb eb) y) (ne_eqb (suc i) 0 (λ q. omega arith))
-      ∙ (ap (λ (x : ℕ). comes_after (entry_of x sb eb) y) (h₁ i refl)
-      ∙ (ap (λ (x : ℕ). comes_after (entry_of (get_or r i 0) x eb) y) (h₂ i refl) ∙ ap
-      (λ (x : ℕ). comes_after (entry_of (get_or r i 0) (get_or b i 0) x) y) (h₃ i refl))))
+  -- an entry as the code reads it
+  abbrev read : ℕ → lent.Entry
+  read j = record { row = get_or r j 0; start = get_or b j 0; end = get_or e j 0 }
 
-  entry_is : {rb sb eb j : ℕ} → Judged d r b e rb sb eb j
-      → entry_check (dated d) c j
-      ≡ judged j (length d) (at d (get_or r j 0)) (entry_of rb sb eb)
-      (entry_of (get_or r j 0) (get_or b j 0) (get_or e j 0))
-  unfolding entry_check judged fits day_of entry_at at
-  entry_is {rb} {sb} {eb} {j} p =
-      ap (λ (x : Bool). BadEntry j when no (fits (dated d) (entry_at c j) and x))
-      (place_is rb sb eb j p.row_before p.start_before p.end_before)
+  in_place_is : (j : ℕ) → in_place c j ≡ follows (entry_before c j) (entry_as (read j))
+  unfolding in_place entry_before follows entry_at at
+  in_place_is zero = refl
+  in_place_is (suc i) = refl
 
   -- what `check_entry` answers is 14 at j
-  entry_here : {rb sb eb j row start end day : ℕ} {v : Verdict} → Judged d r b e rb sb eb j → row ≡ get_or r j 0
-      → start ≡ get_or b j 0
-      → end ≡ get_or e j 0 → day ≡ at d row → v ≡ judged j (length d) day (entry_of rb sb eb) (entry_of row start end)
+  entry_here : {before : Option lent.Entry} {j : ℕ} {v : Verdict} → Judged d r b e before j → v ≡ judged d j before (read j)
       → entry_check (dated d) c j ≡ v
-  entry_here {rb} {sb} {eb} {j} {row} {start} {end} {day} {v} p h₁ h₂ h₃ h₄ h =
-      let x = entry_of rb sb eb in
-      let n = length d in
-      let day' = at d (get_or r j 0) in
-      sym
-      (h
-      ∙ (ap (λ (y : ℕ). judged j n y x (entry_of row start end)) (h₄ ∙ ap (at d) h₁)
-      ∙ (ap (λ (y : ℕ). judged j n day' x (entry_of y start end)) h₁
-      ∙ (ap (λ (y : ℕ). judged j n day' x (entry_of (get_or r j 0) y end)) h₂
-      ∙ (ap (λ (y : ℕ). judged j n day' x (entry_of (get_or r j 0) (get_or b j 0) y)) h₃ ∙ sym (entry_is p))))))
+  unfolding entry_check judged entry_at at
+  entry_here {before} {j} p h =
+      ap (λ (x : Bool). BadEntry j when no (fits (dated d) (entry_as (read j)) and x))
+      (in_place_is j ∙ ap (λ (x : Option lent.Entry). follows x (entry_as (read j))) (sym p.last))
+      ∙ sym h
 
-  pub judge_start : Judged d r b e 0 0 0 0
-  judge_start =
+  pub judge_start : Judged d r b e None 0
+  unfolding entry_before
+  judge_start = record { inside = omega arith; last = refl; passed = λ i h. absurd (not-suc-le-zero h) }
+
+  pub judge_next : {before : Option lent.Entry} {j : ℕ} → Judged d r b e before j → j < length r
+      → Ok tt ≡ judged d j before (read j) → Judged d r b e (Some (read j)) (j + 1)
+  unfolding entry_before at
+  judge_next {j = j} p l h =
       record {
         inside = omega arith;
-        row_before = λ i h. absurd (omega arith);
-        start_before = λ i h. absurd (omega arith);
-        end_before = λ i h. absurd (omega arith);
-        passed = λ i h. absurd (not-suc-le-zero h);
-      }
-
-  pub judge_next : {rb sb eb j row start end day : ℕ} → Judged d r b e rb sb eb j → j < length r
-      → row ≡ get_or r j 0 → start ≡ get_or b j 0
-      → end ≡ get_or e j 0 → day ≡ at d row → Ok tt ≡ judged j (length d) day (entry_of rb sb eb) (entry_of row start end)
-      → Judged d r b e row start end (j + 1)
-  judge_next {j = j} p l h₁ h₂ h₃ h₄ h =
-      record {
-        inside = omega arith;
-        row_before = λ i q. h₁ ∙ ap (λ (x : ℕ). get_or r x 0) (same i q);
-        start_before = λ i q. h₂ ∙ ap (λ (x : ℕ). get_or b x 0) (same i q);
-        end_before = λ i q. h₃ ∙ ap (λ (x : ℕ). get_or e x 0) (same i q);
+        last = rw (add-one j) refl;
         passed = λ i q.
             ⊎_elim
-            (λ x. subst (λ (y : ℕ). entry_check (dated d) c y ≡ Ok tt) (sym x) (entry_here p h₁ h₂ h₃ h₄ h))
+            (λ x. subst (λ (y : ℕ). entry_check (dated d) c y ≡ Ok tt) (sym x) (entry_here p h))
             (λ x. p.passed i x)
             (eq-or-lt_of_le (le_of_suc-le-suc (rw (add-one j) at q)));
       }
-    where
-      same : (i : ℕ) → j + 1 ≡ suc i → j ≡ i
-      same i q = omega arith
 
-  pub judge_refused : {rb sb eb j row start end day : ℕ} {x : Refusal} → Judged d r b e rb sb eb j → j < length r
-      → row ≡ get_or r j 0
-      → start ≡ get_or b j 0 → end ≡ get_or e j 0 → day ≡ at d row
-      → Err x ≡ judged j (length d) day (entry_of rb sb eb) (entry_of row start end)
+  pub judge_refused : {before : Option lent.Entry} {j : ℕ} {x : Refusal} → Judged d r b e before j → j < length r
+      → Err x ≡ judged d j before (read j)
       → Err x ≡ in_order (tabulate (entry_check (dated d) c) 0 (length r))
-  judge_refused {j = j} p l h₁ h₂ h₃ h₄ h =
+  judge_refused {j = j} p l h =
       sym (order_refused (entry_check (dated d) c) 0 (length r) j (omega arith) (omega arith)
-      (λ i a q. p.passed i q) (entry_here p h₁ h₂ h₃ h₄ h))
+      (λ i a q. p.passed i q) (entry_here p h))
 
-  pub judge_end : {rb sb eb j : ℕ} → Judged d r b e rb sb eb j → length r ≤ j
+  pub judge_end : {before : Option lent.Entry} {j : ℕ} → Judged d r b e before j → length r ≤ j
       → Ok tt ≡ in_order (tabulate (entry_check (dated d) c) 0 (length r))
   judge_end p l = sym (order_accepted (entry_check (dated d) c) 0 (length r) (λ i a q. p.passed i (omega arith)))
 

@@ -8,40 +8,40 @@
 --     done n, refused r  the reports of a success and of a refusal
 --     verdict_report v    the report of Table check, Core times and Recall
 --     counted_report c    the report of Window ring and Minimal windows
-use Rattle.std.specs.Prelude.{ℕ, Bool, true, false, Result, Ok, Err, ⊤}
+use Rattle.std.specs.Prelude.{ℕ, Bool, true, false, Option, Some, None, Result, Ok, Err, ⊤}
 use Rattle.rings.specs.declared.refusal.Refusal.{Refusal}
 use Rattle.rings.specs.declared.refusal.Refusal.TheVariants.{ColumnsDiffer, TooLarge, BadDay, BadAccounts}
 use Rattle.rings.specs.declared.refusal.Refusal.TheVariants.{DayFalls, BadK, BadRange, BadLength, Scratch}
 use Rattle.rings.specs.declared.refusal.Refusal.TheVariants.{NoRoom, BadEntry, NotInRing}
 use Rattle.rings.specs.declared.refusal.Place.{Place}
-use Rattle.rings.specs.declared.refusal.Place.TheVariants.{Nowhere, Row, Entry}
+use Rattle.rings.specs.declared.refusal.Place.TheVariants.{Row, Entry}
 
 -- 01: "A refusal is a number and a place: a row for 3, 4, 5; a list entry from 0 for 14; .. else 0"; "a check that stands behind 9"
 pub record Rule : Type 0 where
   pub number : ℕ
-  pub place : Place
+  pub place : Option Place
   pub is_behind_scratch : Bool
 
 -- a row for each refusal
 abbrev pub rule_of : Refusal → Rule
-rule_of ColumnsDiffer = record { number = 1; place = Nowhere; is_behind_scratch = false }
-rule_of TooLarge = record { number = 2; place = Nowhere; is_behind_scratch = false }
-rule_of (BadDay j) = record { number = 3; place = Row j; is_behind_scratch = false }
-rule_of (BadAccounts j) = record { number = 4; place = Row j; is_behind_scratch = false }
-rule_of (DayFalls j) = record { number = 5; place = Row j; is_behind_scratch = false }
-rule_of BadK = record { number = 6; place = Nowhere; is_behind_scratch = false }
-rule_of BadRange = record { number = 7; place = Nowhere; is_behind_scratch = false }
-rule_of BadLength = record { number = 8; place = Nowhere; is_behind_scratch = false }
-rule_of Scratch = record { number = 9; place = Nowhere; is_behind_scratch = false }
-rule_of NoRoom = record { number = 10; place = Nowhere; is_behind_scratch = true }
-rule_of (BadEntry i) = record { number = 14; place = Entry i; is_behind_scratch = false }
+rule_of ColumnsDiffer = record { number = 1; place = None; is_behind_scratch = false }
+rule_of TooLarge = record { number = 2; place = None; is_behind_scratch = false }
+rule_of (BadDay j) = record { number = 3; place = Some (Row j); is_behind_scratch = false }
+rule_of (BadAccounts j) = record { number = 4; place = Some (Row j); is_behind_scratch = false }
+rule_of (DayFalls j) = record { number = 5; place = Some (Row j); is_behind_scratch = false }
+rule_of BadK = record { number = 6; place = None; is_behind_scratch = false }
+rule_of BadRange = record { number = 7; place = None; is_behind_scratch = false }
+rule_of BadLength = record { number = 8; place = None; is_behind_scratch = false }
+rule_of Scratch = record { number = 9; place = None; is_behind_scratch = false }
+rule_of NoRoom = record { number = 10; place = None; is_behind_scratch = true }
+rule_of (BadEntry i) = record { number = 14; place = Some (Entry i); is_behind_scratch = false }
 -- 02, S-4: "Refused: 15, the named account isn't in the window's ring, after 9"
-rule_of NotInRing = record { number = 15; place = Nowhere; is_behind_scratch = true }
+rule_of NotInRing = record { number = 15; place = None; is_behind_scratch = true }
 
-abbrev pub place_number : Place → ℕ
-place_number Nowhere = 0
-place_number (Row j) = j
-place_number (Entry i) = i
+abbrev pub place_number : Option Place → ℕ
+place_number None = 0
+place_number (Some (Row j)) = j
+place_number (Some (Entry i)) = i
 
 unfoldable pub number_of : Refusal → ℕ
 number_of r = (rule_of r).number

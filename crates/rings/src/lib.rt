@@ -1,6 +1,6 @@
 // Rings of a dated payment table.
-// A customer's calls are re-exported here. Three modules are for the parts above: the checks that calls share, choices
-// without a branch, and the starts of a range.
+// A customer's calls are re-exported here, and the two limits that arrays of the parts above have. Three modules are
+// for these parts: the checks that calls share, choices without a branch, and the starts of a range.
 #![tactic(auto)]
 
 mod adjacency;
@@ -28,6 +28,7 @@ mod times;
 mod windows;
 
 pub use frame::Frame;
+pub use limits::{ACCOUNTS, QUEUE};
 pub use payments::Payments;
 pub use recalling::recall;
 pub use refusal::{Place, Refusal};

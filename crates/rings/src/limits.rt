@@ -12,7 +12,7 @@ pub(crate) const LAST_DAY: u16 = 1024;
 pub(crate) const LAST_ACCOUNT: u16 = 4095;
 
 // Accounts: as many cursors stand at the front of the scratch, and as many heads behind them.
-pub(crate) const ACCOUNTS: usize = 4096;
+pub const ACCOUNTS: usize = 4096;
 
 // Where the adjacency begins in the scratch, behind cursors and heads. There are as many slots for pairs.
 pub(crate) const ADJACENCY: usize = 8192;
@@ -21,4 +21,4 @@ pub(crate) const ADJACENCY: usize = 8192;
 pub(crate) const ROWS: usize = 16384;
 
 // Places of the queue of settling: 256 more than there are accounts.
-pub(crate) const QUEUE: usize = 4352;
+pub const QUEUE: usize = 4352;

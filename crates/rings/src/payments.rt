@@ -1,4 +1,4 @@
-// The payments of an accepted table: its three columns, lent together.
+// The payments of an accepted table: its three columns, lent together. Columns, since the C interface lends a table so.
 ghost use Rattle.rings.specs.Sound.{Sound};
 
 // It goes by value through every function behind the table check, which has found what `sound` says.

@@ -78,10 +78,9 @@ fn remove_account(
         let j = here.row;
         if removal.end <= j {
             return Removal {
-                day: removal.day,
-                end: removal.end,
                 head: removal.head + 1,
-                tail: tail,
+                tail,
+                ..removal
             };
         }
         if (frame.lo <= j) & here.leads {
@@ -90,10 +89,9 @@ fn remove_account(
         }
     }
     Removal {
-        day: removal.day,
-        end: removal.end,
         head: removal.head + 1,
-        tail: tail,
+        tail,
+        ..removal
     }
 }
 
@@ -233,9 +231,9 @@ fn queue_low_degree(
     }
     Removal {
         day: NEVER,
-        end: end,
+        end,
         head: 0,
-        tail: tail,
+        tail,
     }
 }
 

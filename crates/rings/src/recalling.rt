@@ -3,20 +3,18 @@
 //     mark_entries     the marks of an accepted list
 //     recall           the call
 ghost use Rattle.std.specs.Prelude.{◌≡◌, length, eqb};
-ghost use Rattle.rings.specs.Words.{◌and◌, no, at, tabulate};
+ghost use Rattle.rings.specs.Words.{◌and◌, no, tabulate};
 ghost use Rattle.rings.specs.Table.{table_of};
 ghost use Rattle.rings.specs.Checks.{◌when◌, in_order, range_check};
 ghost use Rattle.rings.specs.RecallCall.{columns_of, entry_check, recall_answer, recall_marks};
-ghost use Rattle.rings.specs.Inner.Recalling.{entry_of, dated, judged, EqualLists, Markable, marks_of};
+ghost use Rattle.rings.specs.Inner.Recalling.{dated, judged, EqualLists, Markable, marks_of};
 ghost use Rattle.rings.specs.declared.refusal.Refusal.TheVariants.{BadLength};
 
 use crate::checks::{are_equal, is_window};
+use crate::limits::LAST_DAY;
 use crate::refusal::Refusal;
 use crate::slices::entry;
 use crate::table::check_table;
-
-// The last day, as wide as the numbers of an entry are read.
-const LAST_END: usize = 1024;
 
 // 8: three list columns of one length, and a mark for each row.
 fn check_lengths(
@@ -46,33 +44,23 @@ fn check_window(s: u16, e: u16) -> Result<(), Refusal>
     }
 }
 
-// The day of a row, 0 for a row that is not in the table.
-fn day_at(days: &[u16], row: usize) -> usize
-    ensures { result ≡ at days.now row }
-{
-    if days.len() <= row {
-        return 0;
-    }
-    entry(days, row)
+// An entry of a list: its row, and the first day and the last of its window.
+#[derive(Clone, Copy)]
+struct Entry {
+    row: u16,
+    start: u16,
+    end: u16,
 }
 
 // 14 of one entry: its row, its window, its place after the one before.
-fn check_entry(
-    j: usize,
-    n: usize,
-    day: usize,
-    lastrow: usize,
-    laststart: usize,
-    lastend: usize,
-    row: usize,
-    start: usize,
-    end: usize,
-) -> Result<(), Refusal>
-    ensures { result ≡ judged j n day (entry_of lastrow laststart lastend) (entry_of row start end) }
+fn check_entry(days: &[u16], j: usize, before: Option<Entry>, here: Entry) -> Result<(), Refusal>
+    ensures { result ≡ judged days.now j before here }
 {
-    if n <= row {
+    let Entry { row, start, end } = here;
+    if days.len() <= row as usize {
         return Err(Refusal::BadEntry(j));
     }
+    let day = days[row as usize];
     if start < 1 {
         return Err(Refusal::BadEntry(j));
     }
@@ -82,22 +70,22 @@ fn check_entry(
     if end < day {
         return Err(Refusal::BadEntry(j));
     }
-    if LAST_END < end {
+    if LAST_DAY < end {
         return Err(Refusal::BadEntry(j));
     }
-    if j == 0 {
+    let Some(last) = before else {
+        return Ok(());
+    };
+    if last.row < row {
         return Ok(());
     }
-    if lastrow < row {
-        return Ok(());
-    }
-    if lastrow != row {
+    if last.row != row {
         return Err(Refusal::BadEntry(j));
     }
-    if start <= laststart {
+    if start <= last.start {
         return Err(Refusal::BadEntry(j));
     }
-    if end <= lastend {
+    if end <= last.end {
         return Err(Refusal::BadEntry(j));
     }
     Ok(())
@@ -109,28 +97,15 @@ fn check_entries(days: &[u16], rows: &[u16], starts: &[u16], ends: &[u16]) -> Re
     ensures { let c = columns_of rows.now starts.now ends.now in
         result ≡ in_order (tabulate (entry_check (dated days.now) c) 0 (length c.rows)) }
 {
-    let mut lastrow = 0;
-    let mut laststart = 0;
-    let mut lastend = 0;
+    let mut before = None;
     for j in 0..rows.len() {
-        let row = entry(rows, j);
-        let start = entry(starts, j);
-        let end = entry(ends, j);
-        let day = day_at(days, row);
-        check_entry(
-            j,
-            days.len(),
-            day,
-            lastrow,
-            laststart,
-            lastend,
-            row,
-            start,
-            end,
-        )?;
-        lastrow = row;
-        laststart = start;
-        lastend = end;
+        let here = Entry {
+            row: rows[j],
+            start: starts[j],
+            end: ends[j],
+        };
+        check_entry(days, j, before, here)?;
+        before = Some(here);
     }
     Ok(())
 }
@@ -157,7 +132,7 @@ fn check_recall(
     check_window(s, e)
 }
 
-// Each entry with a window inside [s, e] marks its row.
+// Each entry with a window inside [s, e] marks its row. The entries are columns, as the C interface lends them.
 fn mark_entries(rows: &[u16], starts: &[u16], ends: &[u16], s: usize, e: usize, marks: &mut [u8])
     requires { Markable (columns_of rows.now starts.now ends.now) marks.old }
     ensures { let c = columns_of rows.now starts.now ends.now in

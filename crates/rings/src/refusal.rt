@@ -32,10 +32,9 @@ pub enum Refusal {
     NotInRing,
 }
 
-// Where a refusal lies: nowhere, at a row of the table, or at an entry of a minimal-window list, both counted from 0.
+// Where a refusal lies: at a row of the table, or at an entry of a minimal-window list, both counted from 0.
 #[derive(Clone, Copy)]
 pub enum Place {
-    Nowhere,
     Row(usize),
     Entry(usize),
 }
@@ -63,14 +62,16 @@ impl Refusal {
         }
     }
 
-    // Where it lies.
-    pub fn place(self) -> Place
+    // Where it lies, if anywhere.
+    pub fn place(self) -> Option<Place>
         ensures { result ≡ (rule_of self).place }
     {
         match self {
-            Refusal::BadDay(j) | Refusal::BadAccounts(j) | Refusal::DayFalls(j) => Place::Row(j),
-            Refusal::BadEntry(entry) => Place::Entry(entry),
-            _ => Place::Nowhere,
+            Refusal::BadDay(j) | Refusal::BadAccounts(j) | Refusal::DayFalls(j) => {
+                Some(Place::Row(j))
+            }
+            Refusal::BadEntry(entry) => Some(Place::Entry(entry)),
+            _ => None,
         }
     }
 }

@@ -206,7 +206,7 @@ pub(crate) fn scan_for_rise(
 }
 
 // What an account has to spare on the day above, counted from 1; 0 where those who support it then are too few. Never
-// asks for none.
+// asks for none. No Option: 0 is too few in the array of what accounts have to spare, too.
 pub(crate) fn slack_above(above: u16, both: u16, k: u16) -> u16
     requires { both ≤ 16384 }
     ensures { SlackAbove above both k result }

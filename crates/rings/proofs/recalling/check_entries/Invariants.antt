@@ -5,5 +5,4 @@ use Rattle.rings.proofs.RecallLaws.{Judged}
 use Rattle.rings.proofs.recalling.check_entries.Given as goal
 
 abbrev pub invariant-loop-j : goal.invariant-loop-j
-invariant-loop-j l =
-    Judged l.days l.rows l.starts l.ends l.lastrow l.laststart l.lastend l.j
+invariant-loop-j l = Judged l.days l.rows l.starts l.ends l.before l.j
