@@ -9,7 +9,8 @@
    table those that another crate can name, of the second those that stay in their crate. None of the calls has one.
 3. A part above rests on the contracts, the definitions and the laws of the part below, and on nothing inner: it cites no
    specs/Inner of another crate, opens no state that stays shut, and cites only laws that do not cite Inner themselves, but for
-   those of the shut state (rings: StartsLaws).
+   those of the shut state (rings: StartsLaws). Each of these it cites: a fact of the state that no law is cited for is one that
+   the check has found by itself, in the state.
 
 It says what differs and ends with 1, or ends with 0.
 """
@@ -183,6 +184,22 @@ def check_page(where, owner, page):
                 faults.append("inner: %s cites %s of %s, which speaks of specs/Inner" % (where, page, owner))
 
 
+def check_laws():
+    """The laws of a shut state are those that stand in a module over it: `module _ .. (A : AtStart ..) where`."""
+    for owner, page in (name.split(".") for name in sorted(SHUT_LAWS)):
+        above = [path for path in glob.glob(os.path.join(ROOT, "crates", "*", "proofs", "**", "*.antt"), recursive=True)
+                 if os.path.relpath(path, ROOT).split(os.sep)[1] != owner]
+        cited = set()
+        for path in above:
+            with open(path) as f:
+                for names in re.findall(r"\bRattle\.%s\.proofs\.%s\.\{([^}]*)\}" % (owner, page), f.read()):
+                    cited.update(name.strip() for name in names.split(","))
+        for over_state in re.findall(r"^    \(A : \w+ [^\n]*where\n(.*?)^\S", read("crates", owner, "proofs", page + ".antt"), re.M | re.S):
+            for law in re.findall(r"^  pub ([a-z_]+) :", over_state, re.M):
+                if law not in cited:
+                    faults.append("inner: no crate above cites %s.%s of %s" % (page, law, owner))
+
+
 def has_shut(crate):
     """A page of its specs/ has states that stay shut: records whose one field is `inside`."""
     pages = glob.glob(os.path.join(ROOT, "crates", crate, "specs", "*.antt"))
@@ -191,6 +208,7 @@ def has_shut(crate):
 
 check_surface()
 check_citations()
+check_laws()
 for fault in faults:
     print("surface: " + fault)
 print("surface: %s" % ("%d faults" % len(faults) if faults else "as docs/SURFACE.md says"))

@@ -4,7 +4,7 @@
 --     none_listed        no end before the least time is listed
 --     start_as           the entries of a start, as the counts say
 --     EndsAt, ends_start, ends_total, ends_skip, ends_entered, ends_one     the loop of `list_ends`
---     ends_end, ends_none     what `list_ends` leaves; no row of the first day has a core time
+--     ends_places, ends_end, ends_none     places for the start column; what `list_ends` leaves; no row of the first day has a core time
 -- Assumes nothing.
 use Prim.Native.Nat.{ℕ, zero, suc, ◌+◌, ◌-◌, ◌*◌, ◌≤◌, ◌<◌}
 use native.Mathlib.Nat.{le_refl, eq-or-lt_of_le}
@@ -27,7 +27,7 @@ use Rattle.rings.proofs.WordLaws.{true_or_false, same_or, and_r}
 use Rattle.listing.specs.Listing.{ListedRing}
 use Rattle.listing.specs.ListingCall.{Columns, columns_of}
 use Rattle.listing.specs.Inner.{start_entries, sum_of, count_entries, Uncounted, FirstCounted, Run, Regathered, filled_if, Progress}
-use Rattle.listing.specs.Inner.{day_places, most_rows, Places, EndsAhead, Numbered, Gathering, EndsListed}
+use Rattle.listing.specs.Inner.{day_places, most_rows, Places, StartPlaces, EndsAhead, Numbered, Gathering, EndsListed}
 use Rattle.listing.specs.declared.list.Passed.{Passed}
 use Rattle.listing.proofs.StartLaws.{listed_no, listed_by, entries_are}
 use Rattle.listing.proofs.ColumnLaws.{SameLengths, same_places, lengths_on, alike_kept, Putting, putting_places, filled_none}
@@ -356,6 +356,10 @@ module _ {xs g : List ℕ} {f : Frame} {low least : ℕ} {writes : Bool} {p : Pa
   module _ (starts : List ℕ) {e total entries summed : ℕ} {ends rows windows g' : List ℕ}
       (E : EndsAt xs g least f.start low f.stop writes p old e total entries summed
       (columns_of (filled_if writes f.start p.count entries starts) ends rows windows) g') where
+    -- there are places for the start column
+    pub ends_places : length starts ≡ length old.starts → StartPlaces writes p.count (p.count + entries) starts
+    ends_places same = record { order = omega arith; in_starts = λ w. omega (arith, A.room w, E.left) }
+
     pub ends_end : {empty : ℕ} {starts' : List ℕ} → least ≤ f.stop → f.stop < e → empty ≡ p.empty + (low - f.start)
         → starts' ≡ filled_if writes f.start p.count (p.count + entries - p.count) starts
         → EndsListed xs f low least writes p (record { count = p.count + entries; sum = p.sum + summed; empty = empty; from = f.start + 1 }) old

@@ -1,7 +1,7 @@
 -- The loop over the starts of a range (src/list.rt: pass).
 --     PassAt             its invariant: the starts before s are listed
 --     pass_start, pass_next, pass_quiet, pass_end     the first start; the next one; no row has a core time any more; the last start is listed
---     pass_ends          what `list_ends` asks at a start
+--     pass_counting, pass_ends     what `first_counted` and `list_ends` ask at a start
 -- Assumes nothing.
 use Prim.Native.Nat.{ℕ, ◌+◌, ◌-◌, ◌*◌, ◌≤◌, ◌<◌}
 use native.Mathlib.Nat.{le_refl}
@@ -19,7 +19,7 @@ use Rattle.listing.specs.Listing.{listing}
 use Rattle.listing.specs.WindowCounts.{empty_windows, windows_behind}
 use Rattle.listing.specs.LongestList.{longest}
 use Rattle.listing.specs.ListingCall.{Columns, OneLength}
-use Rattle.listing.specs.Inner.{start_entries, rest_from, FirstCounted, Progress, day_places, most_rows, EndsAhead}
+use Rattle.listing.specs.Inner.{start_entries, rest_from, FirstCounted, Progress, day_places, most_rows, Counting, EndsAhead}
 use Rattle.listing.specs.Inner.{Numbered, EndsListed, InRange, Passing}
 use Rattle.listing.specs.declared.list.Passed.{Passed}
 use Rattle.listing.proofs.StartLaws.{sum_small, entries_are}
@@ -82,6 +82,9 @@ module _ (t : Table) (q : Query) (lo hi : ℕ) (writes : Bool) (old : Columns (L
       -- the frame that the pass hands to a start's functions
       abbrev frame : Frame
       frame = record { query = q; start = s; stop = hi; lo = row }
+
+      pub pass_counting : Counting counts low hi
+      pass_counting = record { long = (start_counts P.start).long; order = omega (arith, P.low_to); last = R.to }
 
       pub pass_end : hi < s → Passing t q lo hi writes p old new scratch
       pass_end past =

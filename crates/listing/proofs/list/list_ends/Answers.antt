@@ -1,5 +1,5 @@
 use Rattle.listing.proofs.ColumnLaws.{entering_put}
-use Rattle.listing.proofs.EndsLaws.{ends_none, ends_start, ends_total, ends_skip, ends_entered, ends_one, ends_end}
+use Rattle.listing.proofs.EndsLaws.{ends_none, ends_start, ends_total, ends_skip, ends_entered, ends_one, ends_places, ends_end}
 use mathlib.Core.Path.{refl}
 use native.Mathlib.Omega.{arith}
 use Rattle.listing.proofs.list.list_ends.Goals as goal
@@ -25,6 +25,9 @@ pub loop-e-preserved : goal.loop-e-preserved
 loop-e-preserved g c =
     ends_one c.requires c.loop-e.invariant c.loop-e-test.true c.first_counted-next.ensures c.if-e-least.false
     (entering_put _ _ _ _ c.enter.ensures)
+
+pub fill_starts-requires : goal.fill_starts-requires
+fill_starts-requires g c = ends_places c.requires _ c.loop-e.invariant refl
 
 pub returns : goal.returns
 returns g c =
