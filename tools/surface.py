@@ -9,8 +9,8 @@
    table those that another crate can name, of the second those that stay in their crate. None of the calls has one.
 3. A part above rests on the contracts, the definitions and the laws of the part below, and on nothing inner: it cites no
    specs/Inner of another crate, opens no state that stays shut, and cites only laws that do not cite Inner themselves, but for
-   those of the shut state (rings: StartsLaws). Each of these it cites: a fact of the state that no law is cited for is one that
-   the check has found by itself, in the state.
+   those of the shut state (rings: StartsLaws). Each of these laws is used above, in a proof and not in a `use` alone: where one is
+   not, the check may have found its fact by itself, in the state. That each answer goes by the laws, this does not see.
 
 It says what differs and ends with 1, or ends with 0.
 """
@@ -189,15 +189,17 @@ def check_laws():
     for owner, page in (name.split(".") for name in sorted(SHUT_LAWS)):
         above = [path for path in glob.glob(os.path.join(ROOT, "crates", "*", "proofs", "**", "*.antt"), recursive=True)
                  if os.path.relpath(path, ROOT).split(os.sep)[1] != owner]
-        cited = set()
+        used = set()
         for path in above:
             with open(path) as f:
-                for names in re.findall(r"\bRattle\.%s\.proofs\.%s\.\{([^}]*)\}" % (owner, page), f.read()):
-                    cited.update(name.strip() for name in names.split(","))
+                text = f.read()
+            for names in re.findall(r"\bRattle\.%s\.proofs\.%s\.\{([^}]*)\}" % (owner, page), text):
+                body = re.sub(r"^use .*$", "", text, flags=re.M)
+                used.update(name for name in re.split(r"[\s,]+", names) if re.search(r"\b%s\b" % re.escape(name), body))
         for over_state in re.findall(r"^    \(A : \w+ [^\n]*where\n(.*?)^\S", read("crates", owner, "proofs", page + ".antt"), re.M | re.S):
             for law in re.findall(r"^  pub ([a-z_]+) :", over_state, re.M):
-                if law not in cited:
-                    faults.append("inner: no crate above cites %s.%s of %s" % (page, law, owner))
+                if law not in used:
+                    faults.append("inner: no crate above uses %s.%s of %s" % (page, law, owner))
 
 
 def has_shut(crate):
