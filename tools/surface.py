@@ -187,19 +187,27 @@ def check_page(where, owner, page):
 def check_laws():
     """The laws of a shut state are those that stand in a module over it: `module _ .. (A : AtStart ..) where`."""
     for owner, page in (name.split(".") for name in sorted(SHUT_LAWS)):
-        above = [path for path in glob.glob(os.path.join(ROOT, "crates", "*", "proofs", "**", "*.antt"), recursive=True)
-                 if os.path.relpath(path, ROOT).split(os.sep)[1] != owner]
-        used = set()
-        for path in above:
-            with open(path) as f:
-                text = f.read()
-            for names in re.findall(r"\bRattle\.%s\.proofs\.%s\.\{([^}]*)\}" % (owner, page), text):
-                body = re.sub(r"^use .*$", "", text, flags=re.M)
-                used.update(name for name in re.split(r"[\s,]+", names) if re.search(r"\b%s\b" % re.escape(name), body))
-        for over_state in re.findall(r"^    \(A : \w+ [^\n]*where\n(.*?)^\S", read("crates", owner, "proofs", page + ".antt"), re.M | re.S):
-            for law in re.findall(r"^  pub ([a-z_]+) :", over_state, re.M):
-                if law not in used:
-                    faults.append("inner: no crate above uses %s.%s of %s" % (page, law, owner))
+        text = read("crates", owner, "proofs", page + ".antt")
+        over_state = re.search(r"^    \(A : \w+ [^\n]*where\n(.*?)^\S", text, re.M | re.S)
+        laws = re.findall(r"^  pub ([a-z_]+) :", over_state.group(1), re.M) if over_state else []
+        if not laws:
+            faults.append("inner: %s of %s has no laws over a state" % (page, owner))
+        for law in sorted(set(laws) - used_above(owner, page)):
+            faults.append("inner: no crate above uses %s.%s of %s" % (page, law, owner))
+
+
+def used_above(owner, page):
+    """What other crates' proofs name of a page of laws, but for what their `use` lines alone name."""
+    used = set()
+    for path in glob.glob(os.path.join(ROOT, "crates", "*", "proofs", "**", "*.antt"), recursive=True):
+        if os.path.relpath(path, ROOT).split(os.sep)[1] == owner:
+            continue
+        with open(path) as f:
+            text = f.read()
+        proofs = re.sub(r"^use .*$", "", text, flags=re.M)
+        for names in re.findall(r"^use Rattle\.%s\.proofs\.%s\.\{([^}]*)\}" % (owner, page), text, re.M):
+            used.update(name for name in names.replace(",", " ").split() if re.search(r"\b%s\b" % re.escape(name), proofs))
+    return used
 
 
 def has_shut(crate):

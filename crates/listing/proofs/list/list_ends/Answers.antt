@@ -26,6 +26,7 @@ loop-e-preserved g c =
     ends_one c.requires c.loop-e.invariant c.loop-e-test.true c.first_counted-next.ensures c.if-e-least.false
     (entering_put _ _ _ _ c.enter.ensures)
 
+-- The check finds this by itself too; docs/ names the law.
 pub fill_starts-requires : goal.fill_starts-requires
 fill_starts-requires g c = ends_places c.requires _ c.loop-e.invariant refl
 
